@@ -1,0 +1,11 @@
+pub mod Listed
+pub mod Rows
+pub mod Resolved
+pub mod Occurrences
+pub mod Thin
+pub mod Stays
+pub mod Stacks
+pub mod Fits
+pub mod Simplified
+pub mod Moved
+pub mod Runs

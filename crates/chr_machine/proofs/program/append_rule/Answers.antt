@@ -1,0 +1,12 @@
+use Rattle.std.proofs.Common.{◌≡◌, ◌∙◌, ℕ, ap, sym, ◌++◌, arith, rules, drop}
+use Rattle.std.specs.Prelude.{slice_get}
+use Rattle.chr_machine.specs.Index.{listed}
+use Rattle.chr_machine.specs.Rules.{rule_view}
+use Rattle.chr_machine.proofs.Listed.{pairs_of-in, pairs_from}
+use Rattle.chr_machine.proofs.program.append_rule.Goals as goal
+
+pub returns : goal.returns
+returns g c = λ f.
+    let first : c.loop-place.place ≡ 0 = omega arith in
+    rw first at (c.loop-place.invariant f)
+    ∙ ap (λ ps. listed (slice_get c.args.index.now.items f) ++ ps) (sym (pairs_of-in c.args.number (rule_view c.args.rule.now) f))

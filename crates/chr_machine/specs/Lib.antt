@@ -1,0 +1,9 @@
+pub mod Rules
+pub mod Index
+pub mod Loaded
+pub mod Rows
+pub mod Slots
+pub mod State
+pub mod Fragment
+pub mod Step
+pub mod Standing

@@ -1,0 +1,71 @@
+-- What a `Machine` shows, and what its calls do to that.
+use Rattle.std.specs.Prelude.{◌≡◌, ◌≢◌, ℕ, ◌+◌, ◌-◌, ◌<◌, ◌≤◌, List, [], ◌++◌, Result, Ok, Err, IfOk, OnErr}
+use Rattle.std.specs.declared.alloc.AllocError.{AllocError}
+use Rattle.chr_semantics.specs.Names.{Names, VarNames}
+use Rattle.chr_semantics.specs.Program.{Program, Query}
+use Rattle.chr_semantics.specs.State.{State, running, start}
+use Rattle.chr_semantics.specs.Step.{step, after}
+use Rattle.chr_semantics.specs.Trace.{line}
+use Rattle.chr_semantics.specs.Text.{line_texts, trace}
+use Rattle.chr_machine.specs.Loaded.{names_of, rules_of}
+use Rattle.chr_machine.specs.State.{state_of, texts}
+use Rattle.chr_machine.specs.declared.state.Stepped.{Stepped}
+use Rattle.chr_machine.specs.declared.state.Stepped.TheVariants.{Moved, Ended, Spent}
+use Rattle.chr_machine.specs.declared.machine.Machine.{Machine}
+
+-- the names and rules of its program, the names of the query's variables, the state, the number of transitions, and their lines
+pub record Standing : Type 0 where
+  pub names : Names
+  pub rules : Program
+  pub var_names : VarNames
+  pub state : State
+  pub steps : ℕ
+  pub lines : List (List ℕ)
+
+abbrev pub standing : {A : Type 0} → Machine A → Standing
+standing m = record {
+  names = names_of m.execution.program.now;
+  rules = rules_of m.execution.program.now;
+  var_names = m.execution.var_names;
+  state = state_of m.execution;
+  steps = m.execution.steps;
+  lines = texts m.execution.lines.items;
+}
+
+-- at the start of a query
+pub record Starts (names : Names) (rules : Program) (query : Query) (s : Standing) : Type 0 where
+  pub names_are : s.names ≡ names
+  pub rules_are : s.rules ≡ rules
+  pub var_names_are : s.var_names ≡ query.var_names
+  pub state_is : s.state ≡ start query
+  pub steps_are : s.steps ≡ 0
+  pub lines_are : s.lines ≡ []
+
+-- n transitions further, with their lines
+pub record Further (n : ℕ) (old new : Standing) : Type 0 where
+  pub names_are : new.names ≡ old.names
+  pub rules_are : new.rules ≡ old.rules
+  pub var_names_are : new.var_names ≡ old.var_names
+  pub state_is : new.state ≡ after old.rules old.state n
+  pub steps_are : new.steps ≡ old.steps + n
+  pub lines_are : new.lines ≡ old.lines ++ trace old.names old.var_names old.rules old.state (old.steps + 1) n
+
+abbrev pub Same : Standing → Standing → Type 0
+Same = Further 0
+
+-- what an answer of `step` says
+abbrev pub Steps : Stepped → Standing → Standing → Type 0
+Steps Moved old new = (old.state.status ≡ running) × (old.steps < 1000000) × Further 1 old new
+Steps Ended old new = (old.state.status ≢ running) × Same old new
+Steps Spent old new = (old.state.status ≡ running) × (1000000 ≤ old.steps) × Same old new
+
+-- what an answer of `run_alone` says after it made k transitions
+abbrev pub Stops : Stepped → ℕ → ℕ → Standing → Type 0
+Stops Moved n k new = (k ≡ n) × (new.state.status ≡ running)
+Stops Ended n k new = (k ≤ n) × (new.state.status ≢ running)
+Stops Spent n k new = (k < n) × (new.state.status ≡ running) × (1000000 ≤ new.steps)
+
+pub record Runs (r : Result Stepped AllocError) (n : ℕ) (old new : Standing) : Type 0 where
+  pub further : Further (new.steps - old.steps) old new
+  pub stops : IfOk r (λ stepped. Stops stepped n (new.steps - old.steps) new)
+  pub fewer : OnErr r (new.steps - old.steps < n)

@@ -1,0 +1,18 @@
+//! The machine: the transitions of the refined operational semantics on one thread, and their trace.
+//!
+//! Today it performs the ground fragment: rules with one removed head and no guard, whose head and body have no variable.
+#![tactic(auto)]
+
+mod firing;
+mod lines;
+mod machine;
+mod program;
+mod run;
+mod state;
+mod steps;
+mod store;
+
+pub use machine::Machine;
+pub use program::{Goal, Occurrence, Op, Program, Query, Rule};
+pub use state::{Elem, Fault, Fired, Status, Stepped};
+pub use store::{Id, Row, Store};

@@ -1,0 +1,113 @@
+//! The lines of the trace, without their line feeds.
+ghost use Rattle.std.specs.Prelude.{◌≡◌, ◌<◌, ◌+◌, ◌++◌, ◌∷◌, ◌^◌, [], IfOk, OnOk, string_bytes};
+ghost use Rattle.std.specs.Fmt.{decimal};
+ghost use Rattle.chr_semantics.specs.State.{resolved_atom};
+ghost use Rattle.chr_semantics.specs.Text.{active_text, firing_text, ids_text, known_text, line_text, more_ids_text};
+ghost use Rattle.chr_semantics.specs.Trace.{activates, defaults, drops, reactivates, simplifies};
+ghost use Rattle.chr_machine.specs.Loaded.{names_of};
+ghost use Rattle.chr_machine.specs.Rules.{atom_view};
+ghost use Rattle.chr_machine.specs.State.{ids_view};
+
+use std::alloc::Allocator;
+
+use chr_term::{Memory, Sym, Term, print_atom, print_number};
+
+use crate::program::Rule;
+use crate::state::Execution;
+use crate::store::Id;
+
+/// Appends the identities with commas between them.
+fn write_ids<A: Allocator + Copy>(alloc: A, ids: &[Id], line: &mut Vec<u8, A>) -> Result<(), Memory>
+    ensures { OnOk result (line.new.items ≡ line.old.items ++ ids_text (ids_view ids.now)) }
+{
+    match ids {
+        [] => Ok(()),
+        [first, others @ ..] => {
+            print_number(alloc, first.0, line)?;
+            write_more_ids(alloc, others, line)
+        }
+    }
+}
+
+/// Appends the identities, each with a comma before it.
+fn write_more_ids<A: Allocator + Copy>(alloc: A, ids: &[Id], line: &mut Vec<u8, A>) -> Result<(), Memory>
+    ensures { OnOk result (line.new.items ≡ line.old.items ++ more_ids_text (ids_view ids.now)) }
+{
+    for id in ids {
+        line.push(b',')?;
+        print_number(alloc, id.0, line)?;
+    }
+    Ok(())
+}
+
+impl<'p, A: Allocator + Copy> Execution<'p, A> {
+    /// The number of the next transition, the word, and the constraint with its identity.
+    fn known_line(&self, word: &str, id: Id, sym: Sym, args: &[Term<A>]) -> Result<Vec<u8, A>, Memory>
+        requires { self.now.steps < 2 ^ 63 }
+        ensures { IfOk result (λ line. line.items ≡ decimal (self.now.steps + 1) ++ (word.now ++ known_text (names_of self.now.program.now) self.now.var_names (resolved_atom [] (atom_view sym args.now)) id.0)) }
+    {
+        let mut line = Vec::new(self.alloc);
+        print_number(self.alloc, self.steps + 1, &mut line)?;
+        line.extend_from_slice(word.as_bytes())?;
+        print_atom(self.alloc, self.program.names(), &self.var_names, sym, args, &mut line)?;
+        line.push(b'#')?;
+        print_number(self.alloc, id.0, &mut line)?;
+        Ok(line)
+    }
+
+    /// The same with the number of the occurrence.
+    fn active_line(&self, word: &str, id: Id, occurrence: u32, sym: Sym, args: &[Term<A>]) -> Result<Vec<u8, A>, Memory>
+        requires { self.now.steps < 2 ^ 63 }
+        ensures { IfOk result (λ line. line.items ≡ decimal (self.now.steps + 1) ++ (word.now ++ active_text (names_of self.now.program.now) self.now.var_names (resolved_atom [] (atom_view sym args.now)) id.0 occurrence)) }
+    {
+        let mut line = self.known_line(word, id, sym, args)?;
+        line.push(b':')?;
+        print_number(self.alloc, occurrence as u64, &mut line)?;
+        Ok(line)
+    }
+
+    /// The line of an Activate.
+    pub fn activate_line(&self, id: Id, sym: Sym, args: &[Term<A>]) -> Result<Vec<u8, A>, Memory>
+        requires { self.now.steps < 2 ^ 63 }
+        ensures { IfOk result (λ line. line.items ≡ line_text (names_of self.now.program.now) self.now.var_names (self.now.steps + 1) (activates (resolved_atom [] (atom_view sym args.now)) id.0)) }
+    {
+        self.known_line(" activate ", id, sym, args)
+    }
+
+    /// The line of a Reactivate.
+    pub fn reactivate_line(&self, id: Id, sym: Sym, args: &[Term<A>]) -> Result<Vec<u8, A>, Memory>
+        requires { self.now.steps < 2 ^ 63 }
+        ensures { IfOk result (λ line. line.items ≡ line_text (names_of self.now.program.now) self.now.var_names (self.now.steps + 1) (reactivates (resolved_atom [] (atom_view sym args.now)) id.0)) }
+    {
+        self.known_line(" reactivate ", id, sym, args)
+    }
+
+    /// The line of a Drop.
+    pub fn drop_line(&self, id: Id, occurrence: u32, sym: Sym, args: &[Term<A>]) -> Result<Vec<u8, A>, Memory>
+        requires { self.now.steps < 2 ^ 63 }
+        ensures { IfOk result (λ line. line.items ≡ line_text (names_of self.now.program.now) self.now.var_names (self.now.steps + 1) (drops (resolved_atom [] (atom_view sym args.now)) id.0 occurrence)) }
+    {
+        self.active_line(" drop ", id, occurrence, sym, args)
+    }
+
+    /// The line of a Default.
+    pub fn default_line(&self, id: Id, occurrence: u32, sym: Sym, args: &[Term<A>]) -> Result<Vec<u8, A>, Memory>
+        requires { self.now.steps < 2 ^ 63 }
+        ensures { IfOk result (λ line. line.items ≡ line_text (names_of self.now.program.now) self.now.var_names (self.now.steps + 1) (defaults (resolved_atom [] (atom_view sym args.now)) id.0 occurrence)) }
+    {
+        self.active_line(" default ", id, occurrence, sym, args)
+    }
+
+    /// The line of a Simplify by the rule with these identities.
+    pub fn simplify_line(&self, id: Id, occurrence: u32, sym: Sym, args: &[Term<A>], rule: &Rule<A>, ids: &[Id]) -> Result<Vec<u8, A>, Memory>
+        requires { self.now.steps < 2 ^ 63 }
+        ensures { IfOk result (λ line. line.items ≡ line_text (names_of self.now.program.now) self.now.var_names (self.now.steps + 1) (simplifies (resolved_atom [] (atom_view sym args.now)) id.0 occurrence (string_bytes rule.now.label) (ids_view ids.now))) }
+    {
+        let mut line = self.active_line(" simplify ", id, occurrence, sym, args)?;
+        line.push(b' ')?;
+        line.extend_from_slice(rule.label.as_bytes())?;
+        line.push(b' ')?;
+        write_ids(self.alloc, ids, &mut line)?;
+        Ok(line)
+    }
+}

@@ -1,0 +1,6 @@
+-- The worked examples: programs and queries as trees.
+pub mod Terms
+pub mod Example
+pub mod Runs
+pub mod Numbers
+pub mod Speculation

@@ -1,0 +1,129 @@
+-- Schedules of answers that come from elsewhere, and the counts of their events (this project's own).
+use Rattle.std.specs.Prelude.{◌≡◌, ℕ, ◌+◌, Bool, true, false, cond, ◌&&◌, ◌==◌, nat_lt, List, [], ◌∷◌, ◌++◌, Option, Some, None, slice_get, length, option_map}
+use Rattle.std.specs.List.{list_any, list_all, fold}
+use Rattle.chr_semantics.specs.Program.{Atom, Program}
+use Rattle.chr_semantics.specs.Tree.{same_all}
+use Rattle.chr_semantics.specs.Search.{atom_of}
+use Rattle.chr_semantics.specs.State.{State, resolved_atom, rows}
+use Rattle.chr_semantics.specs.Step.{after}
+use Rattle.chr_semantics.specs.Touch.{touched, touched_any, footprint}
+use Rattle.chr_semantics.specs.Tasks.{Task, same_task, tasks, guest, needed}
+
+-- a Publish, the arrival of the answer to a task (round, index), or a Step
+pub data Event : Type 0 where
+  publish : Event
+  arrive : ℕ → ℕ → Event
+  move : Event
+
+-- How far a schedule has come: its Steps; for each Publish, which makes the next round from 0, the Steps before it; the kept arrivals
+-- (round, index); and the numbers of late, double, used and own events. The state is the one after these Steps, whatever arrives.
+pub record Progress : Type 0 where
+  pub steps : ℕ
+  pub rounds : List ℕ
+  pub kept : List (ℕ × ℕ)
+  pub late : ℕ
+  pub double : ℕ
+  pub used : ℕ
+  pub own : ℕ
+
+abbrev pub nothing_yet : Progress
+nothing_yet = record { steps = 0; rounds = []; kept = []; late = 0; double = 0; used = 0; own = 0 }
+
+abbrev pub same_atom : Atom → Atom → Bool
+same_atom a b = a.sym == b.sym && same_all a.args b.args
+
+-- the goals are there and equal
+abbrev pub same_goal : Option Atom → Option Atom → Bool
+same_goal None b = false
+same_goal (Some a) None = false
+same_goal (Some a) (Some b) = same_atom a b
+
+-- an answer to the task (i, j) of the state after k steps serves the state after n: nothing has touched the footprint since
+abbrev pub serves_row : Program → State → ℕ → ℕ → Task → Bool
+serves_row p q k n t = list_all (λ x. touched p q k x == touched p q n x) (footprint p (after p q n) t.0 t.1)
+
+-- an answer to a guest's task: its goal is the same, and the Activate alone has touched the footprint since
+abbrev pub serves_guest : Program → State → ℕ → ℕ → Task → Bool
+serves_guest p q k n t =
+    let marks = footprint p (after p q n) t.0 t.1 in
+    same_goal (option_map (resolved_atom (after p q k).subst) (guest (after p q k))) (atom_of (rows (after p q n)) t.0)
+    && touched_any p q k marks + 1 == touched_any p q n marks
+
+abbrev pub serves : Program → State → ℕ → ℕ → Task → Bool
+serves p q k n t = cond (t.0 == (after p q k).next_id) (serves_guest p q k n t) (serves_row p q k n t)
+
+abbrev pub task_serves : Program → State → ℕ → ℕ → Task → Option Task → Bool
+task_serves p q k n t None = false
+task_serves p q k n t (Some u) = same_task t u && serves p q k n t
+
+-- whether the answer of that index to that round, which was published after k steps, serves
+abbrev pub answer_serves : Program → State → ℕ → Task → ℕ → Option ℕ → Bool
+answer_serves p q n t x None = false
+answer_serves p q n t x (Some k) = task_serves p q k n t (slice_get (tasks p (after p q k)) x)
+
+-- whether a kept answer serves the search t of the next Step
+abbrev pub is_served : Program → State → Progress → Task → Bool
+is_served p q g t = list_any (λ (a : ℕ × ℕ). answer_serves p q g.steps t a.1 (slice_get g.rounds a.0)) g.kept
+
+abbrev pub stepped : Program → State → Progress → Option Task → Progress
+stepped p q g None = record g { steps = g.steps + 1 }
+stepped p q g (Some t) = elim (is_served p q g t) [ true ↦ record g { steps = g.steps + 1; used = g.used + 1 } | false ↦ record g { steps = g.steps + 1; own = g.own + 1 } ]
+
+abbrev pub is_late : Progress → ℕ → Bool
+is_late g r = nat_lt (r + 8) (length g.rounds)
+
+abbrev pub arrived : Progress → ℕ → ℕ → Progress
+arrived g r x =
+    cond (is_late g r) (record g { late = g.late + 1 })
+    (cond (list_any (same_task (r, x)) g.kept) (record g { double = g.double + 1 }) (record g { kept = g.kept ++ (r, x) ∷ [] }))
+
+abbrev pub next : Program → State → Progress → Event → Progress
+next p q g publish = record g { rounds = g.rounds ++ g.steps ∷ [] }
+next p q g (arrive r x) = arrived g r x
+next p q g move = stepped p q g (needed p (after p q g.steps))
+
+-- the schedule from the start q of a query
+abbrev pub progress : Program → State → List Event → Progress
+progress p q = fold (next p q) nothing_yet
+
+-- a schedule with one event more
+abbrev pub AppendedLaw : Type 0
+AppendedLaw = (p : Program) (q : State) (es : List Event) (e : Event) → progress p q (es ++ e ∷ []) ≡ next p q (progress p q es) e
+
+pub record Counts : Type 0 where
+  pub kept : ℕ
+  pub late : ℕ
+  pub double : ℕ
+  pub used : ℕ
+  pub own : ℕ
+
+abbrev pub counts_of : Progress → Counts
+counts_of g = record { kept = length g.kept; late = g.late; double = g.double; used = g.used; own = g.own }
+
+-- the counts of a schedule from the start q of a query
+abbrev pub counts : Program → State → List Event → Counts
+counts p q es = counts_of (progress p q es)
+
+pub data Refusal : Type 0 where
+  too_many_rounds : ℕ → Refusal
+  too_many_steps : ℕ → Refusal
+  unknown_round : ℕ → Refusal
+  unknown_task : ℕ → Refusal
+
+abbrev pub task_refused : ℕ → ℕ → List Task → Option Refusal
+task_refused at_place x ts = cond (nat_lt x (length ts)) None (Some (unknown_task at_place))
+
+abbrev pub round_refused : Program → State → ℕ → ℕ → Option ℕ → Option Refusal
+round_refused p q at_place x None = Some (unknown_round at_place)
+round_refused p q at_place x (Some k) = task_refused at_place x (tasks p (after p q k))
+
+-- why the event, at that place of the schedule, is refused
+abbrev pub refusal : Program → State → Progress → ℕ → Event → Option Refusal
+refusal p q g at_place publish = cond (nat_lt (length g.rounds) 4096) None (Some (too_many_rounds at_place))
+refusal p q g at_place (arrive r x) = round_refused p q at_place x (slice_get g.rounds r)
+refusal p q g at_place move = cond (nat_lt g.steps 1000000) None (Some (too_many_steps at_place))
+
+-- the first refusal of a schedule
+abbrev pub first_refusal : Program → State → Progress → ℕ → List Event → Option Refusal
+first_refusal p q g k [] = None
+first_refusal p q g k (e ∷ es) = elim (refusal p q g k e) [ Some r ↦ Some r | None ↦ first_refusal p q (next p q g e) (k + 1) es ]

@@ -1,0 +1,64 @@
+-- Substitutions (Frühwirth 2009, substitution and unification).
+use Rattle.std.specs.Prelude.{◌≡◌, ℕ, Bool, false, cond, ◌||◌, ◌==◌, List, [], ◌∷◌, map}
+use Rattle.std.specs.List.{list_any}
+use Rattle.chr_semantics.specs.Tree.{Tree, var, int, node, Trees, none, more}
+
+-- the term with each variable replaced by what f gives for it
+abbrev mutual
+  pub replaced : (ℕ → Tree) → Tree → Tree
+  replaced f (var x) = f x
+  replaced f (int z) = int z
+  replaced f (node g ts) = node g (replaced_all f ts)
+
+  pub replaced_all : (ℕ → Tree) → Trees → Trees
+  replaced_all f none = none
+  replaced_all f (more t ts) = more (replaced f t) (replaced_all f ts)
+
+-- A substitution is a finite list of pairs of a variable and a term.
+abbrev pub Subst : Type 0
+Subst = List (ℕ × Tree)
+
+-- what a variable stands for: the term of its first pair, or itself
+abbrev pub value_at : Subst → ℕ → Tree
+value_at [] x = var x
+value_at (p ∷ s) x = cond (p.0 == x) p.1 (value_at s x)
+
+-- the substitution has a pair for the variable
+abbrev pub binds_var : Subst → ℕ → Bool
+binds_var s x = list_any (λ (p : ℕ × Tree). p.0 == x) s
+
+-- the whole of a term with its variables replaced by what they stand for
+abbrev pub apply : Subst → Tree → Tree
+apply s = replaced (value_at s)
+
+-- the variable occurs in the term
+abbrev mutual
+  pub occurs : ℕ → Tree → Bool
+  occurs x (var y) = x == y
+  occurs x (int z) = false
+  occurs x (node g ts) = occurs_any x ts
+
+  pub occurs_any : ℕ → Trees → Bool
+  occurs_any x none = false
+  occurs_any x (more t ts) = occurs x t || occurs_any x ts
+
+-- A function of variables solves a substitution where it gives each variable and what that stands for the same.
+abbrev pub Solves : (ℕ → Tree) → Subst → Type 0
+Solves f s = (x : ℕ) → replaced f (value_at s x) ≡ f x
+
+-- A substitution is solved where applying it twice is applying it once. `SolvedLaw` says the same by occurrences.
+abbrev pub IsSolved : Subst → Type 0
+IsSolved s = Solves (value_at s) s
+
+-- a variable that stands for another term occurs in nothing that a variable stands for
+abbrev pub HasNoBoundRight : Subst → Type 0
+HasNoBoundRight s = (x y : ℕ) → (value_at s y ≡ var y → ⊥) → occurs y (value_at s x) ≡ false
+
+-- the two ways to say that a substitution is solved agree
+pub record SolvedLaw : Type 0 where
+  pub only : (s : Subst) → IsSolved s → HasNoBoundRight s
+  pub enough : (s : Subst) → HasNoBoundRight s → IsSolved s
+
+-- the substitution with the variable x, which it does not bind, bound to u: x is replaced by u in the whole of it
+abbrev pub bound : ℕ → Tree → Subst → Subst
+bound x u s = (x, u) ∷ map (λ (p : ℕ × Tree). (p.0, apply ((x, u) ∷ []) p.1)) s

@@ -1,0 +1,78 @@
+//! The laws of the definitions. Each function is empty, and its clause is the law.
+
+ghost use Rattle.chr_semantics.specs.Tree.{SameLaw};
+ghost use Rattle.chr_semantics.specs.Subst.{SolvedLaw};
+ghost use Rattle.chr_semantics.specs.Mgu.{UnifierLaw};
+ghost use Rattle.chr_semantics.specs.Search.{TuplesLaw, RowsLaw, DeadEntriesLaw};
+ghost use Rattle.chr_semantics.specs.Schedule.{AppendedLaw};
+ghost use Rattle.chr_semantics.specs.Footprint.{FootprintLaw, ServesLaw, UsedLaw, StampsLaw, TakenLaw};
+
+/// The tests of identity decide equality of terms, and of lists of terms.
+pub fn same_law()
+    ensures { SameLaw }
+{}
+
+/// Applying a substitution twice is applying it once exactly where no variable that it binds occurs
+/// in what a variable stands for.
+pub fn solved_law()
+    ensures { SolvedLaw }
+{}
+
+/// The most general unifier makes both terms equal and keeps the bindings that were there; whatever
+/// else does both is an instance of it; and where there is none, nothing does both.
+pub fn unifier_law()
+    ensures { UnifierLaw }
+{}
+
+/// Where no transition touches the footprint of an occurrence of a living constraint, the
+/// constraint's first firing there stays the same.
+pub fn footprint_law()
+    ensures { FootprintLaw }
+{}
+
+/// An answer that serves, to a task of a row or of the guest, is what the search at the later state
+/// finds.
+pub fn serves_law()
+    ensures { ServesLaw }
+{}
+
+/// In a run from a query's start, an answer that serves the search of a step is what that step's
+/// own search finds.
+pub fn used_law()
+    ensures { UsedLaw }
+{}
+
+/// Stamps that count the touches of each symbol and rule tell whether a footprint was touched: they
+/// are equal at two places exactly where no transition between touches it. In a guest's case they
+/// tell whether its Activate alone did.
+pub fn stamps_law()
+    ensures { StampsLaw }
+{}
+
+/// The tuples of a search are all lists of rows with different identities that have the active
+/// constraint at its place, in lexicographic order of identities.
+pub fn tuples_law()
+    ensures { TuplesLaw }
+{}
+
+/// Rows that fit no head of an occurrence's rule change no search at it, also where the active
+/// constraint is one of them.
+pub fn rows_law()
+    ensures { RowsLaw }
+{}
+
+/// Entries of the history with an identity that no row has change no search.
+pub fn dead_entries_law()
+    ensures { DeadEntriesLaw }
+{}
+
+/// In a run, a search of a row or of the guest finds the same with only the entries of the history
+/// whose identities all live.
+pub fn taken_law()
+    ensures { TakenLaw }
+{}
+
+/// A schedule grows event by event.
+pub fn appended_law()
+    ensures { AppendedLaw }
+{}

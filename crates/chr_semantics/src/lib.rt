@@ -1,0 +1,8 @@
+//! The definitions of the language, its transitions and speculation, their laws, and the worked
+//! examples.
+#![tactic(auto)]
+
+pub mod laws;
+pub mod runs;
+pub mod speculation;
+pub mod whole_numbers;

@@ -1,0 +1,11 @@
+pub mod Mapped
+pub mod Lengths
+pub mod Dropped
+pub mod Positions
+pub mod Tables
+pub mod Texts
+pub mod Outcomes
+pub mod Sizes
+pub mod Joined
+pub mod Signs
+pub mod FirstNames

@@ -1,0 +1,4 @@
+pub mod View
+pub mod Texts
+pub mod Entries
+pub mod Arguments

@@ -1,0 +1,100 @@
+ghost use Rattle.std.specs.Prelude.{◌≡◌, IfOk, IsTrue, ◌↔◌};
+ghost use Rattle.chr_semantics.specs.Tree.{is_ground_tree, is_ground_trees};
+ghost use Rattle.chr_term.specs.View.{trees_view, view};
+
+use std::alloc::{Allocator, Global};
+
+use crate::Memory;
+
+/// A symbol: a name with a number of arguments, by its number among the `Names`.
+#[derive(Clone, Copy, PartialEq, Eq, Debug, Drop)]
+pub struct Sym(pub u32);
+
+/// A term: a variable with its number, a whole number of 128 bits, or a symbol over terms.
+#[derive(Drop)]
+pub enum Term<A: Allocator = Global> {
+    Var(u64),
+    Int(i128),
+    Node(Sym, Vec<Term<A>, A>),
+}
+
+/// An equal term.
+#[cycle(copy)]
+pub fn copy<A: Allocator + Copy, B: Allocator>(alloc: A, term: &Term<B>) -> Result<Term<A>, Memory>
+    ensures { IfOk result (λ copied. view copied ≡ view term.now) }
+{
+    match term {
+        Term::Var(x) => Ok(Term::Var(*x)),
+        Term::Int(z) => Ok(Term::Int(*z)),
+        Term::Node(sym, args) => Ok(Term::Node(*sym, copy_all(alloc, args.as_slice())?)),
+    }
+}
+
+/// Equal terms.
+#[cycle(copy)]
+pub fn copy_all<A: Allocator + Copy, B: Allocator>(
+    alloc: A,
+    terms: &[Term<B>],
+) -> Result<Vec<Term<A>, A>, Memory>
+    ensures { IfOk result (λ copied. trees_view copied.items ≡ trees_view terms.now) }
+{
+    let mut copied = Vec::with_capacity(alloc, terms.len())?;
+    for term in terms {
+        copied.push(copy(alloc, term)?)?;
+    }
+    Ok(copied)
+}
+
+/// Whether the terms are identical.
+#[cycle(same)]
+pub fn same<A: Allocator, B: Allocator>(left: &Term<A>, right: &Term<B>) -> bool
+    ensures { IsTrue result ↔ (view left.now ≡ view right.now) }
+{
+    match (left, right) {
+        (Term::Var(x), Term::Var(y)) => *x == *y,
+        (Term::Int(x), Term::Int(y)) => *x == *y,
+        (Term::Node(f, xs), Term::Node(g, ys)) => f.0 == g.0 && same_all(xs.as_slice(), ys.as_slice()),
+        _ => false,
+    }
+}
+
+/// Whether the lists have one length and identical terms.
+#[cycle(same)]
+pub fn same_all<A: Allocator, B: Allocator>(left: &[Term<A>], right: &[Term<B>]) -> bool
+    ensures { IsTrue result ↔ (trees_view left.now ≡ trees_view right.now) }
+{
+    if left.len() != right.len() {
+        return false;
+    }
+    for i in 0..left.len() {
+        if !same(&left[i], &right[i]) {
+            return false;
+        }
+    }
+    true
+}
+
+/// Whether no variable occurs in the term.
+#[cycle(ground)]
+pub fn is_ground<A: Allocator>(term: &Term<A>) -> bool
+    ensures { result ≡ is_ground_tree (view term.now) }
+{
+    match term {
+        Term::Var(_) => false,
+        Term::Int(_) => true,
+        Term::Node(_, args) => are_ground(args.as_slice()),
+    }
+}
+
+/// Whether no variable occurs in the terms.
+#[cycle(ground)]
+pub fn are_ground<A: Allocator>(terms: &[Term<A>]) -> bool
+    ensures { result ≡ is_ground_trees (trees_view terms.now) }
+{
+    for term in terms {
+        if !is_ground(term) {
+            return false;
+        }
+    }
+    true
+}
