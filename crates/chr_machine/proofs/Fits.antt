@@ -1,12 +1,11 @@
 -- Matching with a head that has no variable is equality.
 use Rattle.std.proofs.Common.{◌≡◌, ◌∙◌, ◌↔◌, ℕ, List, [], ◌∷◌, length, refl, ap, sym, arith, Bool, true, false, ◌&&◌, ◌==◌, cond, Option, Some, None, IsTrue, get_or, Vec}
 use Rattle.std.specs.Prelude.{is_some, option_and_then}
-use Rattle.std.specs.Ordering.{int_eq}
 use Rattle.std.proofs.lemmas.Bool.Decides.{Decides-int_eq}
 use Rattle.chr_semantics.specs.Tree.{Tree, var, int, node, Trees, none, more, is_ground_tree, is_ground_trees, same, same_all}
 use Rattle.chr_semantics.specs.Subst.{Subst}
 use Rattle.chr_semantics.specs.Program.{Atom, Head}
-use Rattle.chr_semantics.specs.Match.{fit, fit_all, fit_atom, fits}
+use Rattle.chr_semantics.specs.Match.{fit, fit_all, fits}
 use Rattle.chr_term.specs.declared.term.Sym.{Sym}
 use Rattle.chr_term.specs.declared.term.Term.{Term}
 use Rattle.chr_term.specs.View.{trees_view}

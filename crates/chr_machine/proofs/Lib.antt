@@ -9,3 +9,4 @@ pub mod Fits
 pub mod Simplified
 pub mod Moved
 pub mod Runs
+pub mod Heads

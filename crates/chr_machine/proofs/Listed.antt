@@ -83,7 +83,7 @@ listed-more {A} rules n rule f lt e =
     let len : 0 + length (rules_view (take n rules)) ≡ n = omega (arith, length-map (take n rules) (λ (r : Rule A). rule_view r), length-take-le n rules (omega arith)) in
     let before = rules_view (take n rules) in
     sym (ap (λ rs. pairs_of (occurrences_from 0 (rules_view rs) f)) more
-      ∙ (ap (λ rs. pairs_of (occurrences_from 0 rs f)) (map-append (λ (r : Rule A). rule_view r) (take n rules) (rule ∷ []))
-      ∙ (ap pairs_of (occurrences_from-more 0 before (rule_view rule) f)
-      ∙ (map-append (λ (o : semantics.Occurrence). (o.number, o.place)) (occurrences_from 0 before f) (occurrences_in (0 + length before) (rule_view rule) f)
-      ∙ ap (λ m. pairs_of (occurrences_from 0 before f) ++ pairs_of (occurrences_in m (rule_view rule) f)) len))))
+    ∙ (ap (λ rs. pairs_of (occurrences_from 0 rs f)) (map-append (λ (r : Rule A). rule_view r) (take n rules) (rule ∷ []))
+    ∙ (ap pairs_of (occurrences_from-more 0 before (rule_view rule) f)
+    ∙ (map-append (λ (o : semantics.Occurrence). (o.number, o.place)) (occurrences_from 0 before f) (occurrences_in (0 + length before) (rule_view rule) f)
+    ∙ ap (λ m. pairs_of (occurrences_from 0 before f) ++ pairs_of (occurrences_in m (rule_view rule) f)) len))))

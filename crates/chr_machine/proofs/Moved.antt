@@ -1,15 +1,12 @@
 -- A transition of the execution whose top was taken off is one of the execution that had it.
-use Rattle.std.proofs.Common.{◌≡◌, ◌∙◌, ℕ, ◌<◌, ◌++◌, ◌∷◌, [], Vec, ap, sym, subst, refl}
-use Rattle.chr_semantics.specs.State.{State, Element}
-use Rattle.chr_semantics.specs.Step.{step}
+use Rattle.std.proofs.Common.{◌≡◌, ◌<◌, ◌++◌, ◌∷◌, [], Vec, ap, subst}
 use Rattle.chr_machine.specs.Fragment.{IsThin}
 use Rattle.chr_machine.specs.Loaded.{rules_of}
 use Rattle.chr_machine.specs.State.{elem_view, state_of}
-use Rattle.chr_machine.specs.Step.{Made, Moves, Kept, SameRun, topped}
+use Rattle.chr_machine.specs.Step.{Made, Moves, Kept, topped}
 use Rattle.chr_machine.proofs.Stacks.{stack_put}
 use Rattle.chr_machine.proofs.Stays.{thin_step}
 use Rattle.chr_machine.specs.declared.state.Elem.{Elem}
-use Rattle.chr_machine.specs.declared.state.Status.{Status}
 use Rattle.chr_machine.specs.declared.state.Status.TheVariants.{Running}
 use Rattle.chr_machine.specs.declared.state.Execution.{Execution}
 

@@ -1,6 +1,6 @@
 -- What an occurrence is of: a rule of the program, at its number, and one of the rule's heads.
-use Rattle.std.proofs.Common.{◌≡◌, ◌∙◌, ℕ, zero, suc, ◌+◌, ◌-◌, ◌<◌, ◌≤◌, ◌++◌, List, [], ◌∷◌, length, refl, ap, sym, subst, arith, Bool, true, false, not, ◌&&◌, ◌==◌, map, cond, get_or, Option, Some, None}
-use Rattle.std.specs.Prelude.{slice_get, reverse, sum_by}
+use Rattle.std.proofs.Common.{◌≡◌, ◌∙◌, ℕ, zero, suc, ◌+◌, ◌-◌, ◌<◌, ◌≤◌, ◌++◌, List, [], ◌∷◌, length, refl, ap, sym, subst, arith, Bool, true, false, not, ◌&&◌, ◌==◌, map, cond, get_or, Some}
+use Rattle.std.specs.Prelude.{slice_get, reverse}
 use Rattle.std.proofs.lemmas.List.{reverse-append, length-append, length-map}
 use Rattle.chr_semantics.specs.Program.{Head, Rule, Program, Occurrence, places_from, occurrences_in, occurrences_from, occurrences, occurrence}
 use Rattle.chr_machine.specs.Index.{pair_view, pairs_view, pair_of, pairs_of, head_count}

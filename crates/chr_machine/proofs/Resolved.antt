@@ -1,12 +1,12 @@
 -- With no bindings a term resolves to itself, and a term with no variable does under any.
-use Rattle.std.proofs.Common.{◌≡◌, ℕ, List, [], refl, ap, Bool, true, false, ◌&&◌}
+use Rattle.std.proofs.Common.{◌≡◌, ℕ, [], refl, ap, Bool, true, false, ◌&&◌}
 use Rattle.chr_semantics.specs.Tree.{Tree, var, int, node, Trees, none, more, is_ground_tree, is_ground_trees}
 use Rattle.chr_semantics.specs.Subst.{replaced, replaced_all, value_at}
 use Rattle.chr_semantics.specs.Program.{Atom}
 use Rattle.chr_semantics.specs.State.{resolved_atom}
 
 mutual
-  replaced_none : (t : Tree) → replaced (value_at []) t ≡ t
+  pub replaced_none : (t : Tree) → replaced (value_at []) t ≡ t
   replaced_none (var x) = refl
   replaced_none (int z) = refl
   replaced_none (node f ts) = ap (node f) (replaced_none_all ts)

@@ -1,5 +1,5 @@
 -- Slots and the rows in them.
-use Rattle.std.proofs.Common.{◌≡◌, ◌∙◌, ℕ, zero, suc, ◌+◌, ◌-◌, ◌<◌, ◌≤◌, ◌++◌, List, [], ◌∷◌, length, refl, ap, sym, arith, Bool, true, false, not, ◌==◌, cond, get_or, slice_set, Option, Some, None, option_map, add-zero}
+use Rattle.std.proofs.Common.{◌≡◌, ◌∙◌, ℕ, zero, suc, ◌+◌, ◌<◌, ◌≤◌, ◌++◌, List, [], ◌∷◌, length, refl, ap, sym, arith, true, false, not, ◌==◌, get_or, slice_set, Option, Some, None, option_map, add-zero}
 use Rattle.std.specs.Prelude.{filter, is_some}
 use Rattle.std.specs.Option.{option_copied}
 use Rattle.std.specs.Borrow.{Bor}

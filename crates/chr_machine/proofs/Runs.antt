@@ -1,5 +1,5 @@
 -- Runs, a transition at a time.
-use Rattle.std.proofs.Common.{◌≡◌, ◌∙◌, ℕ, zero, suc, ◌+◌, ◌≤◌, ◌++◌, ◌∷◌, [], List, ap, sym, refl, arith, add-one, append_assoc, append-nil, add-zero, map, length}
+use Rattle.std.proofs.Common.{◌≡◌, ◌∙◌, ℕ, zero, suc, ◌+◌, ◌++◌, [], List, ap, sym, refl, arith, add-one, append_assoc, append-nil, add-zero, map, length}
 use Rattle.chr_semantics.specs.Names.{Names, VarNames}
 use Rattle.chr_semantics.specs.Program as semantics
 use Rattle.std.proofs.lemmas.Simd.{map-map}
@@ -13,7 +13,7 @@ use Rattle.chr_semantics.specs.Trace.{line}
 use Rattle.chr_semantics.specs.Text.{line_texts, trace}
 use Rattle.chr_machine.specs.Loaded.{names_of, rules_of}
 use Rattle.chr_machine.specs.State.{state_of, texts}
-use Rattle.chr_machine.specs.Step.{Moves, Kept, Ran, SameRun}
+use Rattle.chr_machine.specs.Step.{Moves, Kept, Ran}
 use Rattle.chr_machine.specs.declared.state.Execution.{Execution}
 
 after-suc : (p : semantics.Program) (s : State) (n : ℕ) → after p s (suc n) ≡ step p (after p s n)
@@ -36,13 +36,13 @@ pub ran-more : {A : Type 0} (n : ℕ) (a b c : Execution A) → Ran n a b → Mo
 ran-more {A} n a b c r m = record {
   state = m.state ∙ (ap (λ p. step (rules_of p.now) (state_of b)) r.same.program ∙ (ap (step (rules_of a.program.now)) r.state ∙ sym (after-more (rules_of a.program.now) (state_of a) n)));
   lines =
-    let e : b.steps + 1 ≡ (a.steps + 1) + n = omega arith in
-    let same_last : line_texts (names_of b.program.now) b.var_names (b.steps + 1) (line (rules_of b.program.now) (state_of b)) ≡ line_texts (names_of a.program.now) a.var_names ((a.steps + 1) + n) (line (rules_of a.program.now) (after (rules_of a.program.now) (state_of a) n)) =
+      let e : b.steps + 1 ≡ (a.steps + 1) + n = omega arith in
+      let same_last : line_texts (names_of b.program.now) b.var_names (b.steps + 1) (line (rules_of b.program.now) (state_of b)) ≡ line_texts (names_of a.program.now) a.var_names ((a.steps + 1) + n) (line (rules_of a.program.now) (after (rules_of a.program.now) (state_of a) n)) =
       ap (λ p. line_texts (names_of p.now) b.var_names (b.steps + 1) (line (rules_of p.now) (state_of b))) r.same.program
       ∙ (ap (λ vars. line_texts (names_of a.program.now) vars (b.steps + 1) (line (rules_of a.program.now) (state_of b))) r.same.var_names
       ∙ (ap (λ k. line_texts (names_of a.program.now) a.var_names k (line (rules_of a.program.now) (state_of b))) e
       ∙ ap (λ s. line_texts (names_of a.program.now) a.var_names ((a.steps + 1) + n) (line (rules_of a.program.now) s)) r.state)) in
-    m.lines ∙ (ap (λ ts. ts ++ line_texts (names_of b.program.now) b.var_names (b.steps + 1) (line (rules_of b.program.now) (state_of b))) r.lines
+      m.lines ∙ (ap (λ ts. ts ++ line_texts (names_of b.program.now) b.var_names (b.steps + 1) (line (rules_of b.program.now) (state_of b))) r.lines
       ∙ (ap (λ l. (texts a.lines.items ++ trace (names_of a.program.now) a.var_names (rules_of a.program.now) (state_of a) (a.steps + 1) n) ++ l) same_last
       ∙ rw (add-one n, trace-more (names_of a.program.now) a.var_names (rules_of a.program.now) (state_of a) (a.steps + 1) n, append_assoc)));
   steps = omega (arith, m.steps, r.steps);

@@ -1,5 +1,5 @@
 -- The stack as the definitions see it, an element at a time.
-use Rattle.std.proofs.Common.{◌≡◌, ℕ, List, [], ◌∷◌, ◌++◌, length, refl, ◌<◌, arith, ap, map}
+use Rattle.std.proofs.Common.{◌≡◌, List, [], ◌∷◌, ◌++◌, length, refl, ◌<◌, arith, ap, map}
 use Rattle.chr_semantics.specs.State.{Element, status_at, running, goal}
 use Rattle.chr_machine.specs.Rules.{goal_view}
 use Rattle.chr_machine.specs.State.{elem_view, stack_onto, stack_view}

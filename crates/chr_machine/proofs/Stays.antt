@@ -1,13 +1,13 @@
 -- Each transition of a run in the fragment stays in it.
-use Rattle.std.proofs.Common.{◌≡◌, ◌≢◌, ◌∙◌, ℕ, zero, suc, ◌+◌, ◌-◌, ◌<◌, ◌≤◌, ◌++◌, List, [], ◌∷◌, length, refl, ap, sym, subst, arith, Bool, true, false, not, ◌&&◌, ◌||◌, ◌==◌, map, cond, Option, Some, None, drop}
-use Rattle.std.specs.Prelude.{slice_get, nat_lt, is_none, is_some, filter}
-use Rattle.std.specs.List.{list_all, list_any}
+use Rattle.std.proofs.Common.{◌≡◌, ◌∙◌, ℕ, ◌+◌, ◌-◌, ◌++◌, List, [], ◌∷◌, refl, ap, arith, Bool, true, false, not, ◌&&◌, ◌||◌, ◌==◌, map, cond, Option, Some, None, drop}
+use Rattle.std.specs.Prelude.{nat_lt, is_none, is_some, filter}
+use Rattle.std.specs.List.{list_all}
 use Rattle.std.proofs.lemmas.List.Folds.{list_all-append, list_all-map}
 use Rattle.std.proofs.lemmas.List.Elements.{filter_agree}
-use Rattle.chr_semantics.specs.Tree.{Tree, is_ground_trees}
+use Rattle.chr_semantics.specs.Tree.{Tree}
 use Rattle.chr_semantics.specs.Program.{Atom, Goal, constraint, tell, evaluate, compare, fail, Rule, Program, Query, Occurrence, occurrence}
 use Rattle.chr_semantics.specs.Match.{Row, fits}
-use Rattle.chr_semantics.specs.Search.{ids_of, atom_of, has_number, no_occurrence, no_firing, firing}
+use Rattle.chr_semantics.specs.Search.{ids_of, atom_of, has_number, no_firing, firing}
 use Rattle.chr_semantics.specs.State.{Element, goal, known, active, Status, running, done, failed, faulted, State, with_stack, start}
 use Rattle.chr_semantics.specs.Step.{replaced_goal, body_of, in_body, solve, fired, search_at, search_step, step_top, step_at, step}
 use Rattle.chr_machine.specs.Fragment.{is_constraint, is_ground_constraint, is_thin_program, is_thin_query, is_thin_element, is_spent, IsThin, IsThinRule}
@@ -79,7 +79,7 @@ living_given : (store : List Row) (n i : ℕ) (a : Atom) → atom_of store i ≡
 living_given [] n i a l h = cc
 living_given (r ∷ store) n i a l h =
     living-step (r.0 == i) r (atom_of store i) a i n refl l (both-left (nat_lt r.0 n) (list_all (λ (r : Row). nat_lt r.0 n) store) h)
-      (λ m. living_given store n i a m (both-right (nat_lt r.0 n) (list_all (λ (r : Row). nat_lt r.0 n) store) h))
+    (λ m. living_given store n i a m (both-right (nat_lt r.0 n) (list_all (λ (r : Row). nat_lt r.0 n) store) h))
 
 -- a ground goal is the same whatever its variables stand for
 ground_goal : (f : ℕ → Tree) (g : Goal) → is_ground_constraint g ≡ true → replaced_goal f g ≡ g
@@ -115,7 +115,7 @@ spent_added : (store : List Row) (n : ℕ) (a : Atom) (e : ℕ × List ℕ) → 
 spent_added store n a e h =
     list_all-implied (λ i. nat_lt i n && is_none (atom_of store i)) (λ i. nat_lt i (n + 1) && is_none (atom_of (store ++ (n, a) ∷ []) i)) e.1
     (λ i k. let lt = both-left (nat_lt i n) (is_none (atom_of store i)) k in
-      rw (below_more i n lt, absent-added store n i a lt (both-right (nat_lt i n) (is_none (atom_of store i)) k))) h
+    rw (below_more i n lt, absent-added store n i a lt (both-right (nat_lt i n) (is_none (atom_of store i)) k))) h
 
 thin_activate : (p : Program) (s : State) (a : Atom) (rest : List Element) → IsThin p s → list_all is_thin_element rest ≡ true → IsThin p (solve s rest (constraint a))
 thin_activate p s a rest thin h = record {
@@ -123,8 +123,8 @@ thin_activate p s a rest thin h = record {
   stack = h;
   subst = thin.subst;
   given = all-two (λ (r : Row). nat_lt r.0 (s.next_id + 1)) s.store ((s.next_id, a) ∷ [])
-    (list_all-implied (λ (r : Row). nat_lt r.0 s.next_id) (λ (r : Row). nat_lt r.0 (s.next_id + 1)) s.store (λ r k. below_more r.0 s.next_id k) thin.given)
-    (rw (below_here s.next_id));
+      (list_all-implied (λ (r : Row). nat_lt r.0 s.next_id) (λ (r : Row). nat_lt r.0 (s.next_id + 1)) s.store (λ r k. below_more r.0 s.next_id k) thin.given)
+      (rw (below_here s.next_id));
   spent = list_all-implied (is_spent s.store s.next_id) (is_spent (s.store ++ (s.next_id, a) ∷ []) (s.next_id + 1)) s.history (spent_added s.store s.next_id a) thin.spent;
 }
 
@@ -147,12 +147,12 @@ thin_fired p s rest top n i rule b thin h is lives =
     record {
       rules = thin.rules;
       stack = all-two is_thin_element (body_of rule ((i, b) ∷ []) s.next_var) _ (ap (list_all is_thin_element) (body_thin rule ((i, b) ∷ []) s.next_var is.body) ∙ thin_body rule.body is.body)
-        (rw is.kept (both-right (is_thin_element top) (list_all is_thin_element rest) h));
+          (rw is.kept (both-right (is_thin_element top) (list_all is_thin_element rest) h));
       subst = thin.subst;
       given = list_all-filter (λ (r : Row). nat_lt r.0 s.next_id) keep s.store thin.given;
       spent = all-two (is_spent (filter keep s.store) s.next_id) s.history ((n, i ∷ []) ∷ [])
-        (list_all-implied (is_spent s.store s.next_id) (is_spent (filter keep s.store) s.next_id) s.history (spent_filtered keep s.store s.next_id) thin.spent)
-        (rw (living_given s.store s.next_id i b lives thin.given, absent-removed keep s.store i out));
+          (list_all-implied (is_spent s.store s.next_id) (is_spent (filter keep s.store) s.next_id) s.history (spent_filtered keep s.store s.next_id) thin.spent)
+          (rw (living_given s.store s.next_id i b lives thin.given, absent-removed keep s.store i out));
     }
 
 thin_found_step : (p : Program) (s : State) (rest : List Element) (i j : ℕ) (a : Atom) (o : Occurrence) (l : Option Atom) → IsThin p s → list_all is_thin_element rest ≡ true → IsThinOccurrence p o → atom_of s.store i ≡ l → IsThin p (search_step s rest i j a (thin_found o i l))

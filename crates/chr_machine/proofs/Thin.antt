@@ -1,19 +1,17 @@
 -- The fragment: its searches, and that each transition stays in it.
-use Rattle.std.proofs.Common.{◌≡◌, ◌≢◌, ◌∙◌, ℕ, zero, suc, ◌+◌, ◌-◌, ◌<◌, ◌≤◌, ◌++◌, List, [], ◌∷◌, length, refl, ap, sym, subst, arith, Bool, true, false, not, ◌&&◌, ◌||◌, ◌==◌, map, cond, Option, Some, None, option_map, drop}
-use Rattle.std.specs.Prelude.{slice_get, nat_lt, is_none, is_some, filter, find}
-use Rattle.std.specs.List.{list_all, list_any}
-use Rattle.std.proofs.lemmas.List.Folds.{list_all-append, list_all-map}
-use Rattle.chr_semantics.specs.Tree.{Tree, is_ground_trees}
+use Rattle.std.proofs.Common.{◌≡◌, ◌∙◌, ℕ, zero, suc, List, [], ◌∷◌, length, refl, ap, sym, subst, arith, Bool, true, false, not, ◌&&◌, ◌==◌, map, cond, Option, Some, None, option_map}
+use Rattle.std.specs.Prelude.{slice_get, nat_lt, is_none, is_some}
+use Rattle.std.specs.List.{list_all}
 use Rattle.chr_semantics.specs.Subst.{Subst}
-use Rattle.chr_semantics.specs.Program.{Atom, Goal, constraint, tell, evaluate, compare, fail, Head, Test, Rule, Program, Query, Occurrence, occurrence}
-use Rattle.chr_semantics.specs.Match.{Row, fits, fit_atom}
-use Rattle.chr_semantics.specs.Search.{History, ids_of, atom_of, has_number, same_ids, fired_before, passes_guard, can_fire, tuples, first_tuple, Found, no_occurrence, no_firing, firing, found_with, found_for, found_at}
-use Rattle.chr_semantics.specs.State.{Element, goal, known, active, State, rows, start, resolved_atom}
-use Rattle.chr_semantics.specs.Step.{search_at, step}
-use Rattle.chr_machine.specs.Fragment.{is_constraint, is_ground_constraint, is_one_ground_head, is_thin_rule, is_thin_program, is_thin_query, is_thin_element, is_spent, IsThin, is_fit, IsFiring, IsThinRule}
+use Rattle.chr_semantics.specs.Program.{Atom, Head, Test, Rule, Program, Occurrence, occurrence}
+use Rattle.chr_semantics.specs.Match.{Row, fits}
+use Rattle.chr_semantics.specs.Search.{History, atom_of, same_ids, fired_before, passes_guard, first_tuple, Found, no_occurrence, no_firing, firing, found_with, found_for}
+use Rattle.chr_semantics.specs.State.{State, rows, resolved_atom}
+use Rattle.chr_semantics.specs.Step.{search_at}
+use Rattle.chr_machine.specs.Fragment.{is_ground_constraint, is_one_ground_head, is_thin_rule, is_thin_program, is_spent, IsThin, is_fit, IsFiring, IsThinRule}
 use Rattle.chr_machine.specs.Index.{pair_of}
 use Rattle.chr_machine.proofs.Resolved.{both-left, both-right, resolved_none}
-use Rattle.chr_machine.proofs.Occurrences.{IsIn, occurrence_in}
+use Rattle.chr_machine.proofs.Occurrences.{occurrence_in}
 
 test-zero : (n : ℕ) → (n == 0) ≡ true → n ≡ 0
 test-zero n h = grind arith
@@ -67,9 +65,9 @@ same_number x i store next b e h = test (x == i) refl
     test : (t : Bool) → (x == i) ≡ t → t ≡ false
     test false same = refl
     test true same =
-      let at : x ≡ i = grind arith in
-      let gone = and_false (nat_lt x next) (is_none (atom_of store x)) (none_some (atom_of store x) b (ap (atom_of store) at ∙ e)) in
-      cc
+        let at : x ≡ i = grind arith in
+        let gone = and_false (nat_lt x next) (is_none (atom_of store x)) (none_some (atom_of store x) b (ap (atom_of store) at ∙ e)) in
+        cc
 
 -- no entry of a spent history is that of a living constraint
 spent_entry : (xs : List ℕ) (store : List Row) (next i : ℕ) (b : Atom) → atom_of store i ≡ Some b → list_all (λ k. nat_lt k next && is_none (atom_of store k)) xs ≡ true → same_ids xs (i ∷ []) ≡ false

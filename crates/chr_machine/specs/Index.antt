@@ -2,8 +2,6 @@
 use Rattle.std.specs.Prelude.{◌≡◌, ℕ, ◌+◌, List, [], ◌∷◌, length, map, Option, Some, None, slice_get, Vec}
 use Rattle.chr_semantics.specs.Program as semantics
 use Rattle.chr_semantics.specs.Program.{occurrences}
-use Rattle.chr_machine.specs.Rules.{rules_view}
-use Rattle.chr_machine.specs.declared.program.Rule.{Rule}
 use Rattle.chr_machine.specs.declared.program.Occurrence.{Occurrence}
 
 -- an occurrence as the numbers of its rule and its place

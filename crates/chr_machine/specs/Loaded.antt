@@ -1,5 +1,4 @@
 -- What a `Program` shows.
-use Rattle.std.specs.Prelude.{List}
 use Rattle.chr_semantics.specs.Program as semantics
 use Rattle.chr_semantics.specs.Names.{Names}
 use Rattle.chr_machine.specs.Rules.{rules_view}

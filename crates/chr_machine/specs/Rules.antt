@@ -1,7 +1,7 @@
 -- What goals, rules and queries stand for.
-use Rattle.std.specs.Prelude.{ℕ, ◌+◌, Bool, false, List, [], ◌∷◌, ◌++◌, map, max, Vec, String, string_bytes, slice_get, unwrap_or}
+use Rattle.std.specs.Prelude.{ℕ, ◌+◌, Bool, false, List, [], ◌∷◌, ◌++◌, map, max, Vec, string_bytes, slice_get, unwrap_or}
 use Rattle.std.specs.List.{fold}
-use Rattle.chr_semantics.specs.Tree.{Tree, Trees}
+use Rattle.chr_semantics.specs.Tree.{Tree}
 use Rattle.chr_semantics.specs.Mgu.{vars_of_all}
 use Rattle.chr_semantics.specs.Program as semantics
 use Rattle.chr_semantics.specs.Program.{Atom, Head, constraint, tell, evaluate, compare, fail, less, greater, at_most, at_least, equals, differs}

@@ -1,12 +1,11 @@
 -- What a `Machine` shows, and what its calls do to that.
-use Rattle.std.specs.Prelude.{◌≡◌, ◌≢◌, ℕ, ◌+◌, ◌-◌, ◌<◌, ◌≤◌, List, [], ◌++◌, Result, Ok, Err, IfOk, OnErr}
+use Rattle.std.specs.Prelude.{◌≡◌, ◌≢◌, ℕ, ◌+◌, ◌-◌, ◌<◌, ◌≤◌, List, [], ◌++◌, Result, IfOk, OnErr}
 use Rattle.std.specs.declared.alloc.AllocError.{AllocError}
 use Rattle.chr_semantics.specs.Names.{Names, VarNames}
 use Rattle.chr_semantics.specs.Program.{Program, Query}
 use Rattle.chr_semantics.specs.State.{State, running, start}
-use Rattle.chr_semantics.specs.Step.{step, after}
-use Rattle.chr_semantics.specs.Trace.{line}
-use Rattle.chr_semantics.specs.Text.{line_texts, trace}
+use Rattle.chr_semantics.specs.Step.{after}
+use Rattle.chr_semantics.specs.Text.{trace}
 use Rattle.chr_machine.specs.Loaded.{names_of, rules_of}
 use Rattle.chr_machine.specs.State.{state_of, texts}
 use Rattle.chr_machine.specs.declared.state.Stepped.{Stepped}

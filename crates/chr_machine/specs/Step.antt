@@ -1,5 +1,5 @@
 -- What a transition of the machine does.
-use Rattle.std.specs.Prelude.{◌≡◌, ◌≢◌, ℕ, ◌+◌, ◌-◌, ◌<◌, ◌≤◌, ◌==◌, not, List, [], ◌∷◌, ◌++◌, map, filter, vec_len, Option, Some, None}
+use Rattle.std.specs.Prelude.{◌≡◌, ◌≢◌, ℕ, ◌+◌, ◌<◌, ◌≤◌, ◌==◌, not, List, [], ◌∷◌, ◌++◌, map, filter, vec_len}
 use Rattle.chr_semantics.specs.Text.{line_texts, trace}
 use Rattle.chr_semantics.specs.State.{Element, State, goal, running, with_stack}
 use Rattle.chr_semantics.specs.Match.{Row}

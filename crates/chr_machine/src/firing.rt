@@ -10,13 +10,11 @@ ghost use Rattle.chr_machine.specs.Slots.{next_of, rows_of};
 ghost use Rattle.chr_machine.specs.State.{elem_view, ids_view, stack_view, state_of, texts};
 ghost use Rattle.chr_machine.specs.Step.{IsReady, Kept, Made, SameRun, topped};
 
-use std::alloc::Allocator;
-
-use chr_term::{Memory, Sym, Term, same_all};
-
 use crate::program::{Goal, Rule, copy_goals};
 use crate::state::{Elem, Execution, Fired};
 use crate::store::Id;
+use chr_term::{Memory, Sym, Term, same_all};
+use std::alloc::Allocator;
 
 /// Puts goals on the stack, the first on top, with room for them.
 pub fn put_goals<A: Allocator>(stack: &mut Vec<Elem<A>, A>, mut goals: Vec<Goal<A>, A>)
@@ -51,7 +49,15 @@ impl<'p, A: Allocator + Copy> Execution<'p, A> {
     }
 
     /// Simplify by a rule whose one head fits the constraint.
-    fn simplify(&mut self, id: Id, number: u32, sym: Sym, args: Vec<Term<A>, A>, index: usize, rule: &Rule<A>) -> Result<(), Elem<A>>
+    fn simplify(
+        &mut self,
+        id: Id,
+        number: u32,
+        sym: Sym,
+        args: Vec<Term<A>, A>,
+        index: usize,
+        rule: &Rule<A>,
+    ) -> Result<(), Elem<A>>
         requires room { vec_len self.old.stack < vec_capacity self.old.stack }
         requires few { self.old.steps < 1000000 }
         requires thin { IsThinRule (rule_view rule.now) }
@@ -64,7 +70,8 @@ impl<'p, A: Allocator + Copy> Execution<'p, A> {
         let Ok(ids) = one_id(self.alloc, id) else {
             return Err(Elem::Active(id, number, sym, args));
         };
-        let Ok(line) = self.simplify_line(id, number, sym, args.as_slice(), rule, ids.as_slice()) else {
+        let Ok(line) = self.simplify_line(id, number, sym, args.as_slice(), rule, ids.as_slice())
+        else {
             return Err(Elem::Active(id, number, sym, args));
         };
         let Ok(goals) = copy_goals(self.alloc, rule.body.as_slice()) else {
@@ -100,7 +107,14 @@ impl<'p, A: Allocator + Copy> Execution<'p, A> {
     }
 
     /// Takes the constraint out of the store, and puts the body in its place.
-    fn commit(&mut self, id: Id, index: usize, ids: Vec<Id, A>, goals: Vec<Goal<A>, A>, line: Vec<u8, A>)
+    fn commit(
+        &mut self,
+        id: Id,
+        index: usize,
+        ids: Vec<Id, A>,
+        goals: Vec<Goal<A>, A>,
+        line: Vec<u8, A>,
+    )
         requires stack { vec_len self.old.stack + vec_len goals ≤ vec_capacity self.old.stack }
         requires lines { vec_len self.old.lines < vec_capacity self.old.lines }
         requires history { vec_len self.old.history < vec_capacity self.old.history }
@@ -122,7 +136,13 @@ impl<'p, A: Allocator + Copy> Execution<'p, A> {
     }
 
     /// The transition of an active constraint: Drop, Default or Simplify.
-    pub fn step_active(&mut self, id: Id, number: u32, sym: Sym, args: Vec<Term<A>, A>) -> Result<(), Elem<A>>
+    pub fn step_active(
+        &mut self,
+        id: Id,
+        number: u32,
+        sym: Sym,
+        args: Vec<Term<A>, A>,
+    ) -> Result<(), Elem<A>>
         requires room { vec_len self.old.stack < vec_capacity self.old.stack }
         requires few { self.old.steps < 1000000 }
         requires thin { IsThin (rules_of self.old.program.now) (topped (active id.0 number (atom_view sym args.items)) (state_of self.old)) }

@@ -4,6 +4,7 @@
 #![tactic(auto)]
 
 mod firing;
+mod fragment;
 mod lines;
 mod machine;
 mod program;

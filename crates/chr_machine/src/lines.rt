@@ -8,13 +8,11 @@ ghost use Rattle.chr_machine.specs.Loaded.{names_of};
 ghost use Rattle.chr_machine.specs.Rules.{atom_view};
 ghost use Rattle.chr_machine.specs.State.{ids_view};
 
-use std::alloc::Allocator;
-
-use chr_term::{Memory, Sym, Term, print_atom, print_number};
-
 use crate::program::Rule;
 use crate::state::Execution;
 use crate::store::Id;
+use chr_term::{Memory, Sym, Term, print_atom, print_number};
+use std::alloc::Allocator;
 
 /// Appends the identities with commas between them.
 fn write_ids<A: Allocator + Copy>(alloc: A, ids: &[Id], line: &mut Vec<u8, A>) -> Result<(), Memory>
@@ -30,7 +28,11 @@ fn write_ids<A: Allocator + Copy>(alloc: A, ids: &[Id], line: &mut Vec<u8, A>) -
 }
 
 /// Appends the identities, each with a comma before it.
-fn write_more_ids<A: Allocator + Copy>(alloc: A, ids: &[Id], line: &mut Vec<u8, A>) -> Result<(), Memory>
+fn write_more_ids<A: Allocator + Copy>(
+    alloc: A,
+    ids: &[Id],
+    line: &mut Vec<u8, A>,
+) -> Result<(), Memory>
     ensures { OnOk result (line.new.items ≡ line.old.items ++ more_ids_text (ids_view ids.now)) }
 {
     for id in ids {
@@ -42,21 +44,41 @@ fn write_more_ids<A: Allocator + Copy>(alloc: A, ids: &[Id], line: &mut Vec<u8, 
 
 impl<'p, A: Allocator + Copy> Execution<'p, A> {
     /// The number of the next transition, the word, and the constraint with its identity.
-    fn known_line(&self, word: &str, id: Id, sym: Sym, args: &[Term<A>]) -> Result<Vec<u8, A>, Memory>
+    fn known_line(
+        &self,
+        word: &str,
+        id: Id,
+        sym: Sym,
+        args: &[Term<A>],
+    ) -> Result<Vec<u8, A>, Memory>
         requires { self.now.steps < 2 ^ 63 }
         ensures { IfOk result (λ line. line.items ≡ decimal (self.now.steps + 1) ++ (word.now ++ known_text (names_of self.now.program.now) self.now.var_names (resolved_atom [] (atom_view sym args.now)) id.0)) }
     {
         let mut line = Vec::new(self.alloc);
         print_number(self.alloc, self.steps + 1, &mut line)?;
         line.extend_from_slice(word.as_bytes())?;
-        print_atom(self.alloc, self.program.names(), &self.var_names, sym, args, &mut line)?;
+        print_atom(
+            self.alloc,
+            self.program.names(),
+            &self.var_names,
+            sym,
+            args,
+            &mut line,
+        )?;
         line.push(b'#')?;
         print_number(self.alloc, id.0, &mut line)?;
         Ok(line)
     }
 
     /// The same with the number of the occurrence.
-    fn active_line(&self, word: &str, id: Id, occurrence: u32, sym: Sym, args: &[Term<A>]) -> Result<Vec<u8, A>, Memory>
+    fn active_line(
+        &self,
+        word: &str,
+        id: Id,
+        occurrence: u32,
+        sym: Sym,
+        args: &[Term<A>],
+    ) -> Result<Vec<u8, A>, Memory>
         requires { self.now.steps < 2 ^ 63 }
         ensures { IfOk result (λ line. line.items ≡ decimal (self.now.steps + 1) ++ (word.now ++ active_text (names_of self.now.program.now) self.now.var_names (resolved_atom [] (atom_view sym args.now)) id.0 occurrence)) }
     {
@@ -83,7 +105,13 @@ impl<'p, A: Allocator + Copy> Execution<'p, A> {
     }
 
     /// The line of a Drop.
-    pub fn drop_line(&self, id: Id, occurrence: u32, sym: Sym, args: &[Term<A>]) -> Result<Vec<u8, A>, Memory>
+    pub fn drop_line(
+        &self,
+        id: Id,
+        occurrence: u32,
+        sym: Sym,
+        args: &[Term<A>],
+    ) -> Result<Vec<u8, A>, Memory>
         requires { self.now.steps < 2 ^ 63 }
         ensures { IfOk result (λ line. line.items ≡ line_text (names_of self.now.program.now) self.now.var_names (self.now.steps + 1) (drops (resolved_atom [] (atom_view sym args.now)) id.0 occurrence)) }
     {
@@ -91,7 +119,13 @@ impl<'p, A: Allocator + Copy> Execution<'p, A> {
     }
 
     /// The line of a Default.
-    pub fn default_line(&self, id: Id, occurrence: u32, sym: Sym, args: &[Term<A>]) -> Result<Vec<u8, A>, Memory>
+    pub fn default_line(
+        &self,
+        id: Id,
+        occurrence: u32,
+        sym: Sym,
+        args: &[Term<A>],
+    ) -> Result<Vec<u8, A>, Memory>
         requires { self.now.steps < 2 ^ 63 }
         ensures { IfOk result (λ line. line.items ≡ line_text (names_of self.now.program.now) self.now.var_names (self.now.steps + 1) (defaults (resolved_atom [] (atom_view sym args.now)) id.0 occurrence)) }
     {
@@ -99,7 +133,15 @@ impl<'p, A: Allocator + Copy> Execution<'p, A> {
     }
 
     /// The line of a Simplify by the rule with these identities.
-    pub fn simplify_line(&self, id: Id, occurrence: u32, sym: Sym, args: &[Term<A>], rule: &Rule<A>, ids: &[Id]) -> Result<Vec<u8, A>, Memory>
+    pub fn simplify_line(
+        &self,
+        id: Id,
+        occurrence: u32,
+        sym: Sym,
+        args: &[Term<A>],
+        rule: &Rule<A>,
+        ids: &[Id],
+    ) -> Result<Vec<u8, A>, Memory>
         requires { self.now.steps < 2 ^ 63 }
         ensures { IfOk result (λ line. line.items ≡ line_text (names_of self.now.program.now) self.now.var_names (self.now.steps + 1) (simplifies (resolved_atom [] (atom_view sym args.now)) id.0 occurrence (string_bytes rule.now.label) (ids_view ids.now))) }
     {

@@ -8,13 +8,11 @@ ghost use Rattle.chr_machine.specs.Slots.{next_of, rows_of};
 ghost use Rattle.chr_machine.specs.State.{fired_view, stack_view, state_of, status_view, texts};
 ghost use Rattle.chr_machine.specs.Step.{IsReady};
 
-use std::alloc::{Allocator, Global};
-
-use chr_term::{Memory, VarNames};
-
 use crate::program::{Program, Query};
 use crate::state::{Elem, Execution, Fired, Status, Stepped};
 use crate::store::Store;
+use chr_term::{Memory, VarNames};
+use std::alloc::{Allocator, Global};
 
 /// A run of a query under a program, a transition at a time, with its trace.
 #[derive(Drop)]
@@ -30,7 +28,11 @@ impl<'p, A: Allocator + Copy> Machine<'p, A> {
     ghost use Rattle.chr_machine.specs.Standing.{Runs, Same, Starts, Steps, standing};
 
     /// The machine before the first transition of the query, which was read for this program.
-    pub fn start(alloc: A, program: &'p Program<A>, query: Query<A>) -> Result<Machine<'p, A>, Memory>
+    pub fn start(
+        alloc: A,
+        program: &'p Program<A>,
+        query: Query<A>,
+    ) -> Result<Machine<'p, A>, Memory>
         requires program { is_thin_program (rules_of program.now) ≡ true }
         requires query { is_thin_query (query_view query) ≡ true }
         ensures { IfOk result (λ machine. Starts (names_of program.now) (rules_of program.now) (query_view query) (standing machine)) }

@@ -1,12 +1,13 @@
 //! Rules, programs and queries as the machine takes them.
 ghost use Rattle.std.specs.Prelude.{◌≡◌, ◌<◌, ◌^◌, ◌++◌, ◌∷◌, [], ◌==◌, ℕ, if◌then◌else◌, IfOk, IfSome, OnOk, OnSome, Some, length, map, option_map, slice_get, vec_len};
 ghost use Rattle.chr_semantics.specs.Program.{occurrence, occurrences, occurrences_in};
+ghost use Rattle.chr_machine.specs.Fragment.{is_thin_program};
 ghost use Rattle.chr_machine.specs.Index.{AreListed, head_count, listed, pair_of, pair_view, pairs_of, pairs_view};
 ghost use Rattle.chr_machine.specs.Rules.{flag_at, goal_view, rule_view, rules_view};
 
-use std::alloc::{Allocator, Global};
-
+use crate::fragment::are_thin_rules;
 use chr_term::{Memory, Names, Sym, Term, VarNames, copy, copy_all};
+use std::alloc::{Allocator, Global};
 
 /// A built-in of Solve but `fail`: `=`, `is`, and the comparisons `<`, `>`, `=<`, `>=`, `=:=`, `=\=`.
 #[derive(Clone, Copy, PartialEq, Eq, Debug, Drop)]
@@ -108,6 +109,13 @@ impl<A: Allocator> Program<A> {
         &self.rules[k]
     }
 
+    /// Whether the machine takes it today: each rule has one head, which is removed, and no variable.
+    pub fn is_thin(&self) -> bool
+        ensures { result ≡ is_thin_program (rules_of self.now) }
+    {
+        are_thin_rules(self.rules.as_slice())
+    }
+
     /// The occurrences of a symbol: over the rules downwards, and over the heads of a rule from right to left.
     pub fn occurrences(&self, sym: Sym) -> &[Occurrence]
         ensures { pairs_view result.now ≡ pairs_of (occurrences (rules_of self.now) sym.0) }
@@ -180,7 +188,15 @@ fn append_rule<A: Allocator + Copy>(
     for place in (0..rule.heads.len()).rev() {
         let sym = rule.heads[place].0;
         if !is_passive(rule, place) {
-            append(alloc, index, sym, Occurrence { rule: number, place })?;
+            append(
+                alloc,
+                index,
+                sym,
+                Occurrence {
+                    rule: number,
+                    place,
+                },
+            )?;
         }
     }
     Ok(())
@@ -190,11 +206,18 @@ fn append_rule<A: Allocator + Copy>(
 fn is_passive<A: Allocator>(rule: &Rule<A>, place: usize) -> bool
     ensures { result ≡ flag_at rule.now.passive.items place }
 {
-    if place < rule.passive.len() { rule.passive[place] } else { false }
+    if place < rule.passive.len() {
+        rule.passive[place]
+    } else {
+        false
+    }
 }
 
 /// The occurrences of each symbol.
-fn index_of<A: Allocator + Copy>(alloc: A, rules: &[Rule<A>]) -> Result<Vec<Vec<Occurrence, A>, A>, Memory>
+fn index_of<A: Allocator + Copy>(
+    alloc: A,
+    rules: &[Rule<A>],
+) -> Result<Vec<Vec<Occurrence, A>, A>, Memory>
     ensures { IfOk result (λ index. AreListed index.items (rules_view rules.now)) }
 {
     let mut index = Vec::new(alloc);
@@ -205,7 +228,10 @@ fn index_of<A: Allocator + Copy>(alloc: A, rules: &[Rule<A>]) -> Result<Vec<Vec<
 }
 
 /// Equal goals.
-pub fn copy_goals<A: Allocator + Copy>(alloc: A, goals: &[Goal<A>]) -> Result<Vec<Goal<A>, A>, Memory>
+pub fn copy_goals<A: Allocator + Copy>(
+    alloc: A,
+    goals: &[Goal<A>],
+) -> Result<Vec<Goal<A>, A>, Memory>
     ensures { IfOk result (λ copied. map goal_view copied.items ≡ map goal_view goals.now) }
 {
     let mut copied = Vec::with_capacity(alloc, goals.len())?;

@@ -8,21 +8,23 @@ ghost use Rattle.chr_machine.specs.Slots.{next_of};
 ghost use Rattle.chr_machine.specs.State.{elem_view, state_of};
 ghost use Rattle.chr_machine.specs.Step.{IsReady, Kept, Made, Ran, RunIs, StepIs, topped};
 
-use std::alloc::{AllocError, Allocator};
-
-use chr_term::Memory;
-
 use crate::firing::put_goals;
 use crate::program::{Goal, Program, Query};
 use crate::state::{Elem, Execution, Status, Stepped};
 use crate::store::Store;
+use chr_term::Memory;
+use std::alloc::{AllocError, Allocator};
 
 /// The greatest number of transitions of one machine.
 const LIMIT: u64 = 1_000_000;
 
 impl<'p, A: Allocator + Copy> Execution<'p, A> {
     /// The state of a query before its first transition.
-    pub fn start(alloc: A, program: &'p Program<A>, query: Query<A>) -> Result<Execution<'p, A>, Memory>
+    pub fn start(
+        alloc: A,
+        program: &'p Program<A>,
+        query: Query<A>,
+    ) -> Result<Execution<'p, A>, Memory>
         ensures state { IfOk result (λ execution. state_of execution ≡ start (query_view query)) }
         ensures program { IfOk result (λ execution. execution.program ≡ program.entry) }
         ensures var_names { IfOk result (λ execution. execution.var_names ≡ query.var_names) }

@@ -1,10 +1,8 @@
 //! The parts of the state of a run.
-use std::alloc::{Allocator, Global};
-
-use chr_term::{Sym, Term, VarNames};
-
 use crate::program::{Goal, Program};
 use crate::store::{Id, Store};
+use chr_term::{Sym, Term, VarNames};
+use std::alloc::{Allocator, Global};
 
 /// An element of the goal stack: a goal, an identified constraint, or an active one with the number of its occurrence, from 1. Each
 /// carries its goal, also after its constraint left the store.

@@ -13,13 +13,11 @@ ghost use Rattle.chr_machine.specs.Slots.{next_of, rows_of};
 ghost use Rattle.chr_machine.specs.State.{elem_view, stack_view, state_of, texts};
 ghost use Rattle.chr_machine.specs.Step.{IsReady, Kept, Made, SameRun, topped};
 
-use std::alloc::Allocator;
-
-use chr_term::{Sym, Term, copy_all};
-
 use crate::program::Goal;
 use crate::state::{Elem, Execution, Status};
 use crate::store::Id;
+use chr_term::{Sym, Term, copy_all};
+use std::alloc::Allocator;
 
 impl<'p, A: Allocator + Copy> Execution<'p, A> {
     /// Puts an element on the stack, with room for it.
@@ -104,7 +102,13 @@ impl<'p, A: Allocator + Copy> Execution<'p, A> {
     }
 
     /// Drop: the constraint has no such occurrence.
-    pub fn drop_active(&mut self, id: Id, number: u32, sym: Sym, args: Vec<Term<A>, A>) -> Result<(), Elem<A>>
+    pub fn drop_active(
+        &mut self,
+        id: Id,
+        number: u32,
+        sym: Sym,
+        args: Vec<Term<A>, A>,
+    ) -> Result<(), Elem<A>>
         requires room { vec_len self.old.stack < vec_capacity self.old.stack }
         requires few { self.old.steps < 1000000 }
         requires none { search_at (rules_of self.old.program.now) (topped (active id.0 number (atom_view sym args.items)) (state_of self.old)) id.0 number (atom_view sym args.items) ≡ no_occurrence }
@@ -126,7 +130,13 @@ impl<'p, A: Allocator + Copy> Execution<'p, A> {
     }
 
     /// Default: the constraint is active at its next occurrence.
-    pub fn default_active(&mut self, id: Id, number: u32, sym: Sym, args: Vec<Term<A>, A>) -> Result<(), Elem<A>>
+    pub fn default_active(
+        &mut self,
+        id: Id,
+        number: u32,
+        sym: Sym,
+        args: Vec<Term<A>, A>,
+    ) -> Result<(), Elem<A>>
         requires room { vec_len self.old.stack < vec_capacity self.old.stack }
         requires few { self.old.steps < 1000000 }
         requires small { number < 2 ^ 31 }

@@ -2,11 +2,10 @@
 ghost use Rattle.std.specs.Prelude.{◌≡◌, ◌<◌, ◌++◌, ◌∷◌, ◌==◌, ◌^◌, ◌+◌, [], vec_len, vec_capacity, length, IfNone, IfSome, IfErr, IfOk, OnErr, OnOk, filter, is_some, not, option_map};
 ghost use Rattle.chr_semantics.specs.Search.{atom_of};
 ghost use Rattle.chr_machine.specs.Rules.{atom_view};
-ghost use Rattle.chr_machine.specs.Rows.{IsAbsent, row_atom};
-
-use std::alloc::{Allocator, Global};
+ghost use Rattle.chr_machine.specs.Rows.{IsAbsent, row_atom, rows_from};
 
 use chr_term::{Memory, Sym, Term};
+use std::alloc::{Allocator, Global};
 
 /// The identity of a constraint, counted from 1 in the order of Activate.
 #[derive(Clone, Copy, PartialEq, Eq, Debug, Drop)]
@@ -55,7 +54,11 @@ impl<A: Allocator> Store<A> {
             return None;
         }
         let slot = id.0 as usize - 1;
-        if slot < self.slots.len() { Some(slot) } else { None }
+        if slot < self.slots.len() {
+            Some(slot)
+        } else {
+            None
+        }
     }
 
     /// The constraint of an identity, where it lives.
@@ -73,6 +76,14 @@ impl<A: Allocator> Store<A> {
         ensures { result ≡ is_some (atom_of (rows_of self.now) id.0) }
     {
         self.row(id).is_some()
+    }
+
+    /// A slot for each identity that was given, from 1 on: the constraint, or nothing where it was removed.
+    pub fn slots(&self) -> &[Option<Row<A>>]
+        ensures rows { rows_from 1 result.now ≡ rows_of self.now }
+        ensures next { length result.now + 1 ≡ next_of self.now }
+    {
+        self.slots.as_slice()
     }
 
     /// Makes room for one constraint, and changes nothing else.

@@ -1,5 +1,5 @@
 -- Names that are stored as texts and entries.
-use Rattle.std.proofs.Common.{◌≡◌, ℕ, zero, suc, ◌+◌, ◌<◌, ◌≤◌, Bool, true, false, cond, ◌&&◌, ◌==◌, List, [], ◌∷◌, ◌++◌, length, get_or, map, refl, sym, ap, ◌∙◌, arith, Option, Some, None, is_some, bytes_eq, slice_get, position, option_map, inl, inr, subst, if◌then◌else◌}
+use Rattle.std.proofs.Common.{◌≡◌, ℕ, suc, ◌<◌, Bool, true, false, cond, ◌&&◌, ◌==◌, List, [], ◌∷◌, ◌++◌, length, get_or, map, refl, sym, ap, ◌∙◌, arith, Option, Some, None, is_some, bytes_eq, slice_get, position, option_map, inl, inr, subst, if◌then◌else◌}
 use Rattle.std.specs.List.{IsDistinct, list_any}
 use Rattle.std.specs.Cmp.{both_ways}
 use Rattle.std.proofs.lemmas.Cmp.{nat_list_eq_equiv}
@@ -7,7 +7,6 @@ use Rattle.std.proofs.lemmas.Bool.{cases_order, and_parts, and_from, false_from_
 use Rattle.std.proofs.lemmas.List.{map-append, length-append, length-map, get_or_append_left}
 use Rattle.std.proofs.lemmas.List.Elements.{All-push}
 use Rattle.std.proofs.lemmas.List.Quantifiers.{position-Some}
-use Rattle.std.proofs.lemmas.List.Sums.{position_or_len_is}
 use Rattle.std.proofs.lemmas.Map.Keys.{apart_from_distinct, IsDistinct-push}
 use Rattle.std.proofs.lemmas.Option.{get_or_from_slice_get, slice_get-get_or, slice_get-map, slice_get_within}
 use Rattle.std.proofs.lemmas.Slice.Eq.{bytes_eq-Decides}
@@ -30,9 +29,10 @@ bytes_differ s t differ e = true≢false (sym ((bytes_eq-Decides s t).1 e) ∙ d
 -- a text stands at one place
 same_place : (texts : List (List ℕ)) (i k : ℕ) → IsDistinct bytes_eq texts → i < length texts → k < length texts → get_or texts k [] ≡ get_or texts i [] → k ≡ i
 same_place texts i k once li lk same = elim (cases_order k i) [
-    inl e ↦ e
+  | inl e ↦ e
   | inr (inl lt) ↦ absurd (bytes_differ _ _ (apart_from_distinct bytes_eq texts k i [] once lt li) same)
-  | inr (inr gt) ↦ absurd (bytes_differ _ _ (apart_from_distinct bytes_eq texts i k [] once gt lk) (sym same)) ]
+  | inr (inr gt) ↦ absurd (bytes_differ _ _ (apart_from_distinct bytes_eq texts i k [] once gt lk) (sym same))
+]
 
 entry_same : (a b : Entry) → entry_eq a b ≡ true → a ≡ b
 entry_same a b h = let p = and_parts (a.text == b.text) (a.arity == b.arity) h in let t : a.text ≡ b.text = eqb-true _ _ p.0 in let n : a.arity ≡ b.arity = eqb-true _ _ p.1 in λ i. record { text = t i; arity = n i }
@@ -57,7 +57,7 @@ module _ (texts : List (List ℕ)) (entries : List Entry) (is : IsTable texts en
       agrees x lx = both_ways _ _
           (λ same. let s = entry_same e x same in and_from _ _ ((bytes_eq-Decides _ _).1 (ap (λ (y : Entry). get_or texts y.text []) (sym s))) (eq-eqb _ _ (ap (λ (y : Entry). y.arity) (sym s))))
           (λ same. let p = and_parts (bytes_eq (get_or texts x.text []) (get_or texts e.text [])) (x.arity == e.arity) same in
-            and_from _ _ (eq-eqb _ _ (sym (same_place texts e.text x.text is.texts_once lt lx (bytes_same _ _ p.0)))) (eq-eqb _ _ (sym (eqb-true _ _ p.1))))
+          and_from _ _ (eq-eqb _ _ (sym (same_place texts e.text x.text is.texts_once lt lx (bytes_same _ _ p.0)))) (eq-eqb _ _ (sym (eqb-true _ _ p.1))))
 
   -- a name that is not among the texts has no symbol
   pub symbol_of_absent : (name : List ℕ) (arity : ℕ) → position (bytes_eq name) texts ≡ None → symbol_of (entry_names texts entries) name arity ≡ None
@@ -71,8 +71,8 @@ module _ (texts : List (List ℕ)) (entries : List Entry) (is : IsTable texts en
       let lt : k < length entries = slice_get_within entries k e at in
       let here : get_or entries k e ≡ e = get_or_from_slice_get entries k e e at in
       position-at (entry_eq e) entries k e lt
-        (λ j below. false_from_ne_true _ (λ same. true≢false (sym (entry_refl e) ∙ ap (λ x. entry_eq x e) (entry_same e _ same) ∙ ap (entry_eq (get_or entries j e)) (sym here) ∙ apart_from_distinct entry_eq entries j k e is.entries_once below lt)))
-        (ap (entry_eq e) here ∙ entry_refl e)
+      (λ j below. false_from_ne_true _ (λ same. true≢false (sym (entry_refl e) ∙ ap (λ x. entry_eq x e) (entry_same e _ same) ∙ ap (entry_eq (get_or entries j e)) (sym here) ∙ apart_from_distinct entry_eq entries j k e is.entries_once below lt)))
+      (ap (entry_eq e) here ∙ entry_refl e)
 
   -- a pair stands once: where it stands, it is found
   pub symbol_of_at : (k : ℕ) (name : List ℕ) (arity : ℕ) → slice_get (entry_names texts entries) k ≡ Some (name, arity) → symbol_of (entry_names texts entries) name arity ≡ Some k

@@ -1,5 +1,5 @@
 -- The texts of a set of strings.
-use Rattle.std.proofs.Common.{◌≡◌, ℕ, Bool, true, false, cond, ◌||◌, List, [], ◌∷◌, ◌++◌, map, refl, sym, ap, ◌∙◌, Option, Some, None, bytes_eq, slice_get, position, option_map, if◌then◌else◌, string_bytes, is_some}
+use Rattle.std.proofs.Common.{◌≡◌, ℕ, Bool, true, false, cond, ◌||◌, List, [], ◌∷◌, ◌++◌, map, refl, sym, ap, ◌∙◌, Some, None, bytes_eq, slice_get, position, option_map, if◌then◌else◌, string_bytes, is_some}
 use Rattle.std.specs.List.{list_any}
 use Rattle.std.specs.String.{string_eq}
 use Rattle.std.specs.declared.string.String.{String}

@@ -5,9 +5,8 @@ ghost use Rattle.chr_semantics.specs.Print.{applied, node_shown, operator_text, 
 ghost use Rattle.chr_term.specs.View.{trees_view, view};
 ghost use Rattle.chr_term.specs.Arguments.{AreArguments};
 
-use std::alloc::Allocator;
-
 use crate::{Memory, Names, Sym, Term, VarNames};
+use std::alloc::Allocator;
 
 /// Appends the text of a term. Where memory is refused, the text is as before.
 pub fn print<A: Allocator + Copy, N: Allocator, V: Allocator, T: Allocator, O: Allocator>(
@@ -85,9 +84,9 @@ fn is_sum<T: Allocator>(term: &Term<T>) -> bool
             Arguments::Zero => false,
             Arguments::One(_) => false,
             Arguments::Two(_, _) => {
-                if sym.0 == 1 {
+                if sym.0 == Sym::CONS.0 {
                     false
-                } else if sym.0 == 2 || sym.0 == 3 {
+                } else if sym.0 == Sym::PLUS.0 || sym.0 == Sym::MINUS.0 {
                     true
                 } else {
                     false
@@ -109,11 +108,14 @@ fn is_product<T: Allocator>(term: &Term<T>) -> bool
             Arguments::Zero => false,
             Arguments::One(_) => false,
             Arguments::Two(_, _) => {
-                if sym.0 == 1 {
+                if sym.0 == Sym::CONS.0 {
                     false
-                } else if sym.0 == 2 || sym.0 == 3 {
+                } else if sym.0 == Sym::PLUS.0 || sym.0 == Sym::MINUS.0 {
                     false
-                } else if sym.0 == 4 || sym.0 == 5 || sym.0 == 6 {
+                } else if sym.0 == Sym::TIMES.0
+                    || sym.0 == Sym::DIVIDE.0
+                    || sym.0 == Sym::MODULO.0
+                {
                     true
                 } else {
                     false
@@ -188,12 +190,17 @@ impl<A: Allocator + Copy, N: Allocator, V: Allocator> Printer<'_, A, N, V> {
     }
 
     #[cycle(write)]
-    fn write_node<T: Allocator>(&self, sym: Sym, args: &[Term<T>], out: &mut Vec<u8, A>) -> Result<(), Memory>
+    fn write_node<T: Allocator>(
+        &self,
+        sym: Sym,
+        args: &[Term<T>],
+        out: &mut Vec<u8, A>,
+    ) -> Result<(), Memory>
         ensures { OnOk result (out.new.items ≡ out.old.items ++ (node_shown self.now.names.now sym.0 (shown_all self.now.names.now self.now.vars.now (trees_view args.now))).text) }
     {
         match by_number(args) {
             Arguments::Zero => {
-                if sym.0 == 0 {
+                if sym.0 == Sym::NIL.0 {
                     out.extend_from_slice(b"[]")
                 } else {
                     self.write_name(sym, out)
@@ -214,18 +221,24 @@ impl<A: Allocator + Copy, N: Allocator, V: Allocator> Printer<'_, A, N, V> {
     }
 
     #[cycle(write)]
-    fn write_pair<T: Allocator>(&self, sym: Sym, left: &Term<T>, right: &Term<T>, out: &mut Vec<u8, A>) -> Result<(), Memory>
+    fn write_pair<T: Allocator>(
+        &self,
+        sym: Sym,
+        left: &Term<T>,
+        right: &Term<T>,
+        out: &mut Vec<u8, A>,
+    ) -> Result<(), Memory>
         ensures { OnOk result (out.new.items ≡ out.old.items ++ (pair_shown self.now.names.now sym.0 (shown self.now.names.now self.now.vars.now (view left.now)) (shown self.now.names.now self.now.vars.now (view right.now))).text) }
     {
-        if sym.0 == 1 {
+        if sym.0 == Sym::CONS.0 {
             out.push(b'[')?;
             self.write(left, out)?;
             return self.write_tail(right, out);
         }
-        if sym.0 == 2 || sym.0 == 3 {
+        if sym.0 == Sym::PLUS.0 || sym.0 == Sym::MINUS.0 {
             return self.write_operator(false, sym, left, right, out);
         }
-        if sym.0 == 4 || sym.0 == 5 || sym.0 == 6 {
+        if sym.0 == Sym::TIMES.0 || sym.0 == Sym::DIVIDE.0 || sym.0 == Sym::MODULO.0 {
             return self.write_operator(true, sym, left, right, out);
         }
         self.write_name(sym, out)?;
@@ -238,7 +251,14 @@ impl<A: Allocator + Copy, N: Allocator, V: Allocator> Printer<'_, A, N, V> {
     }
 
     #[cycle(write)]
-    fn write_operator<T: Allocator>(&self, product: bool, sym: Sym, left: &Term<T>, right: &Term<T>, out: &mut Vec<u8, A>) -> Result<(), Memory>
+    fn write_operator<T: Allocator>(
+        &self,
+        product: bool,
+        sym: Sym,
+        left: &Term<T>,
+        right: &Term<T>,
+        out: &mut Vec<u8, A>,
+    ) -> Result<(), Memory>
         ensures { OnOk result (out.new.items ≡ out.old.items ++ operator_text product sym.0 (shown self.now.names.now self.now.vars.now (view left.now)) (shown self.now.names.now self.now.vars.now (view right.now))) }
     {
         self.write_wrapped(wraps_left(product, left), left, out)?;
@@ -267,7 +287,12 @@ impl<A: Allocator + Copy, N: Allocator, V: Allocator> Printer<'_, A, N, V> {
     }
 
     #[cycle(write)]
-    fn write_third<T: Allocator>(&self, third: &Term<T>, others: &[Term<T>], out: &mut Vec<u8, A>) -> Result<(), Memory>
+    fn write_third<T: Allocator>(
+        &self,
+        third: &Term<T>,
+        others: &[Term<T>],
+        out: &mut Vec<u8, A>,
+    ) -> Result<(), Memory>
         ensures { OnOk result (out.new.items ≡ out.old.items ++ 44 ∷ ((shown self.now.names.now self.now.vars.now (view third.now)).text ++ (texts_from (shown_all self.now.names.now self.now.vars.now (trees_view others.now)) ++ 41 ∷ []))) }
     {
         out.push(b',')?;
@@ -278,7 +303,11 @@ impl<A: Allocator + Copy, N: Allocator, V: Allocator> Printer<'_, A, N, V> {
     }
 
     #[cycle(write)]
-    fn write_others<T: Allocator>(&self, others: &[Term<T>], out: &mut Vec<u8, A>) -> Result<(), Memory>
+    fn write_others<T: Allocator>(
+        &self,
+        others: &[Term<T>],
+        out: &mut Vec<u8, A>,
+    ) -> Result<(), Memory>
         ensures { OnOk result (out.new.items ≡ out.old.items ++ texts_from (shown_all self.now.names.now self.now.vars.now (trees_view others.now))) }
     {
         for term in others {
@@ -289,7 +318,12 @@ impl<A: Allocator + Copy, N: Allocator, V: Allocator> Printer<'_, A, N, V> {
     }
 
     #[cycle(write)]
-    fn write_wrapped<T: Allocator>(&self, wrap: bool, term: &Term<T>, out: &mut Vec<u8, A>) -> Result<(), Memory>
+    fn write_wrapped<T: Allocator>(
+        &self,
+        wrap: bool,
+        term: &Term<T>,
+        out: &mut Vec<u8, A>,
+    ) -> Result<(), Memory>
         ensures { OnOk result (out.new.items ≡ out.old.items ++ wrapped wrap (shown self.now.names.now self.now.vars.now (view term.now)).text) }
     {
         if wrap {
@@ -310,14 +344,14 @@ impl<A: Allocator + Copy, N: Allocator, V: Allocator> Printer<'_, A, N, V> {
         match term {
             Term::Node(sym, args) => match by_number(args.as_slice()) {
                 Arguments::Zero => {
-                    if sym.0 == 0 {
+                    if sym.0 == Sym::NIL.0 {
                         out.extend_from_slice(b"]")
                     } else {
                         self.write_end(term, out)
                     }
                 }
                 Arguments::Two(first, rest) => {
-                    if sym.0 == 1 {
+                    if sym.0 == Sym::CONS.0 {
                         out.push(b',')?;
                         self.write(first, out)?;
                         self.write_tail(rest, out)
@@ -348,12 +382,16 @@ impl<A: Allocator + Copy, N: Allocator, V: Allocator> Printer<'_, A, N, V> {
 fn write_sign<A: Allocator>(sym: Sym, out: &mut Vec<u8, A>) -> Result<(), Memory>
     ensures { OnOk result (out.new.items ≡ out.old.items ++ sign_of sym.0) }
 {
-    let sign = match sym.0 {
-        2 => "+",
-        3 => "-",
-        4 => "*",
-        5 => "//",
-        _ => " mod ",
+    let sign = if sym.0 == Sym::PLUS.0 {
+        "+"
+    } else if sym.0 == Sym::MINUS.0 {
+        "-"
+    } else if sym.0 == Sym::TIMES.0 {
+        "*"
+    } else if sym.0 == Sym::DIVIDE.0 {
+        "//"
+    } else {
+        " mod "
     };
     out.extend_from_slice(sign.as_bytes())
 }

@@ -2,13 +2,29 @@ ghost use Rattle.std.specs.Prelude.{◌≡◌, IfOk, IsTrue, ◌↔◌};
 ghost use Rattle.chr_semantics.specs.Tree.{is_ground_tree, is_ground_trees};
 ghost use Rattle.chr_term.specs.View.{trees_view, view};
 
+use crate::Memory;
 use std::alloc::{Allocator, Global};
 
-use crate::Memory;
-
 /// A symbol: a name with a number of arguments, by its number among the `Names`.
-#[derive(Clone, Copy, PartialEq, Eq, Debug, Drop)]
+#[derive(Clone, Copy, PartialEq, Eq, Hash, Debug, Drop)]
 pub struct Sym(pub u32);
+
+impl Sym {
+    /// `[]`/0, the empty list.
+    pub const NIL: Sym = Sym(0);
+    /// `[|]`/2, an element and the rest of a list.
+    pub const CONS: Sym = Sym(1);
+    /// `+`/2.
+    pub const PLUS: Sym = Sym(2);
+    /// `-`/2.
+    pub const MINUS: Sym = Sym(3);
+    /// `*`/2.
+    pub const TIMES: Sym = Sym(4);
+    /// `//`/2.
+    pub const DIVIDE: Sym = Sym(5);
+    /// `mod`/2.
+    pub const MODULO: Sym = Sym(6);
+}
 
 /// A term: a variable with its number, a whole number of 128 bits, or a symbol over terms.
 #[derive(Drop)]
@@ -53,7 +69,8 @@ pub fn same<A: Allocator, B: Allocator>(left: &Term<A>, right: &Term<B>) -> bool
     match (left, right) {
         (Term::Var(x), Term::Var(y)) => *x == *y,
         (Term::Int(x), Term::Int(y)) => *x == *y,
-        (Term::Node(f, xs), Term::Node(g, ys)) => f.0 == g.0 && same_all(xs.as_slice(), ys.as_slice()),
+        (Term::Node(f, xs), Term::Node(g, ys)) => f.0 == g.0
+            && same_all(xs.as_slice(), ys.as_slice()),
         _ => false,
     }
 }

@@ -1,9 +1,8 @@
+use super::*;
 use refusing_alloc::Refusing;
 use std::alloc::{Allocator, Global};
 use std::process::Abort;
 use std::test::Fail;
-
-use super::*;
 
 /// The seven symbols, and `f`/2, `a`/0, `g`/1 and `h`/3 as 7 to 10.
 fn own_names<A: Allocator + Copy>(alloc: A, rt: &impl Abort) -> Result<Names<A>, Memory> {
@@ -116,9 +115,19 @@ fn lists(rt: HostRuntime) -> Result<(), Fail> {
     let alloc = rt.alloc();
     shows(rt.alloc(), &rt, atom(alloc, 0), ">[]")?;
     let end = two(alloc, 1, atom(alloc, 8), Term::Var(0))?;
-    shows(rt.alloc(), &rt, two(alloc, 1, Term::Int(-1), end)?, ">[-1,a|X]")?;
+    shows(
+        rt.alloc(),
+        &rt,
+        two(alloc, 1, Term::Int(-1), end)?,
+        ">[-1,a|X]",
+    )?;
     let end = two(alloc, 1, Term::Var(1), atom(alloc, 0))?;
-    shows(rt.alloc(), &rt, two(alloc, 1, Term::Var(2), end)?, ">[_2,_1]")?;
+    shows(
+        rt.alloc(),
+        &rt,
+        two(alloc, 1, Term::Var(2), end)?,
+        ">[_2,_1]",
+    )?;
     shows(rt.alloc(), &rt, one(alloc, 1, Term::Var(3))?, ">[|](_3)")?;
     Ok(())
 }
@@ -127,13 +136,23 @@ fn lists(rt: HostRuntime) -> Result<(), Fail> {
 fn names_over_terms(rt: HostRuntime) -> Result<(), Fail> {
     let alloc = rt.alloc();
     let least = one(alloc, 11, Term::Int(i128::MIN))?;
-    shows(rt.alloc(), &rt, least, ">?(-170141183460469231731687303715884105728)")?;
+    shows(
+        rt.alloc(),
+        &rt,
+        least,
+        ">?(-170141183460469231731687303715884105728)",
+    )?;
     let mut args = Vec::new(alloc);
     args.push(one(alloc, 9, Term::Int(i128::MAX))?)?;
     args.push(one(alloc, 3, Term::Int(0))?)?;
     args.push(atom(alloc, 12))?;
     let wide = Term::Node(Sym(10), args);
-    shows(rt.alloc(), &rt, wide, ">h(g(170141183460469231731687303715884105727),-(0),?)")?;
+    shows(
+        rt.alloc(),
+        &rt,
+        wide,
+        ">h(g(170141183460469231731687303715884105727),-(0),?)",
+    )?;
     Ok(())
 }
 
@@ -165,7 +184,14 @@ fn atom_text<A: Allocator + Copy>(
     number: u64,
 ) -> Result<Vec<u8, A>, Memory> {
     let mut text = Vec::new(alloc);
-    print_atom(alloc, names, &var_names(alloc, &[])?, Sym(7), args, &mut text)?;
+    print_atom(
+        alloc,
+        names,
+        &var_names(alloc, &[])?,
+        Sym(7),
+        args,
+        &mut text,
+    )?;
     print_number(alloc, number, &mut text)?;
     Ok(text)
 }
@@ -175,7 +201,10 @@ fn atoms_and_numbers(rt: HostRuntime) -> Result<(), Fail> {
     let names = own_names(rt.alloc(), &rt)?;
     let left = nested(rt.alloc(), 4, 2)?;
     let text = atom_text(rt.alloc(), &names, [left].as_slice(), u64::MAX)?;
-    assert_eq!(&rt; text.as_slice(), b"f((1+2)*(3+4))18446744073709551615".as_slice());
+    assert_eq!(&rt;
+        text.as_slice(),
+        b"f((1+2)*(3+4))18446744073709551615".as_slice()
+    );
     Ok(())
 }
 

@@ -7,7 +7,7 @@ use Rattle.chr_machine.proofs.firing.put_goals.Given as goal
 abbrev pub invariant-loop-goal : goal.invariant-loop-goal
 invariant-loop-goal g l = record {
   same : map (λ x. told (goal_view x)) l.initial.goals.items ++ stack_view l.initial.stack.items ≡ map (λ x. told (goal_view x)) l.goals.items ++ stack_view l.stack.items;
-  room : vec_len l.stack + vec_len l.goals ≤ vec_capacity l.stack
+  room : vec_len l.stack + vec_len l.goals ≤ vec_capacity l.stack;
 }
 
 abbrev pub decreases-loop-goal : goal.decreases-loop-goal

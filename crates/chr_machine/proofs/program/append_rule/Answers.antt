@@ -1,8 +1,8 @@
-use Rattle.std.proofs.Common.{◌≡◌, ◌∙◌, ℕ, ap, sym, ◌++◌, arith, rules, drop}
+use Rattle.std.proofs.Common.{◌≡◌, ◌∙◌, ap, sym, ◌++◌, arith}
 use Rattle.std.specs.Prelude.{slice_get}
 use Rattle.chr_machine.specs.Index.{listed}
 use Rattle.chr_machine.specs.Rules.{rule_view}
-use Rattle.chr_machine.proofs.Listed.{pairs_of-in, pairs_from}
+use Rattle.chr_machine.proofs.Listed.{pairs_of-in}
 use Rattle.chr_machine.proofs.program.append_rule.Goals as goal
 
 pub returns : goal.returns

@@ -1,7 +1,5 @@
-use Rattle.std.proofs.Common.{◌≡◌, ◌∙◌, ℕ, ap, sym, ◌++◌, arith, rules, map, take, length}
+use Rattle.std.proofs.Common.{◌≡◌, arith, length}
 use Rattle.std.proofs.Math.Seq.{take-length}
-use Rattle.chr_machine.specs.Index.{pairs_of}
-use Rattle.chr_machine.specs.Rules.{rule_view}
 use Rattle.chr_machine.proofs.Listed.{listed-more}
 use Rattle.chr_machine.proofs.program.index_of.Goals as goal
 

@@ -1,4 +1,4 @@
-use Rattle.std.proofs.Common.{◌≡◌, ◌∙◌}
+use Rattle.std.proofs.Common.{◌∙◌}
 use Rattle.chr_machine.proofs.Listed.{listed-empty_more}
 use Rattle.chr_machine.proofs.program.place_for.Goals as goal
 

@@ -1,4 +1,4 @@
-use Rattle.std.proofs.Common.{refl, sym, ap, ◌∙◌, ◌&&◌}
+use Rattle.std.proofs.Common.{sym, ap, ◌∙◌, ◌&&◌}
 use Rattle.chr_semantics.specs.Print.{shown}
 use Rattle.chr_term.specs.View.{view}
 use Rattle.chr_term.proofs.Signs.{and_after, or_at_once, or_after}

@@ -1,4 +1,3 @@
-use Rattle.std.proofs.Common.{◌≡◌, rules, arith}
 use Rattle.chr_machine.specs.Loaded.{rules_of}
 use Rattle.chr_machine.specs.Rules.{query_view}
 use Rattle.chr_machine.proofs.Stays.{thin_start}

@@ -1,6 +1,4 @@
-use Rattle.std.proofs.Common.{◌≡◌, ◌<◌, sym, ap, arith, Some}
-use Rattle.chr_semantics.specs.Program.{Occurrence}
-use Rattle.chr_machine.specs.Index.{pair_of}
+use Rattle.std.proofs.Common.{◌<◌, arith}
 use Rattle.chr_machine.specs.Loaded.{rules_of}
 use Rattle.chr_machine.proofs.Occurrences.{numbered, numbered_rule, numbered_few}
 use Rattle.chr_machine.proofs.program.Program.occurrence.Goals as goal

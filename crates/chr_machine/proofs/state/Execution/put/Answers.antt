@@ -1,4 +1,3 @@
-use Rattle.std.proofs.Common.{◌≡◌}
 use Rattle.chr_machine.proofs.Stacks.{stack_put}
 use Rattle.chr_machine.proofs.state.Execution.put.Goals as goal
 

@@ -13,7 +13,7 @@ invariant-loop-made g l = record {
   limit : l.self.steps ≤ 1000000;
   small : next_of l.self.store ≤ l.self.steps + 1;
   ready : IsReady l.self;
-  thin : IsThin (rules_of l.self.program.now) (state_of l.self)
+  thin : IsThin (rules_of l.self.program.now) (state_of l.self);
 }
 
 abbrev pub decreases-loop-made : goal.decreases-loop-made

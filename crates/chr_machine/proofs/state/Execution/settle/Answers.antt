@@ -1,4 +1,4 @@
-use Rattle.std.proofs.Common.{◌≡◌, ◌<◌, length, arith}
+use Rattle.std.proofs.Common.{◌<◌, length, arith}
 use Rattle.chr_machine.proofs.Stacks.{status-some}
 use Rattle.chr_machine.proofs.state.Execution.settle.Goals as goal
 

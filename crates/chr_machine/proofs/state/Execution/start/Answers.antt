@@ -1,4 +1,4 @@
-use Rattle.std.proofs.Common.{◌≡◌, ◌∙◌, ap, map}
+use Rattle.std.proofs.Common.{ap, map}
 use Rattle.chr_semantics.specs.State.{running}
 use Rattle.chr_machine.specs.State.{fired_view}
 use Rattle.chr_machine.proofs.Runs.{start_state}

@@ -1,4 +1,4 @@
-use Rattle.std.proofs.Common.{◌≡◌, ◌<◌, arith}
+use Rattle.std.proofs.Common.{arith}
 use Rattle.chr_machine.proofs.Moved.{moved, put_back, thin_moved, thin_kept, thin_topped}
 use Rattle.chr_machine.proofs.state.Execution.step.Goals as goal
 

@@ -1,4 +1,4 @@
-use Rattle.std.proofs.Common.{◌≡◌, ◌+◌, ◌∙◌, length, arith}
+use Rattle.std.proofs.Common.{◌≡◌, ◌+◌, length, arith}
 use Rattle.chr_machine.proofs.Rows.{rows_from-put}
 use Rattle.chr_machine.proofs.store.Store.add_reserved.Goals as goal
 

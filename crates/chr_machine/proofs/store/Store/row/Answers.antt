@@ -1,4 +1,4 @@
-use Rattle.std.proofs.Common.{◌≡◌, ◌∙◌, ◌+◌, sym, arith}
+use Rattle.std.proofs.Common.{◌∙◌, sym, arith}
 use Rattle.chr_machine.proofs.Rows.{atom_of-slot, atom-copied}
 use Rattle.chr_machine.proofs.store.Store.row.Goals as goal
 

@@ -1,4 +1,4 @@
-use Rattle.std.proofs.Common.{◌≡◌, ◌<◌, ◌≤◌, ◌+◌, length, arith}
+use Rattle.std.proofs.Common.{◌<◌, ◌≤◌, ◌+◌, length, arith}
 use Rattle.chr_machine.proofs.Rows.{atom_of-below, atom_of-past, filter-below, filter-past}
 use Rattle.chr_machine.proofs.store.Store.slot_of.Goals as goal
 

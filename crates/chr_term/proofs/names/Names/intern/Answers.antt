@@ -1,4 +1,4 @@
-use Rattle.std.proofs.Common.{sym, ap, ◌∙◌, arith}
+use Rattle.std.proofs.Common.{ap, ◌∙◌, arith}
 use Rattle.chr_term.specs.Entries.{entry_names}
 use Rattle.chr_term.specs.Texts.{texts_of}
 use Rattle.chr_term.proofs.Tables.{entry_names-with_text, entry_names-interned, IsTable-with_text, IsTable-interned, length-entries, symbol_of-interned}

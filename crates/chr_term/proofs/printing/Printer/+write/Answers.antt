@@ -16,8 +16,8 @@ write_operator-returns g t c =
     let left = shown names vars (view c.args.left.now) in
     let right = shown names vars (view c.args.right.now) in
     joined_on_ok c.write_wrapped-2.result c.args.out.now.items c.write_wrapped.new.out.items c.write_sign.new.out.items (wrapped c.wraps_right.result right.text)
-        (left_text c.args.product left) (sign_of c.args.sym.0) (right_text c.args.product right) c.write_wrapped-2.new.out.items
-        (c.in_ok-write_wrapped.ensures ∙ ap (λ b. c.args.out.now.items ++ wrapped b left.text) (c.wraps_left.ensures names vars))
-        c.in_ok-write_sign.ensures
-        (ap (λ b. wrapped b right.text) (c.wraps_right.ensures names vars))
-        c.write_wrapped-2.ensures
+    (left_text c.args.product left) (sign_of c.args.sym.0) (right_text c.args.product right) c.write_wrapped-2.new.out.items
+    (c.in_ok-write_wrapped.ensures ∙ ap (λ b. c.args.out.now.items ++ wrapped b left.text) (c.wraps_left.ensures names vars))
+    c.in_ok-write_sign.ensures
+    (ap (λ b. wrapped b right.text) (c.wraps_right.ensures names vars))
+    c.write_wrapped-2.ensures

@@ -1,4 +1,4 @@
-use Rattle.std.proofs.Common.{◌≡◌, ℕ, ◌+◌, ◌*◌, ◌++◌, drop}
+use Rattle.std.proofs.Common.{◌≡◌, ◌+◌, ◌*◌, ◌++◌, drop}
 use Rattle.chr_semantics.specs.Print.{texts_from, shown_all}
 use Rattle.chr_term.specs.View.{view, trees_view}
 use Rattle.chr_term.proofs.Sizes.{size, sizes}

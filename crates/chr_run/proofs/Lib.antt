@@ -1,0 +1,4 @@
+pub mod Parts
+pub mod Lines
+pub mod Bodies
+pub mod Ends

@@ -1,0 +1,47 @@
+-- Bytes that go out in parts.
+use Rattle.std.proofs.Common.{◌≡◌, ◌∙◌, ℕ, ◌++◌, List, [], Option, Some, None, refl, ap, sym, append-nil, append_assoc}
+use Rattle.std.specs.Io.KnownBytes.{Appends, Keeps}
+use Rattle.chr_run.specs.Output.{IsOut}
+
+appends-none : (old : Option (List ℕ)) → Appends old old []
+appends-none None = tt
+appends-none (Some xs) = sym (append-nil xs)
+
+appends-both : (old mid new : Option (List ℕ)) (a b : List ℕ) → Appends old mid a → Appends mid new b → Appends old new (a ++ b)
+appends-both None mid new a b h k = tt
+appends-both (Some xs) None new a b h k = absurd h
+appends-both (Some xs) (Some ys) None a b h k = absurd k
+appends-both (Some xs) (Some ys) (Some zs) a b h k = k ∙ (ap (λ ws. ws ++ b) h ∙ append_assoc xs a b)
+
+appends-kept : (old mid new : Option (List ℕ)) (a : List ℕ) → Appends old mid a → Keeps mid new → Appends old new a
+appends-kept None mid new a h k = tt
+appends-kept (Some xs) None new a h k = absurd h
+appends-kept (Some xs) (Some ys) None a h k = absurd k
+appends-kept (Some xs) (Some ys) (Some zs) a h k = k ∙ h
+
+-- nothing is out yet
+pub out-none : (old : Option (List ℕ)) (bytes : List ℕ) → IsOut old old bytes bytes
+out-none old bytes = record { out = []; whole = refl; appends = appends-none old }
+
+-- one more part
+pub out-more : (old mid new : Option (List ℕ)) (bytes rest front back : List ℕ) → IsOut old mid bytes rest → rest ≡ front ++ back → Appends mid new front → IsOut old new bytes back
+out-more old mid new bytes rest front back h split k = record {
+  out = h.out ++ front;
+  whole = h.whole ∙ (ap (λ xs. h.out ++ xs) split ∙ sym (append_assoc h.out front back));
+  appends = appends-both old mid new h.out front h.appends k;
+}
+
+-- and where nothing more goes out
+pub out-kept : (old mid new : Option (List ℕ)) (bytes rest : List ℕ) → IsOut old mid bytes rest → Keeps mid new → IsOut old new bytes rest
+out-kept old mid new bytes rest h k = record { out = h.out; whole = h.whole; appends = appends-kept old mid new h.out h.appends k }
+
+-- all is out where nothing is left
+pub out-all : (old new : Option (List ℕ)) (bytes rest : List ℕ) → IsOut old new bytes rest → rest ≡ [] → Appends old new bytes
+out-all old new bytes rest h none =
+    let all : bytes ≡ h.out = h.whole ∙ (ap (λ xs. h.out ++ xs) none ∙ append-nil h.out) in
+    rw all h.appends
+
+-- where nothing went out, the known bytes are as before
+pub keeps_same : (old : Option (List ℕ)) → Keeps old old
+keeps_same None = tt
+keeps_same (Some xs) = refl

@@ -1,0 +1,5 @@
+pub mod Output
+pub mod Signs
+pub mod Stored
+pub mod Body
+pub mod Run

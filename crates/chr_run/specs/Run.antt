@@ -1,0 +1,32 @@
+-- What a run answers, and what goes out.
+use Rattle.std.specs.Prelude.{◌≡◌, ℕ, ◌<◌, ◌≤◌, List, Option, Result, Ok, Err}
+use Rattle.std.specs.Io.KnownBytes.{Appends, Keeps}
+use Rattle.chr_semantics.specs.Names.{Names}
+use Rattle.chr_semantics.specs.Program as semantics
+use Rattle.chr_semantics.specs.State.{start}
+use Rattle.chr_semantics.specs.Step.{after}
+use Rattle.chr_semantics.specs.Text.{text}
+use Rattle.chr_machine.specs.State.{status_view}
+use Rattle.chr_machine.specs.declared.state.Status.{Status}
+use Rattle.chr_run.specs.Output.{AppendsPart}
+use Rattle.chr_run.specs.declared.texts.RunError.{RunError}
+use Rattle.chr_run.specs.declared.texts.RunError.TheVariants.{BudgetTooLarge, TooManyWorkers, Memory}
+use Rattle.chr_run.specs.declared.texts.TextError.{TextError}
+use Rattle.chr_run.specs.declared.texts.TextError.TheVariants.{Run, Write}
+
+-- the budget is at most 1,000,000, and there is no worker
+abbrev pub WithinLimits : ℕ → ℕ → Type 0
+WithinLimits n workers = (n ≤ 1000000) × (workers ≡ 0)
+
+-- when each refusal of a run comes: the budget is looked at before the workers, and both before memory is asked for
+abbrev pub RefusedRun : ℕ → ℕ → RunError → Type 0
+RefusedRun n workers BudgetTooLarge = 1000000 < n
+RefusedRun n workers TooManyWorkers = (n ≤ 1000000) × (0 < workers)
+RefusedRun n workers Memory = WithinLimits n workers
+
+-- what an answer says of the bytes that the writer tells: all of the text of n transitions and its status, a first part of it after
+-- Write, and nothing after another refusal
+abbrev pub IsInto : Names → semantics.Program → semantics.Query → ℕ → ℕ → Option (List ℕ) → Option (List ℕ) → Result Status TextError → Type 0
+IsInto names p q n workers old new (Ok status) = WithinLimits n workers × Appends old new (text names p q n) × (status_view status ≡ (after p (start q) n).status)
+IsInto names p q n workers old new (Err (Run e)) = RefusedRun n workers e × Keeps old new
+IsInto names p q n workers old new (Err Write) = WithinLimits n workers × AppendsPart old new (text names p q n)
