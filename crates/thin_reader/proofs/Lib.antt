@@ -1,0 +1,10 @@
+pub mod Calls
+pub mod Counts
+pub mod Meanings
+pub mod Complete
+pub mod Sound
+pub mod Least
+pub mod OneHead
+pub mod Means
+pub mod Spelled
+pub mod ReadTexts

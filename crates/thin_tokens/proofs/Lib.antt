@@ -1,0 +1,4 @@
+-- The lemmas.
+pub mod Capped
+pub mod Comments
+pub mod Cuts

@@ -1,0 +1,3 @@
+-- What the contracts cite.
+pub mod Tokens
+pub mod View
