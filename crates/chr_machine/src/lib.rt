@@ -14,6 +14,9 @@ mod steps;
 mod store;
 
 pub use machine::Machine;
-pub use program::{Goal, Occurrence, Op, Program, Query, Rule};
+pub use program::{Goal, Occurrence, Op, Program, Query, Rule, copy_goals, heads_fit};
 pub use state::{Elem, Fault, Fired, Status, Stepped};
 pub use store::{Id, Row, Store};
+
+#[cfg(test)]
+mod tests;

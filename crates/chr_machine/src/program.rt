@@ -1,5 +1,5 @@
 //! Rules, programs and queries as the machine takes them.
-ghost use Rattle.std.specs.Prelude.{◌≡◌, ◌<◌, ◌^◌, ◌++◌, ◌∷◌, [], ◌==◌, ℕ, if◌then◌else◌, IfOk, IfSome, OnOk, OnSome, Some, length, map, option_map, slice_get, vec_len};
+ghost use Rattle.std.specs.Prelude.{◌≡◌, ◌<◌, ◌↔◌, ◌^◌, ◌++◌, ◌∷◌, [], ◌==◌, ℕ, if◌then◌else◌, IfOk, IfSome, IsTrue, OnOk, OnSome, Some, length, map, option_map, slice_get, vec_len};
 ghost use Rattle.chr_semantics.specs.Program.{occurrence, occurrences, occurrences_in};
 ghost use Rattle.chr_machine.specs.Fragment.{is_thin_program};
 ghost use Rattle.chr_machine.specs.Index.{AreListed, head_count, listed, pair_of, pair_view, pairs_of, pairs_view};
@@ -211,6 +211,21 @@ fn is_passive<A: Allocator>(rule: &Rule<A>, place: usize) -> bool
     } else {
         false
     }
+}
+
+/// Whether the rules have fewer than 2^31 heads together, which a program has to have.
+pub fn heads_fit<A: Allocator>(rules: &[Rule<A>]) -> bool
+    ensures { IsTrue result ↔ (head_count (rules_view rules.now) < 2 ^ 31) }
+{
+    let mut room: usize = 2_147_483_647;
+    for rule in rules {
+        let heads = rule.heads.len();
+        if heads > room {
+            return false;
+        }
+        room -= heads;
+    }
+    true
 }
 
 /// The occurrences of each symbol.

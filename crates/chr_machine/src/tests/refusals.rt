@@ -1,0 +1,307 @@
+//! Each growth of a call refused in turn: what stands after the refusal, and that the call then goes on.
+use super::*;
+use chr_term::{same, same_all};
+use refusing_alloc::Refusing;
+use std::alloc::Global;
+
+/// More growths than a call of these tests asks for.
+const AMPLE: u64 = 1_000_000;
+
+/// More than a call that is refused in turn asks for.
+const MOST: u64 = 200;
+
+fn same_goal<A: Allocator, B: Allocator>(left: &Goal<A>, right: &Goal<B>) -> bool {
+    match (left, right) {
+        (Goal::Chr(f, xs), Goal::Chr(g, ys)) => f.0 == g.0
+            && same_all(xs.as_slice(), ys.as_slice()),
+        (Goal::Told(f, s, t), Goal::Told(g, u, v)) => *f == *g && same(s, u) && same(t, v),
+        (Goal::Fail, Goal::Fail) => true,
+        _ => false,
+    }
+}
+
+fn same_goals<A: Allocator, B: Allocator>(left: &[Goal<A>], right: &[Goal<B>]) -> bool {
+    if left.len() != right.len() {
+        return false;
+    }
+    for k in 0..left.len() {
+        if !same_goal(&left[k], &right[k]) {
+            return false;
+        }
+    }
+    true
+}
+
+/// On the stack, given identities and entries of the history, before the first transition of `ground_rule` and after each.
+const GROUND_SIZES: [(usize, usize, usize); 8] = [
+    (2, 0, 0),
+    (2, 1, 0),
+    (2, 1, 1),
+    (2, 2, 1),
+    (1, 2, 1),
+    (1, 3, 1),
+    (1, 3, 1),
+    (0, 3, 1),
+];
+
+fn assert_rows_after<A: Allocator>(rt: &impl Abort, store: &Store<A>, done: usize) {
+    assert_eq!(rt; has_row(store, 1, P, 1), done == 1);
+    assert_eq!(rt; has_row(store, 2, Q, 2), done >= 3);
+    assert_eq!(rt; has_row(store, 3, P, 2), done >= 5);
+}
+
+/// Asserts that the machine stands where `ground_rule` does after so many transitions.
+fn assert_after<A: Allocator>(rt: &impl Abort, machine: &Machine<A>, done: usize) {
+    assert!(rt; done <= 7);
+    let status = if done < 7 {
+        Status::Running
+    } else {
+        Status::Done
+    };
+    assert_stands(rt, machine, status, done as u64);
+    assert_lines(rt, machine, &GROUND_LINES[..done]);
+    assert_sizes(rt, machine, GROUND_SIZES[done]);
+    assert_rows_after(rt, machine.store(), done);
+}
+
+/// The number of transitions, with no clause.
+fn steps_of<A: Allocator>(machine: &Machine<A>) -> usize {
+    machine.steps() as usize
+}
+
+/// Whether `of_rules` goes through with so many growths.
+fn program_made(meter: &Refusing<Global>, rt: &impl Abort, left: u64) -> Result<bool, Memory> {
+    meter.allow(AMPLE);
+    let names = own_names(meter, rt)?;
+    let rules = ground_rules(meter)?;
+    assert!(rt; heads_fit(rules.as_slice()));
+    meter.allow(left);
+    match Program::of_rules(meter, names, rules) {
+        Ok(program) => {
+            assert_eq!(rt; program.occurrences(P).len(), 1);
+            Ok(true)
+        }
+        Err(_) => Ok(false),
+    }
+}
+
+#[test]
+fn of_rules_refused(rt: HostRuntime) -> Result<(), Fail> {
+    let meter = Refusing::new(rt.alloc(), 0);
+    let mut refused = 0;
+    for left in 0..MOST {
+        if program_made(&meter, &rt, left)? {
+            break;
+        }
+        refused = left + 1;
+    }
+    assert!(&rt; refused > 1 && refused < MOST, "{refused}");
+    Ok(())
+}
+
+/// A goal of each kind.
+fn each_goal<A: Allocator + Copy>(alloc: A) -> Result<Vec<Goal<A>, A>, Memory> {
+    let mut goals = goals_of(alloc, &[(P, 1), (Q, 2)])?;
+    let left = Term::Node(P, one(alloc, Term::Int(3))?);
+    let right = Term::Node(Q, one(alloc, Term::Var(0))?);
+    goals.push(Goal::Told(Op::Is, left, right))?;
+    goals.push(Goal::Fail)?;
+    Ok(goals)
+}
+
+/// Whether `copy_goals` goes through with so many growths.
+fn goals_copied(meter: &Refusing<Global>, rt: &impl Abort, left: u64) -> Result<bool, Memory> {
+    meter.allow(AMPLE);
+    let goals = each_goal(meter)?;
+    meter.allow(left);
+    match copy_goals(meter, goals.as_slice()) {
+        Ok(copied) => {
+            assert!(rt; same_goals(copied.as_slice(), goals.as_slice()));
+            Ok(true)
+        }
+        Err(_) => Ok(false),
+    }
+}
+
+#[test]
+fn copy_goals_refused(rt: HostRuntime) -> Result<(), Fail> {
+    let meter = Refusing::new(rt.alloc(), 0);
+    let mut refused = 0;
+    for left in 0..MOST {
+        if goals_copied(&meter, &rt, left)? {
+            break;
+        }
+        refused = left + 1;
+    }
+    assert!(&rt; refused > 4 && refused < MOST, "{refused}");
+    Ok(())
+}
+
+/// Whether `Machine::start` goes through with so many growths.
+fn machine_made(meter: &Refusing<Global>, rt: &impl Abort, left: u64) -> Result<bool, Memory> {
+    meter.allow(AMPLE);
+    let program = ground_program(meter, rt)?;
+    let query = ground_query(meter)?;
+    meter.allow(left);
+    match started(meter, rt, &program, query) {
+        Ok(machine) => {
+            assert_stands(rt, &machine, Status::Running, 0);
+            assert_sizes(rt, &machine, (2, 0, 0));
+            Ok(true)
+        }
+        Err(_) => Ok(false),
+    }
+}
+
+#[test]
+fn start_refused(rt: HostRuntime) -> Result<(), Fail> {
+    let meter = Refusing::new(rt.alloc(), 0);
+    let mut refused = 0;
+    for left in 0..MOST {
+        if machine_made(&meter, &rt, left)? {
+            break;
+        }
+        refused = left + 1;
+    }
+    assert!(&rt; refused > 0 && refused < MOST, "{refused}");
+    Ok(())
+}
+
+/// Makes the rest of the run with ample memory.
+fn go_on(
+    meter: &Refusing<Global>,
+    rt: &impl Abort,
+    machine: &mut Machine<&Refusing<Global>>,
+) -> Result<(), Memory> {
+    meter.allow(AMPLE);
+    assert_eq!(rt; run_alone(machine, 100)?, Stepped::Ended);
+    assert_ground_end(rt, machine);
+    Ok(())
+}
+
+/// Whether the step after so many transitions goes through with so many growths. The run then ends as ever.
+fn is_stepped(
+    meter: &Refusing<Global>,
+    rt: &impl Abort,
+    machine: &mut Machine<&Refusing<Global>>,
+    done: usize,
+    left: u64,
+) -> Result<bool, Memory> {
+    run_alone(machine, done as u64)?;
+    meter.allow(left);
+    let made = step(machine).is_ok();
+    assert_after(rt, machine, done.saturating_add(made as usize));
+    go_on(meter, rt, machine)?;
+    Ok(made)
+}
+
+/// The same with a new machine.
+fn step_made(
+    meter: &Refusing<Global>,
+    rt: &impl Abort,
+    done: usize,
+    left: u64,
+) -> Result<bool, Memory> {
+    meter.allow(AMPLE);
+    let program = ground_program(meter, rt)?;
+    let query = ground_query(meter)?;
+    let mut machine = started(meter, rt, &program, query)?;
+    is_stepped(meter, rt, &mut machine, done, left)
+}
+
+#[test]
+fn step_refused(rt: HostRuntime) -> Result<(), Fail> {
+    let meter = Refusing::new(rt.alloc(), 0);
+    for done in 0..7usize {
+        let mut refused = 0;
+        for left in 0..MOST {
+            if step_made(&meter, &rt, done, left)? {
+                break;
+            }
+            refused = left + 1;
+        }
+        assert!(&rt; refused > 1 && refused < MOST, "{refused} after {done}");
+    }
+    Ok(())
+}
+
+/// Whether `run_alone` goes through with so many growths. It stands after whole transitions, and then ends as ever.
+fn is_run(
+    meter: &Refusing<Global>,
+    rt: &impl Abort,
+    machine: &mut Machine<&Refusing<Global>>,
+    left: u64,
+) -> Result<bool, Memory> {
+    meter.allow(left);
+    let made = run_alone(machine, 100).is_ok();
+    let done = steps_of(machine);
+    assert_eq!(rt; made, done == 7);
+    assert_after(rt, machine, done);
+    go_on(meter, rt, machine)?;
+    Ok(made)
+}
+
+/// The same with a new machine.
+fn run_made(meter: &Refusing<Global>, rt: &impl Abort, left: u64) -> Result<bool, Memory> {
+    meter.allow(AMPLE);
+    let program = ground_program(meter, rt)?;
+    let query = ground_query(meter)?;
+    let mut machine = started(meter, rt, &program, query)?;
+    is_run(meter, rt, &mut machine, left)
+}
+
+#[test]
+fn run_alone_refused(rt: HostRuntime) -> Result<(), Fail> {
+    let meter = Refusing::new(rt.alloc(), 0);
+    let mut refused = 0;
+    for left in 0..MOST {
+        if run_made(&meter, &rt, left)? {
+            break;
+        }
+        refused = left + 1;
+    }
+    assert!(&rt; refused > 7 && refused < MOST, "{refused}");
+    Ok(())
+}
+
+/// Adds `p(n)` as the constraint n, at first with no growth left, and says whether that was refused.
+fn is_add_refused<'m>(
+    meter: &'m Refusing<Global>,
+    rt: &impl Abort,
+    store: &mut Store<&'m Refusing<Global>>,
+    number: u32,
+) -> Result<bool, Memory> {
+    let given = store.slots().len();
+    meter.allow(AMPLE);
+    let args = one(meter, Term::Int(number as i128))?;
+    meter.allow(0);
+    match store.add(P, args) {
+        Ok(id) => {
+            assert_eq!(rt; id.0, number as u64);
+            Ok(false)
+        }
+        Err((back, _)) => {
+            assert!(rt; is_number(back.as_slice(), number as i128));
+            assert_eq!(rt; store.slots().len(), given);
+            assert!(rt; !store.alive(Id(number as u64)));
+            meter.allow(1);
+            assert!(rt; store.add(P, back).is_ok());
+            Ok(true)
+        }
+    }
+}
+
+#[test]
+fn add_refused(rt: HostRuntime) -> Result<(), Fail> {
+    let meter = Refusing::new(rt.alloc(), 0);
+    let mut store = Store::new(&meter);
+    let mut refused = 0u64;
+    for number in 1..100u32 {
+        if is_add_refused(&meter, &rt, &mut store, number)? {
+            refused = refused.saturating_add(1);
+        }
+        assert!(&rt; has_row(&store, number as u64, P, number as i128));
+    }
+    assert!(&rt; refused > 1 && refused < 99, "{refused}");
+    Ok(())
+}
