@@ -3,3 +3,5 @@ pub mod Signs
 pub mod Stored
 pub mod Body
 pub mod Run
+pub mod Texts
+pub mod Command

@@ -12,7 +12,7 @@ use Rattle.chr_run.specs.Output.{AppendsPart}
 use Rattle.chr_run.specs.declared.texts.RunError.{RunError}
 use Rattle.chr_run.specs.declared.texts.RunError.TheVariants.{BudgetTooLarge, TooManyWorkers, Memory}
 use Rattle.chr_run.specs.declared.texts.TextError.{TextError}
-use Rattle.chr_run.specs.declared.texts.TextError.TheVariants.{Run, Write}
+use Rattle.chr_run.specs.declared.texts.TextError.TheVariants.{Run, NotYet, Write}
 
 -- the budget is at most 1,000,000, and there is no worker
 abbrev pub WithinLimits : ℕ → ℕ → Type 0
@@ -25,8 +25,9 @@ RefusedRun n workers TooManyWorkers = (n ≤ 1000000) × (0 < workers)
 RefusedRun n workers Memory = WithinLimits n workers
 
 -- what an answer says of the bytes that the writer tells: all of the text of n transitions and its status, a first part of it after
--- Write, and nothing after another refusal
+-- Write, and nothing after another refusal; a program and a query that are there are never refused as texts
 abbrev pub IsInto : Names → semantics.Program → semantics.Query → ℕ → ℕ → Option (List ℕ) → Option (List ℕ) → Result Status TextError → Type 0
 IsInto names p q n workers old new (Ok status) = WithinLimits n workers × Appends old new (text names p q n) × (status_view status ≡ (after p (start q) n).status)
 IsInto names p q n workers old new (Err (Run e)) = RefusedRun n workers e × Keeps old new
 IsInto names p q n workers old new (Err Write) = WithinLimits n workers × AppendsPart old new (text names p q n)
+IsInto names p q n workers old new (Err NotYet) = ⊥

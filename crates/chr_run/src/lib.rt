@@ -3,6 +3,11 @@
 
 mod outcome;
 mod output;
+mod program;
 mod texts;
 
-pub use texts::{RunError, TextError, run_into};
+pub use program::command;
+pub use texts::{RunError, TextError, run_into, run_text};
+
+#[cfg(test)]
+mod tests;

@@ -13,13 +13,14 @@ use std::alloc::Allocator;
 fn is_lower(byte: u8) -> bool
     ensures { result ≡ is_lower byte }
 {
-    byte >= 97 && byte <= 122
+    byte >= b'a' && byte <= b'z'
 }
 
 fn is_word_byte(byte: u8) -> bool
     ensures { result ≡ is_word_byte byte }
 {
-    is_lower(byte) || (byte >= 65 && byte <= 90 || (byte >= 48 && byte <= 57 || byte == 95))
+    is_lower(byte)
+        || (byte >= b'A' && byte <= b'Z' || (byte >= b'0' && byte <= b'9' || byte == b'_'))
 }
 
 fn are_word_bytes(bytes: &[u8]) -> bool
