@@ -145,7 +145,8 @@ solved_makes_equal (suc n) s (e ∷ es) r is h k =
       (rx, apart_under_equal (value_at r) (one x u) es solves (subst (HoldsIn (value_at r)) (sym w.1.1) m.2)),
     )
 
-from_apart : (n : ℕ) (s : Subst) (a b : Tree) (o : Option Equations) (r : Subst) → solved_from n s o ≡ Some r → apart a b ≡ o → IsSolved s → apply s a ≡ a → apply s b ≡ b → IsSolved r × Solves (value_at r) s × (apply r a ≡ apply r b)
+-- so it is with the equations of two terms, whatever number bounds the eliminations
+pub from_apart : (n : ℕ) (s : Subst) (a b : Tree) (o : Option Equations) (r : Subst) → solved_from n s o ≡ Some r → apart a b ≡ o → IsSolved s → apply s a ≡ a → apply s b ≡ b → IsSolved r × Solves (value_at r) s × (apply r a ≡ apply r b)
 from_apart n s a b None r is o h i j = cc
 from_apart n s a b (Some es) r is o h i j =
     let m = solved_makes_equal n s es r is h (subst (UnderIn s) o (apart_stays s a b i j)) in

@@ -1,0 +1,11 @@
+mod Links
+mod Lists
+mod Seen
+mod Changed
+mod Binds
+mod Equations
+mod Agenda
+mod Views
+mod Told
+mod Fresh
+mod Values

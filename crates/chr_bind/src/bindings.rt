@@ -1,0 +1,184 @@
+//! The bindings of variables, seen by contracts as one solved substitution.
+ghost use Rattle.std.specs.Prelude.{◌≡◌, ◌≤◌, ◌<◌, ◌+◌, [], IfOk, OnErr, OnOk, IsTrue, ◌↔◌, length, vec_len, vec_capacity};
+ghost use Rattle.chr_semantics.specs.Tree.{is_ground_tree};
+ghost use Rattle.chr_semantics.specs.Subst.{apply};
+ghost use Rattle.chr_term.specs.View.{view};
+ghost use Rattle.chr_bind.specs.Terms.{IsBelow};
+ghost use Rattle.chr_bind.specs.Chains.{AreSound, IsSound, Pairs, subst_of};
+ghost use Rattle.chr_bind.specs.Unified.{IsAnswer, IsUnified};
+
+use crate::Memory;
+use crate::chains::{Chains, Link};
+use crate::unification::{Told, take_over, unified};
+use chr_term::Term;
+use std::alloc::{Allocator, Global};
+use std::marker::Model;
+
+/// What a unification did.
+#[derive(Clone, Copy, PartialEq, Eq, Debug, Drop)]
+pub enum Unified {
+    /// Both terms stood for one term already.
+    Same,
+    /// They do now: the bindings are the most general ones.
+    Bound,
+    /// Nothing makes them equal.
+    Clash,
+}
+
+/// The bindings of the variables below `len`. Contracts see one solved substitution, and the number `spare` of further variables that
+/// take no memory.
+#[derive(Drop)]
+pub struct Bindings<A: Allocator = Global> {
+    links: Vec<Link, A>,
+    made: Vec<(u64, Term<A>), A>,
+    alloc: A,
+}
+
+impl<A: Allocator> Model for Bindings<A> {
+    ghost use Rattle.chr_bind.specs.Standing.{Standing, standing_code};
+
+    ghost Value = { Standing };
+
+    ghost coded = { standing_code };
+
+    ghost use Rattle.std.specs.Prelude.{vec_len, vec_capacity, ◌-◌};
+    ghost use Rattle.chr_bind.specs.Chains.{IsSound, owned_pairs, solution};
+
+    ghost view = { λ b. record { len = vec_len b.links; subst = solution (owned_pairs b.made.items); spare = vec_capacity b.links - vec_len b.links } };
+
+    ghost invariant = { λ b. IsSound b.links.items (owned_pairs b.made.items) };
+}
+
+impl<A: Allocator + Copy> Bindings<A> {
+    /// No variable, and nothing bound.
+    pub fn new(alloc: A) -> Bindings<A>
+        ensures len { result.len ≡ 0 }
+        ensures subst { result.subst ≡ [] }
+    {
+        Bindings {
+            links: Vec::new(alloc),
+            made: Vec::new(alloc),
+            alloc,
+        }
+    }
+
+    /// The term with what its variables stand for put in.
+    pub fn resolve(&self, term: &Term<A>) -> Result<Term<A>, Memory>
+        ensures { IfOk result (λ resolved. view resolved ≡ apply self.now.subst (view term.now)) }
+    {
+        self.chains().resolved(self.alloc, term)
+    }
+
+    /// Makes two terms equal, with the occurs check; of two free variables the greater is bound to the lesser. After `Clash`, and where
+    /// memory is refused, the bindings are as before.
+    pub fn unify(&mut self, left: &Term<A>, right: &Term<A>) -> Result<Unified, Memory>
+        requires left { IsBelow self.old.len (view left.now) }
+        requires right { IsBelow self.old.len (view right.now) }
+        ensures unified { IfOk result (IsUnified (view left.now) (view right.now) self.old.subst self.new.subst) }
+        ensures refused { OnErr result (self.new.subst ≡ self.old.subst) }
+        ensures len { self.new.len ≡ self.old.len }
+        ensures spare { self.new.spare ≡ self.old.spare }
+    {
+        let (links, made) = (self.links.as_mut_slice(), self.made.as_slice());
+        let told = match unified(self.alloc, links, made, left, right)? {
+            None => return Ok(Unified::Clash),
+            Some(told) => told,
+        };
+        let answer = answer_of(&told);
+        take_over(self.links.as_mut_slice(), &mut self.made, told)?;
+        Ok(answer)
+    }
+}
+
+impl<A: Allocator> Bindings<A> {
+    /// How many variables there are.
+    pub fn len(&self) -> u64
+        ensures { result ≡ self.now.len }
+    {
+        self.links.len() as u64
+    }
+
+    /// Whether there is no variable.
+    pub fn is_empty(&self) -> bool
+        ensures { IsTrue result ↔ (self.now.len ≡ 0) }
+    {
+        self.links.is_empty()
+    }
+
+    /// Makes room for that many further variables, and changes nothing else.
+    pub fn room(&mut self, count: usize) -> Result<(), Memory>
+        ensures len { self.new.len ≡ self.old.len }
+        ensures subst { self.new.subst ≡ self.old.subst }
+        ensures spare { OnOk result (count ≤ self.new.spare) }
+        ensures no_less { self.old.spare ≤ self.new.spare }
+    {
+        self.links.reserve(count)
+    }
+
+    /// That many new variables, and the number of the first. Where memory is refused, there are none. It takes no memory where there is
+    /// room for them.
+    pub fn fresh(&mut self, count: usize) -> Result<u64, Memory>
+        ensures first { IfOk result (λ first. first ≡ self.old.len) }
+        ensures len { OnOk result (self.new.len ≡ self.old.len + count) }
+        ensures spare { count ≤ self.old.spare → self.new.spare + count ≡ self.old.spare }
+        ensures no_less { self.old.spare ≤ self.new.spare + count }
+        ensures subst { self.new.subst ≡ self.old.subst }
+        ensures refused { OnErr result ((self.new.len ≡ self.old.len) × (self.old.spare < count) × (self.old.spare ≤ self.new.spare)) }
+    {
+        if self.links.capacity() - self.links.len() < count {
+            self.room(count)?;
+        }
+        let first = self.len();
+        add_free(&mut self.links, count);
+        Ok(first)
+    }
+
+    /// Whether the term stands for one with no variable.
+    pub fn ground(&self, term: &Term<A>) -> bool
+        ensures { result ≡ is_ground_tree (apply self.now.subst (view term.now)) }
+    {
+        self.chains().is_ground(term)
+    }
+
+    /// Whether the first term, resolved, is the second.
+    pub fn resolves_to(&self, term: &Term<A>, other: &Term<A>) -> bool
+        ensures { IsTrue result ↔ (apply self.now.subst (view term.now) ≡ view other.now) }
+    {
+        self.chains().resolves_to(term, other)
+    }
+
+    fn chains(&self) -> Chains<'_, '_, A>
+        ensures sound { AreSound result }
+        ensures subst { subst_of result ≡ self.now.subst }
+    {
+        Chains {
+            links: self.links.as_slice(),
+            made: self.made.as_slice(),
+            told: &[],
+        }
+    }
+}
+
+/// The answer of a unification that is possible.
+fn answer_of<A: Allocator>(told: &Told<A>) -> Unified
+    ensures { IsAnswer (length told.now.pairs.items) result }
+{
+    if told.pairs.is_empty() {
+        Unified::Same
+    } else {
+        Unified::Bound
+    }
+}
+
+/// Adds that many free variables, for which there is room.
+fn add_free<A: Allocator>(links: &mut Vec<Link, A>, count: usize)
+    requires room { vec_len links.old + count ≤ vec_capacity links.old }
+    ensures sound { (pairs : Pairs) → IsSound links.old.items pairs → IsSound links.new.items pairs }
+    ensures len { vec_len links.new ≡ vec_len links.old + count }
+    ensures capacity { vec_capacity links.new ≡ vec_capacity links.old }
+{
+    for _ in 0..count {
+        let name = links.len() as u64;
+        links.push_reserved(Link::Free(name, 1));
+    }
+}

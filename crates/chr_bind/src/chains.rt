@@ -1,0 +1,221 @@
+//! Bindings that are followed: terms stay as they were told, and nothing is replaced in them.
+ghost use Rattle.std.specs.Prelude.{◌≡◌, ◌<◌, ◌↔◌, IfOk, IsTrue, Some, ℕ, length, option_map, slice_get};
+ghost use Rattle.chr_semantics.specs.Tree.{Tree, is_ground_tree, is_ground_trees, var as variable};
+ghost use Rattle.chr_semantics.specs.Subst.{apply, occurs, occurs_any, replaced_all, value_at};
+ghost use Rattle.chr_term.specs.View.{trees_view, view};
+ghost use Rattle.chr_bind.specs.Chains.{AreSound, IsEnd, pairs_of, subst_of};
+ghost use Rattle.chr_bind.specs.Seen.{IsSeen, IsShown};
+ghost use Rattle.chr_bind.specs.Terms.{IsNoVar};
+
+use chr_term::{Memory, Sym, Term};
+use std::alloc::Allocator;
+
+/// How the class of a variable goes on from it. A class is the variables that stand for one another.
+#[derive(Clone, Copy, Drop)]
+pub(crate) enum Link {
+    /// The class ends here and is free: its least variable, and about how many it has.
+    Free(u64, u64),
+    /// It goes on at another variable of the class, since the binding of this number.
+    Follows(usize, usize),
+    /// The class ends here and stands for the term of the binding of this number.
+    Bound(usize),
+}
+
+/// The bindings as they are read: those that stand, and behind them those that a unification has told since.
+#[derive(Drop)]
+pub(crate) struct Chains<'l, 't, A: Allocator> {
+    pub links: &'l [Link],
+    pub made: &'t [(u64, Term<A>)],
+    pub told: &'l [(u64, &'t Term<A>)],
+}
+
+/// The root of a term under the bindings.
+#[derive(Drop)]
+pub(crate) enum Seen<'t, A: Allocator> {
+    /// A free class by the place of its link, and its least variable.
+    Free(usize, u64),
+    Int(i128),
+    Node(Sym, &'t [Term<A>]),
+}
+
+impl<'l, 't, A: Allocator> Chains<'l, 't, A> {
+    /// Where the class of a variable ends. Classes are joined by size, so the way is short.
+    pub fn end(&self, var: usize) -> usize
+        requires sound { AreSound self.now }
+        requires known { var < length self.now.links.now }
+        ensures { IsEnd self.now var result }
+    {
+        match self.links[var] {
+            Link::Follows(next, _) => self.end(next),
+            Link::Free(_, _) => var,
+            Link::Bound(_) => var,
+        }
+    }
+
+    /// The term of a binding.
+    fn term(&self, number: usize) -> &'t Term<A>
+        requires { number < length (pairs_of self.now) }
+        ensures { option_map (λ (e : ℕ × Tree). e.1) (slice_get (pairs_of self.now) number) ≡ Some (view result.now) }
+    {
+        if number < self.made.len() {
+            &self.made[number].1
+        } else {
+            self.told[number - self.made.len()].1
+        }
+    }
+
+    /// What a variable stands for.
+    fn value(&self, var: u64) -> Seen<'t, A>
+        requires { AreSound self.now }
+        ensures { IsSeen self.now (variable var) result }
+    {
+        let place = var as usize;
+        if place >= self.links.len() {
+            return Seen::Free(place, var);
+        }
+        let end = self.end(place);
+        match self.links[end] {
+            Link::Free(name, _) => Seen::Free(end, name),
+            Link::Follows(_, _) => unreachable!(),
+            Link::Bound(number) => shown(self.term(number)),
+        }
+    }
+
+    /// The root of a term.
+    pub fn seen(&self, term: &'t Term<A>) -> Seen<'t, A>
+        requires { AreSound self.now }
+        ensures { IsSeen self.now (view term.now) result }
+    {
+        match term {
+            Term::Var(x) => self.value(*x),
+            Term::Int(_) => shown(term),
+            Term::Node(_, _) => shown(term),
+        }
+    }
+}
+
+/// The root of a term that is no variable.
+fn shown<'t, A: Allocator>(term: &'t Term<A>) -> Seen<'t, A>
+    requires { IsNoVar (view term.now) }
+    ensures { IsShown (view term.now) result }
+{
+    match term {
+        Term::Var(_) => unreachable!(),
+        Term::Int(z) => Seen::Int(*z),
+        Term::Node(sym, args) => Seen::Node(*sym, args.as_slice()),
+    }
+}
+
+impl<'l, 't, A: Allocator> Chains<'l, 't, A> {
+    /// The term with all that it stands for put in.
+    #[cycle(resolve)]
+    pub fn resolved(&self, alloc: A, term: &'t Term<A>) -> Result<Term<A>, Memory>
+    where
+        A: Copy,
+        requires { AreSound self.now }
+        ensures { IfOk result (λ resolved. view resolved ≡ apply (subst_of self.now) (view term.now)) }
+    {
+        match self.seen(term) {
+            Seen::Free(_, name) => Ok(Term::Var(name)),
+            Seen::Int(z) => Ok(Term::Int(z)),
+            Seen::Node(sym, args) => Ok(Term::Node(sym, self.resolved_all(alloc, args)?)),
+        }
+    }
+
+    #[cycle(resolve)]
+    fn resolved_all(&self, alloc: A, terms: &'t [Term<A>]) -> Result<Vec<Term<A>, A>, Memory>
+    where
+        A: Copy,
+        requires { AreSound self.now }
+        ensures { IfOk result (λ resolved. trees_view resolved.items ≡ replaced_all (value_at (subst_of self.now)) (trees_view terms.now)) }
+    {
+        let mut items = Vec::with_capacity(alloc, terms.len())?;
+        for term in terms {
+            items.push(self.resolved(alloc, term)?)?;
+        }
+        Ok(items)
+    }
+
+    /// Whether the term stands for one with no variable.
+    #[cycle(ground)]
+    pub fn is_ground(&self, term: &'t Term<A>) -> bool
+        requires { AreSound self.now }
+        ensures { result ≡ is_ground_tree (apply (subst_of self.now) (view term.now)) }
+    {
+        match self.seen(term) {
+            Seen::Free(_, _) => false,
+            Seen::Int(_) => true,
+            Seen::Node(_, args) => self.are_ground(args),
+        }
+    }
+
+    #[cycle(ground)]
+    fn are_ground(&self, terms: &'t [Term<A>]) -> bool
+        requires { AreSound self.now }
+        ensures { result ≡ is_ground_trees (replaced_all (value_at (subst_of self.now)) (trees_view terms.now)) }
+    {
+        for term in terms {
+            if !self.is_ground(term) {
+                return false;
+            }
+        }
+        true
+    }
+
+    /// Whether the first term stands for the second, which is taken as it is written.
+    #[cycle(matches)]
+    pub fn resolves_to(&self, term: &'t Term<A>, other: &Term<A>) -> bool
+        requires { AreSound self.now }
+        ensures { IsTrue result ↔ (apply (subst_of self.now) (view term.now) ≡ view other.now) }
+    {
+        match (self.seen(term), other) {
+            (Seen::Free(_, name), Term::Var(x)) => name == *x,
+            (Seen::Int(y), Term::Int(z)) => y == *z,
+            (Seen::Node(f, args), Term::Node(g, others)) => f.0 == g.0
+                && self.resolve_to(args, others.as_slice()),
+            _ => false,
+        }
+    }
+
+    #[cycle(matches)]
+    fn resolve_to(&self, terms: &'t [Term<A>], others: &[Term<A>]) -> bool
+        requires { AreSound self.now }
+        ensures { IsTrue result ↔ (replaced_all (value_at (subst_of self.now)) (trees_view terms.now) ≡ trees_view others.now) }
+    {
+        if terms.len() != others.len() {
+            return false;
+        }
+        for i in 0..terms.len() {
+            if !self.resolves_to(&terms[i], &others[i]) {
+                return false;
+            }
+        }
+        true
+    }
+
+    /// Whether a free variable occurs in what the term stands for.
+    #[cycle(occurs)]
+    pub fn occurs(&self, var: u64, term: &'t Term<A>) -> bool
+        requires { AreSound self.now }
+        ensures { result ≡ occurs var (apply (subst_of self.now) (view term.now)) }
+    {
+        match self.seen(term) {
+            Seen::Free(_, name) => var == name,
+            Seen::Int(_) => false,
+            Seen::Node(_, args) => self.occurs_any(var, args),
+        }
+    }
+
+    #[cycle(occurs)]
+    fn occurs_any(&self, var: u64, terms: &'t [Term<A>]) -> bool
+        requires { AreSound self.now }
+        ensures { result ≡ occurs_any var (replaced_all (value_at (subst_of self.now)) (trees_view terms.now)) }
+    {
+        for term in terms {
+            if self.occurs(var, term) {
+                return true;
+            }
+        }
+        false
+    }
+}

@@ -1,0 +1,16 @@
+//! Bindings as one solved substitution, unification, one-way matching, guards, and values.
+#![tactic(auto)]
+
+mod arithmetic;
+mod below;
+mod bindings;
+mod chains;
+mod unification;
+
+pub use arithmetic::{Fault, value};
+pub use below::{are_below, is_below};
+pub use bindings::{Bindings, Unified};
+pub use chr_term::Memory;
+
+#[cfg(test)]
+mod tests;

@@ -1,0 +1,308 @@
+use super::*;
+use chr_term::{Sym, Term, same};
+use refusing_alloc::Refusing;
+use std::alloc::{Allocator, Global};
+use std::process::Abort;
+use std::test::Fail;
+
+const F: u32 = 7;
+
+const A: u32 = 8;
+
+const B: u32 = 9;
+
+fn node<A: Allocator + Copy, const N: usize>(
+    alloc: A,
+    sym: u32,
+    args: [Term<A>; N],
+) -> Result<Term<A>, Memory> {
+    Ok(Term::Node(Sym(sym), Vec::from_array(alloc, args)?))
+}
+
+/// A symbol over one argument.
+fn one<A: Allocator + Copy>(alloc: A, sym: u32, only: Term<A>) -> Result<Term<A>, Memory> {
+    let mut args = Vec::new(alloc);
+    args.push(only)?;
+    Ok(Term::Node(Sym(sym), args))
+}
+
+/// Bindings of that many free variables.
+fn variables<A: Allocator + Copy>(alloc: A, count: usize) -> Result<Bindings<A>, Memory> {
+    let mut bindings = Bindings::new(alloc);
+    bindings.fresh(count)?;
+    Ok(bindings)
+}
+
+/// `unify` of terms whose variables are known.
+fn unify<A: Allocator + Copy>(
+    rt: &impl Abort,
+    bindings: &mut Bindings<A>,
+    left: &Term<A>,
+    right: &Term<A>,
+) -> Result<Unified, Memory> {
+    let len = bindings.len();
+    assert!(rt; is_below(len, left) && is_below(len, right));
+    bindings.unify(left, right)
+}
+
+fn resolves<A: Allocator + Copy>(
+    rt: &impl Abort,
+    bindings: &Bindings<A>,
+    term: &Term<A>,
+    wanted: &Term<A>,
+) -> Result<(), Memory> {
+    assert!(rt; same(&bindings.resolve(term)?, wanted));
+    assert!(rt; bindings.resolves_to(term, wanted));
+    Ok(())
+}
+
+#[test]
+fn binding_calls(rt: HostRuntime) -> Result<(), Fail> {
+    let alloc = rt.alloc();
+    let mut bindings = Bindings::new(alloc);
+    assert!(&rt; bindings.is_empty());
+    bindings.room(2)?;
+    assert_eq!(&rt; bindings.fresh(2)?, 0);
+    assert_eq!(&rt; bindings.len(), 2);
+    let (x, y) = (Term::Var(0), Term::Var(1));
+    assert_eq!(&rt; unify(&rt, &mut bindings, &x, &y)?, Unified::Bound);
+    resolves(&rt, &bindings, &y, &x)?;
+    assert_eq!(&rt; unify(&rt, &mut bindings, &x, &y)?, Unified::Same);
+    let inside = node(alloc, F, [Term::Var(1)])?;
+    assert_eq!(&rt; unify(&rt, &mut bindings, &x, &inside)?, Unified::Clash);
+    resolves(&rt, &bindings, &y, &x)?;
+    Ok(())
+}
+
+#[test]
+fn occurs_check(rt: HostRuntime) -> Result<(), Fail> {
+    let alloc = rt.alloc();
+    let mut bindings = variables(alloc, 2)?;
+    let x = Term::Var(0);
+    let inside = node(alloc, F, [Term::Var(0)])?;
+    assert_eq!(&rt; unify(&rt, &mut bindings, &x, &inside)?, Unified::Clash);
+    // Through another variable: f(X, Y) = f(Y, f(X)).
+    let left = node(alloc, F, [Term::Var(0), Term::Var(1)])?;
+    let right = node(alloc, F, [Term::Var(1), node(alloc, F, [Term::Var(0)])?])?;
+    assert_eq!(&rt; unify(&rt, &mut bindings, &left, &right)?, Unified::Clash);
+    resolves(&rt, &bindings, &Term::Var(1), &Term::Var(1))?;
+    resolves(&rt, &bindings, &x, &x)?;
+    Ok(())
+}
+
+#[test]
+fn lesser_variable_stays(rt: HostRuntime) -> Result<(), Fail> {
+    let mut bindings = variables(rt.alloc(), 4)?;
+    for (left, right) in [(3, 2), (1, 0), (1, 3)] {
+        let (left, right) = (Term::Var(left), Term::Var(right));
+        assert_eq!(&rt; unify(&rt, &mut bindings, &left, &right)?, Unified::Bound);
+    }
+    for var in 0..4 {
+        resolves(&rt, &bindings, &Term::Var(var), &Term::Var(0))?;
+    }
+    Ok(())
+}
+
+#[test]
+fn functors_unify(rt: HostRuntime) -> Result<(), Fail> {
+    let alloc = rt.alloc();
+    let mut bindings = variables(alloc, 2)?;
+    let left = node(alloc, F, [Term::Var(0), node(alloc, B, [])?])?;
+    let right = node(alloc, F, [node(alloc, A, [])?, Term::Var(1)])?;
+    assert!(&rt; !bindings.ground(&left));
+    assert_eq!(&rt; unify(&rt, &mut bindings, &left, &right)?, Unified::Bound);
+    resolves(&rt, &bindings, &Term::Var(0), &node(alloc, A, [])?)?;
+    resolves(&rt, &bindings, &Term::Var(1), &node(alloc, B, [])?)?;
+    assert!(&rt; bindings.ground(&left));
+    let other = node(alloc, F, [Term::Var(1), Term::Var(1)])?;
+    assert_eq!(&rt; unify(&rt, &mut bindings, &left, &other)?, Unified::Clash);
+    Ok(())
+}
+
+/// After a clash that comes behind a binding, nothing is bound.
+#[test]
+fn clash_leaves_nothing(rt: HostRuntime) -> Result<(), Fail> {
+    let alloc = rt.alloc();
+    let mut bindings = variables(alloc, 3)?;
+    let left = node(alloc, F, [Term::Var(0), Term::Var(2), Term::Int(1)])?;
+    let right = node(alloc, F, [Term::Int(7), Term::Var(1), Term::Int(2)])?;
+    assert_eq!(&rt; unify(&rt, &mut bindings, &left, &right)?, Unified::Clash);
+    for var in 0..3 {
+        resolves(&rt, &bindings, &Term::Var(var), &Term::Var(var))?;
+    }
+    Ok(())
+}
+
+/// A node over two numbers, `left SYM right`.
+fn over(alloc: Global, sym: Sym, left: i128, right: i128) -> Result<Term, Memory> {
+    node(alloc, sym.0, [Term::Int(left), Term::Int(right)])
+}
+
+#[test]
+fn values(rt: HostRuntime) -> Result<(), Fail> {
+    let alloc = rt.alloc();
+    let least = i128::MIN;
+    for (sym, left, right, wanted) in [
+        (Sym::PLUS, 9223372036854775807, 1, Ok(9223372036854775808)),
+        (
+            Sym::DIVIDE,
+            -9223372036854775808,
+            -1,
+            Ok(9223372036854775808),
+        ),
+        (Sym::DIVIDE, -7, 2, Ok(-3)),
+        (Sym::MODULO, -7, 2, Ok(1)),
+        (Sym::MODULO, 7, -2, Ok(-1)),
+        (Sym::DIVIDE, least, -1, Err(Fault::Overflow)),
+        (Sym::MODULO, least, -1, Ok(0)),
+        (Sym::DIVIDE, 1, 0, Err(Fault::ZeroDivisor)),
+        (Sym::MODULO, 1, 0, Err(Fault::ZeroDivisor)),
+        (Sym::MINUS, 4, 2, Ok(2)),
+        (Sym::TIMES, 4, 2, Ok(8)),
+        (Sym(F), 4, 2, Err(Fault::NotNumber)),
+    ] {
+        assert_eq!(&rt; value(&over(alloc, sym, left, right)?), wanted);
+    }
+    let name = node(alloc, A, [])?;
+    assert_eq!(&rt;
+        value(&node(alloc, Sym::PLUS.0, [Term::Var(0), name])?),
+        Err(Fault::Unbound)
+    );
+    let name = node(alloc, A, [])?;
+    assert_eq!(&rt;
+        value(&node(alloc, Sym::PLUS.0, [name, Term::Var(0)])?),
+        Err(Fault::NotNumber)
+    );
+    Ok(())
+}
+
+#[test]
+fn fault_words(rt: HostRuntime) -> Result<(), Fail> {
+    for (fault, word) in [
+        (Fault::Unbound, "unbound"),
+        (Fault::NotNumber, "type"),
+        (Fault::Overflow, "overflow"),
+        (Fault::ZeroDivisor, "zero_divisor"),
+    ] {
+        let text = format!(in rt.alloc(); "{fault}")?;
+        assert_eq!(&rt; text.as_str(), word);
+    }
+    Ok(())
+}
+
+/// Five variables, of which 0 is f(1) and 3 is 2.
+fn told<A: Allocator + Copy>(alloc: A, rt: &impl Abort) -> Result<Bindings<A>, Memory> {
+    let mut bindings = variables(alloc, 5)?;
+    let inside = one(alloc, F, Term::Var(1))?;
+    unify(rt, &mut bindings, &Term::Var(0), &inside)?;
+    unify(rt, &mut bindings, &Term::Var(3), &Term::Var(2))?;
+    Ok(bindings)
+}
+
+/// What the variables of `told` stand for.
+fn is_as_told<A: Allocator + Copy>(
+    alloc: A,
+    rt: &impl Abort,
+    bindings: &Bindings<A>,
+) -> Result<(), Memory> {
+    assert_eq!(rt; bindings.len(), 5);
+    resolves(rt, bindings, &Term::Var(0), &one(alloc, F, Term::Var(1))?)?;
+    for (var, other) in [(1, 1), (2, 2), (3, 2), (4, 4)] {
+        resolves(rt, bindings, &Term::Var(var), &Term::Var(other))?;
+    }
+    Ok(())
+}
+
+#[test]
+fn unify_refused(rt: HostRuntime) -> Result<(), Fail> {
+    let meter = Refusing::new(rt.alloc(), 0);
+    let mut refused = 0;
+    for left in 0..100u64 {
+        meter.allow(1000);
+        let mut bindings = told(&meter, &rt)?;
+        let first = node(&meter, F, [Term::Var(0), Term::Var(2), Term::Var(4)])?;
+        let seven = node(&meter, F, [Term::Int(7)])?;
+        let second = node(&meter, F, [seven, Term::Var(1), node(&meter, A, [])?])?;
+        meter.allow(left);
+        let answer = unify(&rt, &mut bindings, &first, &second);
+        meter.allow(1000);
+        if answer.is_ok() {
+            assert_eq!(&rt; answer, Ok(Unified::Bound));
+            resolves(&rt, &bindings, &Term::Var(3), &Term::Int(7))?;
+            break;
+        }
+        is_as_told(&meter, &rt, &bindings)?;
+        assert_eq!(&rt; unify(&rt, &mut bindings, &first, &second)?, Unified::Bound);
+        resolves(&rt, &bindings, &Term::Var(3), &Term::Int(7))?;
+        refused = left + 1;
+    }
+    assert!(&rt; refused > 3 && refused < 100, "{refused}");
+    Ok(())
+}
+
+#[test]
+fn resolve_refused(rt: HostRuntime) -> Result<(), Fail> {
+    let meter = Refusing::new(rt.alloc(), 0);
+    meter.allow(1000);
+    let bindings = told(&meter, &rt)?;
+    let term = node(&meter, F, [Term::Var(0), Term::Var(3)])?;
+    let wanted = node(&meter, F, [node(&meter, F, [Term::Var(1)])?, Term::Var(2)])?;
+    for left in 0..2u64 {
+        meter.allow(left);
+        assert!(&rt; bindings.resolve(&term).is_err());
+        meter.allow(1000);
+        is_as_told(&meter, &rt, &bindings)?;
+        resolves(&rt, &bindings, &term, &wanted)?;
+    }
+    Ok(())
+}
+
+#[test]
+fn room_and_fresh_refused(rt: HostRuntime) -> Result<(), Fail> {
+    let meter = Refusing::new(rt.alloc(), 0);
+    meter.allow(1000);
+    let mut bindings = told(&meter, &rt)?;
+    meter.allow(0);
+    assert!(&rt; bindings.room(1000).is_err());
+    assert!(&rt; bindings.fresh(1000).is_err());
+    meter.allow(1000);
+    is_as_told(&meter, &rt, &bindings)?;
+    bindings.room(1000)?;
+    meter.allow(0);
+    assert_eq!(&rt; bindings.fresh(1000)?, 5);
+    assert_eq!(&rt; bindings.len(), 1005);
+    assert!(&rt; bindings.fresh(usize::MAX).is_err());
+    Ok(())
+}
+
+/// A list of the variables from the first one on.
+fn list_of(alloc: Global, first: u64, count: u64) -> Result<Term, Memory> {
+    let mut list = node(alloc, Sym::NIL.0, [])?;
+    for back in 1..=count {
+        list = node(
+            alloc,
+            Sym::CONS.0,
+            [Term::Var(first.saturating_add(count - back)), list],
+        )?;
+    }
+    Ok(list)
+}
+
+/// Many variables that are bound by one call, and a chain of variables that were bound one by one.
+#[test]
+fn many_variables(rt: HostRuntime) -> Result<(), Fail> {
+    let count = 1000;
+    let mut bindings = variables(rt.alloc(), 2000)?;
+    let (left, right) = (
+        list_of(rt.alloc(), 0, count)?,
+        list_of(rt.alloc(), count, count)?,
+    );
+    assert_eq!(&rt; unify(&rt, &mut bindings, &left, &right)?, Unified::Bound);
+    resolves(&rt, &bindings, &right, &left)?;
+    for var in (1..count).rev() {
+        let (var, less) = (Term::Var(var), Term::Var(var.saturating_sub(1)));
+        assert_eq!(&rt; unify(&rt, &mut bindings, &var, &less)?, Unified::Bound);
+    }
+    resolves(&rt, &bindings, &Term::Var(1999), &Term::Var(0))?;
+    Ok(())
+}
