@@ -9,3 +9,4 @@ mod Views
 mod Told
 mod Fresh
 mod Values
+mod Fits

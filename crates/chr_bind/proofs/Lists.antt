@@ -1,12 +1,12 @@
 -- Lists of terms with their variables replaced, read by an index.
-use Rattle.std.proofs.Common.{◌≡◌, ℕ, zero, suc, ◌+◌, ◌<◌, ◌≤◌, ◌↔◌, List, [], ◌∷◌, length, get_or, drop, take, map, ap, sym, arith, refl, ◌∙◌}
+use Rattle.std.proofs.Common.{◌≡◌, ℕ, zero, suc, ◌+◌, ◌<◌, ◌≤◌, ◌↔◌, List, [], ◌∷◌, length, get_or, drop, take, map, ap, subst, sym, arith, refl, ◌∙◌}
 use Rattle.std.proofs.lemmas.List.{take_all}
 use Rattle.chr_semantics.specs.Tree.{Tree, Trees, none, more, trees_of}
 use Rattle.chr_semantics.specs.Subst.{replaced, replaced_all}
 use Rattle.chr_term.specs.View.{view, trees_view}
 use Rattle.chr_term.specs.declared.term.Term.{Term}
 use Rattle.chr_term.proofs.Dropped.{trees_view-drop}
-use Rattle.chr_bind.specs.Terms.{size, size_all}
+use Rattle.chr_bind.specs.Terms.{AreBelow, IsBelow, size, size_all}
 
 pub size_item : {A : Type 0} (f : ℕ → Tree) (xs : List (Term A)) (i : ℕ) (x : Term A) → i < length xs → x ≡ get_or xs i x → size (replaced f (view x)) ≤ size_all (replaced_all f (trees_view xs))
 size_item f [] i x h e = absurd (omega arith)
@@ -54,3 +54,13 @@ module _ {A B : Type 0} (f : ℕ → Tree) (P : Type 0) (xs : List (Term A)) (ys
 -- a list that was built as the image of all terms
 pub built_whole : {A B : Type 0} (f : ℕ → Tree) (items : List (Term A)) (xs : List (Term B)) (n : ℕ) → map view items ≡ map (λ t. replaced f (view t)) (take n xs) → length xs ≤ n → trees_view items ≡ replaced_all f (trees_view xs)
 built_whole f items xs n h le = ap trees_of h ∙ ap (λ l. trees_of (map (λ t. replaced f (view t)) l)) (take_all n xs le) ∙ sym (replaced_all-view f xs)
+
+pub size_item_plain : {A : Type 0} (xs : List (Term A)) (i : ℕ) (x : Term A) → i < length xs → x ≡ get_or xs i x → size (view x) ≤ size_all (trees_view xs)
+size_item_plain [] i x h e = absurd (omega arith)
+size_item_plain (y ∷ xs) zero x h e = omega (arith, ap (λ t. size (view t)) e)
+size_item_plain (y ∷ xs) (suc i) x h e = let r = size_item_plain xs i x (omega arith) e in omega (arith, r)
+
+pub below_item : {A : Type 0} (n : ℕ) (xs : List (Term A)) (i : ℕ) (x : Term A) → i < length xs → x ≡ get_or xs i x → AreBelow n (trees_view xs) → IsBelow n (view x)
+below_item n [] i x h e b = absurd (omega arith)
+below_item n (y ∷ xs) zero x h e b = subst (λ t. IsBelow n (view t)) (sym e) b.0
+below_item n (y ∷ xs) (suc i) x h e b = below_item n xs i x (omega arith) e b.1

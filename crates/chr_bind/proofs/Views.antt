@@ -10,10 +10,10 @@ use Rattle.chr_bind.specs.Terms.{IsNoVar}
 pub view-Var : (A : Type 0) (x : ℕ) → view {A = A} (Var x) ≡ var x
 view-Var A x = search (rules, the_lemmas)
 
-view-Int : (A : Type 0) (z : ℤ) → view {A = A} (Int z) ≡ int z
+pub view-Int : (A : Type 0) (z : ℤ) → view {A = A} (Int z) ≡ int z
 view-Int A z = search (rules, the_lemmas)
 
-view-Node : (A : Type 0) (f : Sym) (ts : Vec (Term A) A) → view {A = A} (Node f ts) ≡ node f.0 (trees_view ts.items)
+pub view-Node : (A : Type 0) (f : Sym) (ts : Vec (Term A) A) → view {A = A} (Node f ts) ≡ node f.0 (trees_view ts.items)
 view-Node A f ts = search (rules, the_lemmas)
 
 pub no_var-Int : (A : Type 0) (z : ℤ) (t : Term A) → t ≡ Int z → IsNoVar (view t)

@@ -6,3 +6,4 @@ pub mod Agenda
 pub mod Unified
 pub mod Code
 pub mod Standing
+pub mod Matching

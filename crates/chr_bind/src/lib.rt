@@ -5,12 +5,14 @@ mod arithmetic;
 mod below;
 mod bindings;
 mod chains;
+mod matching;
 mod unification;
 
 pub use arithmetic::{Fault, value};
 pub use below::{are_below, is_below};
 pub use bindings::{Bindings, Unified};
 pub use chr_term::Memory;
+pub use matching::{Match, fit};
 
 #[cfg(test)]
 mod tests;

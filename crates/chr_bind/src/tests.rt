@@ -190,6 +190,69 @@ fn fault_words(rt: HostRuntime) -> Result<(), Fail> {
     Ok(())
 }
 
+/// `fit` of patterns whose variables have slots.
+fn fits<'t>(
+    rt: &impl Abort,
+    patterns: &[Term],
+    terms: &'t [Term],
+    matching: &mut Match<'t>,
+) -> bool {
+    assert!(rt; are_below(64, patterns));
+    fit(patterns, terms, matching)
+}
+
+#[test]
+fn fit_calls(rt: HostRuntime) -> Result<(), Fail> {
+    let alloc = rt.alloc();
+    let a = node(alloc, A, [])?;
+    let patterns = Vec::from_array(
+        alloc,
+        [Term::Var(0), node(alloc, F, [Term::Var(1), Term::Var(0)])?],
+    )?;
+    let terms = Vec::from_array(
+        alloc,
+        [a, node(alloc, F, [Term::Int(3), node(alloc, A, [])?])?],
+    )?;
+    let others = Vec::from_array(
+        alloc,
+        [Term::Int(1), node(alloc, F, [Term::Int(3), Term::Int(2)])?],
+    )?;
+    let mut matching = Match::new();
+    assert!(&rt; !fits(&rt, &patterns, &others, &mut matching));
+    assert!(&rt; matching.get(0).is_none() && matching.get(1).is_none());
+    assert!(&rt; !fits(&rt, &patterns, &terms[..1], &mut matching));
+    assert!(&rt; fits(&rt, &patterns, &terms, &mut matching));
+    assert!(&rt;
+        matching
+            .get(0)
+            .is_some_and(|matched| same(matched, &terms[0]))
+    );
+    assert!(&rt;
+        matching
+            .get(1)
+            .is_some_and(|matched| same(matched, &Term::Int::<Global>(3)))
+    );
+    assert!(&rt; matching.get(2).is_none() && matching.get(64).is_none());
+    // What is matched stays, and other terms no longer fit.
+    assert!(&rt; fits(&rt, &patterns, &terms, &mut matching));
+    assert!(&rt; !fits(&rt, &patterns[..1], &others[..1], &mut matching));
+    Ok(())
+}
+
+/// A pattern that is no variable does not fit a variable, and nothing is bound by that.
+#[test]
+fn match_does_not_bind(rt: HostRuntime) -> Result<(), Fail> {
+    let alloc = rt.alloc();
+    let patterns = Vec::from_array(alloc, [node(alloc, A, [])?])?;
+    let numbers = Vec::from_array(alloc, [Term::Int(1)])?;
+    let terms = Vec::from_array(alloc, [Term::Var(7)])?;
+    let mut matching = Match::new();
+    assert!(&rt; !fits(&rt, &patterns, &terms, &mut matching));
+    assert!(&rt; !fits(&rt, &numbers, &terms, &mut matching));
+    assert!(&rt; fits(&rt, &terms, &patterns, &mut matching));
+    Ok(())
+}
+
 /// Five variables, of which 0 is f(1) and 3 is 2.
 fn told<A: Allocator + Copy>(alloc: A, rt: &impl Abort) -> Result<Bindings<A>, Memory> {
     let mut bindings = variables(alloc, 5)?;

@@ -1,0 +1,76 @@
+-- Matching, as the slots have it.
+use Rattle.std.proofs.Common.{◌≡◌, ◌≢◌, ◌↔◌, ℕ, zero, suc, ◌+◌, ◌<◌, ◌≤◌, Bool, true, false, cond, ◌==◌, IsTrue, MatchBool, Option, Some, None, List, [], ◌∷◌, length, slice_get, set, replicate, drop, get_or, option_and_then, ap, refl, ◌∙◌, sym, subst, inl, inr, arith}
+use Rattle.std.proofs.lemmas.Bool.Decides.{Decides-eqb, eqb_tells}
+use Rattle.std.proofs.lemmas.Option.{slice_get-get_or}
+use Rattle.std.proofs.lemmas.List.{drop_all}
+use Rattle.std.specs.Borrow.{Bor}
+use Rattle.chr_semantics.specs.Tree.{Tree, Trees, node, none, more, same}
+use Rattle.chr_semantics.specs.Subst.{Subst}
+use Rattle.chr_semantics.specs.Match.{fit, fit_all, fit_var, matched}
+use Rattle.chr_semantics.proofs.SameLaw.{same_law}
+use Rattle.chr_term.specs.View.{view, trees_view}
+use Rattle.chr_term.specs.declared.term.Term.{Term}
+use Rattle.chr_term.proofs.Dropped.{trees_view-drop}
+use Rattle.chr_bind.specs.Matching.{Agrees, Slots, slot_tree}
+use Rattle.chr_bind.proofs.Changed.{slice_get-set_other, slice_get-set_same}
+
+fit_known : {A : Type 0} (slots : Slots A) (m : Subst) (t u : Tree) (b c : Bool) → Agrees slots m → same u t ≡ c → (IsTrue b ↔ (u ≡ t)) → MatchBool b ((n : Subst) × (cond c (Some m) None ≡ Some n) × Agrees slots n) (cond c (Some m) None ≡ None)
+fit_known slots m t u true true h e d = (m, refl, h)
+fit_known slots m t u true false h e d = let is : same u t ≡ true = (same_law.terms u t).1 (d.0 refl) in cc
+fit_known slots m t u false true h e d = let no : IsTrue false = d.1 ((same_law.terms u t).0 e) in cc
+fit_known slots m t u false false h e d = refl
+
+-- a variable that is matched is compared
+pub fit_matched : {A : Type 0} (slots : Slots A) (m : Subst) (x : ℕ) (t u : Tree) (b : Bool) → Agrees slots m → slot_tree (slice_get slots x) ≡ Some u → (IsTrue b ↔ (u ≡ t))
+    → MatchBool b ((n : Subst) × (fit_var m x t (matched m x) ≡ Some n) × Agrees slots n) (fit_var m x t (matched m x) ≡ None)
+fit_matched slots m x t u b h e d =
+    let is : matched m x ≡ Some u = sym (h x) ∙ e in
+    rw is (fit_known slots m t u b (same u t) h refl d)
+
+-- one that is not is matched
+pub fit_new : {A : Type 0} (slots : Slots A) (m : Subst) (x : ℕ) (t : Bor (Term A)) → Agrees slots m → x < length slots → slot_tree (slice_get slots x) ≡ None
+    → (n : Subst) × (fit_var m x (view t.now) (matched m x) ≡ Some n) × Agrees (set slots x (Some t)) n
+fit_new slots m x t h within e =
+    let is : matched m x ≡ None = sym (h x) ∙ e in (
+      (x, view t.now) ∷ m,
+      rw is refl,
+      (λ y. elim (eqb_tells y x) [
+        | inl p ↦
+            let same_var : (x == y) ≡ true = grind (arith, Decides-eqb x y, p.1) in
+            ap slot_tree (ap (slice_get (set slots x (Some t))) p.1 ∙ slice_get-set_same slots x (Some t) within) ∙ sym (ap (λ (b : Bool). cond b (Some (view t.now)) (matched m y)) same_var)
+        | inr p ↦
+            let other : (x == y) ≡ false = grind (arith, Decides-eqb x y, p.1) in
+            ap slot_tree (slice_get-set_other slots x y (Some t) p.1) ∙ h y ∙ sym (ap (λ (b : Bool). cond b (Some (view t.now)) (matched m y)) other)
+      ]),
+    )
+
+-- lists of different lengths do not fit
+pub fit_all-lengths : {A B : Type 0} (ps : List (Term A)) (ts : List (Term B)) (m : Subst) → length ps ≢ length ts → fit_all (trees_view ps) (trees_view ts) m ≡ None
+fit_all-lengths [] [] m h = absurd (h refl)
+fit_all-lengths [] (t ∷ ts) m h = refl
+fit_all-lengths (p ∷ ps) [] m h = refl
+fit_all-lengths (p ∷ ps) (t ∷ ts) m h = fit_next (fit (view p) (view t) m) (λ n. fit_all-lengths ps ts n (λ e. h (ap suc e)))
+  where
+    fit_next : (o : Option Subst) → ((n : Subst) → fit_all (trees_view ps) (trees_view ts) n ≡ None) → option_and_then (fit_all (trees_view ps) (trees_view ts)) o ≡ None
+    fit_next None f = refl
+    fit_next (Some n) f = f n
+
+-- one term after another
+pub fit_all-at : {A B : Type 0} (ps : List (Term A)) (ts : List (Term B)) (i : ℕ) (p : Term A) (t : Term B) (n : Subst) → i < length ps → i < length ts → p ≡ get_or ps i p → t ≡ get_or ts i t
+    → fit_all (trees_view (drop i ps)) (trees_view (drop i ts)) n ≡ option_and_then (fit_all (trees_view (drop (i + 1) ps)) (trees_view (drop (i + 1) ts))) (fit (view p) (view t) n)
+fit_all-at ps ts i p t n hp ht ep et = rw (trees_view-drop ps i p hp ep, trees_view-drop ts i t ht et) refl
+
+pub fit_nodes : (p t : Tree) (f g : ℕ) (ps ts : Trees) (m : Subst) → p ≡ node f ps → t ≡ node g ts → f ≡ g → fit p t m ≡ fit_all ps ts m
+fit_nodes p t f g ps ts m ep et e = rw (ep, et, (Decides-eqb f g).1 e) refl
+
+pub fit_end : {A B : Type 0} (ps : List (Term A)) (ts : List (Term B)) (i : ℕ) (n : Subst) → length ps ≤ i → length ps ≡ length ts → fit_all (trees_view (drop i ps)) (trees_view (drop i ts)) n ≡ Some n
+fit_end ps ts i n h e = rw (drop_all i ps h, drop_all i ts (omega (arith, h, e))) refl
+
+empty_get : (A : Type 0) (n x : ℕ) → slot_tree {A = A} (slice_get (replicate n None) x) ≡ None
+empty_get A zero x = refl
+empty_get A (suc n) zero = refl
+empty_get A (suc n) (suc x) = empty_get A n x
+
+-- nothing is matched in slots that are all empty
+pub empty_slots : (A : Type 0) (x : ℕ) → slot_tree {A = A} (slice_get (replicate 64 None) x) ≡ None
+empty_slots A x = empty_get A 64 x
