@@ -1,7 +1,7 @@
 //! The bindings of variables, seen by contracts as one solved substitution.
 ghost use Rattle.std.specs.Prelude.{◌≡◌, ◌≤◌, ◌<◌, ◌+◌, [], IfOk, OnErr, OnOk, IsTrue, ◌↔◌, length, vec_len, vec_capacity};
 ghost use Rattle.chr_semantics.specs.Tree.{is_ground_tree};
-ghost use Rattle.chr_semantics.specs.Subst.{apply};
+ghost use Rattle.chr_semantics.specs.Subst.{IsSolved, apply};
 ghost use Rattle.chr_term.specs.View.{view};
 ghost use Rattle.chr_bind.specs.Terms.{IsBelow};
 ghost use Rattle.chr_bind.specs.Chains.{AreSound, IsSound, Pairs, subst_of};
@@ -93,7 +93,8 @@ impl<A: Allocator + Copy> Bindings<A> {
 impl<A: Allocator> Bindings<A> {
     /// How many variables there are.
     pub fn len(&self) -> u64
-        ensures { result ≡ self.now.len }
+        ensures len { result ≡ self.now.len }
+        ensures solved { IsSolved self.now.subst }
     {
         self.links.len() as u64
     }
