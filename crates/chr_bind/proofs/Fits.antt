@@ -1,10 +1,9 @@
 -- Matching, as the slots have it.
-use Rattle.std.proofs.Common.{◌≡◌, ◌≢◌, ◌↔◌, ℕ, zero, suc, ◌+◌, ◌<◌, ◌≤◌, Bool, true, false, cond, ◌==◌, IsTrue, MatchBool, Option, Some, None, List, [], ◌∷◌, length, slice_get, set, replicate, drop, get_or, option_and_then, ap, refl, ◌∙◌, sym, subst, inl, inr, arith}
+use Rattle.std.proofs.Common.{◌≡◌, ◌≢◌, ◌↔◌, ℕ, zero, suc, ◌+◌, ◌<◌, ◌≤◌, Bool, true, false, cond, ◌==◌, IsTrue, MatchBool, Option, Some, None, List, [], ◌∷◌, length, slice_get, set, replicate, drop, get_or, option_and_then, ap, refl, ◌∙◌, sym, inl, inr, arith}
 use Rattle.std.proofs.lemmas.Bool.Decides.{Decides-eqb, eqb_tells}
-use Rattle.std.proofs.lemmas.Option.{slice_get-get_or}
 use Rattle.std.proofs.lemmas.List.{drop_all}
 use Rattle.std.specs.Borrow.{Bor}
-use Rattle.chr_semantics.specs.Tree.{Tree, Trees, node, none, more, same}
+use Rattle.chr_semantics.specs.Tree.{Tree, Trees, node, same}
 use Rattle.chr_semantics.specs.Subst.{Subst}
 use Rattle.chr_semantics.specs.Match.{fit, fit_all, fit_var, matched}
 use Rattle.chr_semantics.proofs.SameLaw.{same_law}

@@ -10,3 +10,5 @@ mod Told
 mod Fresh
 mod Values
 mod Fits
+mod Instances
+mod Renamed

@@ -7,3 +7,5 @@ pub mod Unified
 pub mod Code
 pub mod Standing
 pub mod Matching
+pub mod Guards
+pub mod Renamed

@@ -3,7 +3,6 @@ use Rattle.std.specs.Prelude.{◌≡◌, ℕ, Bool, false, List, Option, Some, N
 use Rattle.std.specs.Borrow.{Bor}
 use Rattle.chr_semantics.specs.Tree.{Tree, Trees}
 use Rattle.chr_semantics.specs.Subst.{Subst}
-use Rattle.chr_semantics.specs.Match as semantics
 use Rattle.chr_semantics.specs.Match.{matched, fit, fit_all}
 use Rattle.chr_term.specs.View.{view}
 use Rattle.chr_term.specs.declared.term.Term.{Term}

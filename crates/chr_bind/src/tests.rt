@@ -253,6 +253,124 @@ fn match_does_not_bind(rt: HostRuntime) -> Result<(), Fail> {
     Ok(())
 }
 
+/// The match of variables from 0 on with these terms.
+fn matched<'t, A: Allocator + Copy>(
+    rt: &impl Abort,
+    alloc: A,
+    terms: &'t [Term<A>],
+) -> Result<Match<'t, A>, Memory> {
+    let mut patterns = Vec::new(alloc);
+    for var in 0..terms.len() {
+        patterns.push(Term::Var(var as u64))?;
+    }
+    let mut matching = Match::new();
+    assert!(rt; are_below(64, &patterns));
+    assert!(rt; fit(&patterns, terms, &mut matching));
+    Ok(matching)
+}
+
+#[test]
+fn guard_calls(rt: HostRuntime) -> Result<(), Fail> {
+    let alloc = rt.alloc();
+    let test = Test::NotUnifiable(Term::Var(0), node(alloc, A, [])?);
+    for (term, answer) in [(Term::Var(0), false), (Term::Int(1), true)] {
+        let terms = Vec::from_array(alloc, [term])?;
+        let matching = matched(&rt, alloc, &terms)?;
+        assert_eq!(&rt; holds(alloc, &test, &matching)?, answer);
+    }
+    Ok(())
+}
+
+/// What the tests below are about: 3, a variable with a great number, and a term over it.
+fn guarded<A: Allocator + Copy>(alloc: A) -> Result<Vec<Term<A>, A>, Memory> {
+    let mut terms = Vec::new(alloc);
+    terms.push(Term::Int(3))?;
+    terms.push(Term::Var(u64::MAX))?;
+    terms.push(one(alloc, F, Term::Var(u64::MAX))?)?;
+    Ok(terms)
+}
+
+#[test]
+fn guards_of_terms(rt: HostRuntime) -> Result<(), Fail> {
+    let alloc = rt.alloc();
+    let terms = guarded(alloc)?;
+    let matching = matched(&rt, alloc, &terms)?;
+    let tests = Vec::from_array(
+        alloc,
+        [
+            (Test::Identical(Term::Var(0), Term::Int(3)), true),
+            (Test::Identical(Term::Var(0), Term::Var(1)), false),
+            (
+                Test::Identical(one(alloc, F, Term::Var(1))?, Term::Var(2)),
+                true,
+            ),
+            (Test::Identical(Term::Var(1), Term::Var(2)), false),
+            (Test::NotUnifiable(Term::Var(0), Term::Var(1)), false),
+            (Test::NotUnifiable(Term::Var(1), Term::Var(2)), true),
+            (
+                Test::NotUnifiable(Term::Var(2), one(alloc, F, Term::Var(0))?),
+                false,
+            ),
+            (
+                Test::NotUnifiable(Term::Var(2), one(alloc, A, Term::Var(0))?),
+                true,
+            ),
+            (Test::Integer(Term::Var(0)), true),
+            (Test::Integer(Term::Var(1)), false),
+            (Test::Integer(over(alloc, Sym::PLUS, 1, 2)?), false),
+            (Test::Ground(Term::Var(0)), true),
+            (Test::Ground(one(alloc, F, Term::Var(0))?), true),
+            (Test::Ground(Term::Var(2)), false),
+            (Test::Ground(one(alloc, F, Term::Var(1))?), false),
+        ],
+    )?;
+    for (test, answer) in &tests {
+        assert_eq!(&rt; holds(alloc, test, &matching)?, *answer);
+    }
+    Ok(())
+}
+
+/// A comparison with a side that has no value is not entailed, and neither is its contrary.
+#[test]
+fn guards_of_values(rt: HostRuntime) -> Result<(), Fail> {
+    let alloc = rt.alloc();
+    let terms = guarded(alloc)?;
+    let matching = matched(&rt, alloc, &terms)?;
+    let sum = node(alloc, Sym::PLUS.0, [Term::Var(0), Term::Int(1)])?;
+    let tests = Vec::from_array(
+        alloc,
+        [
+            (Test::Less(Term::Var(0), Term::Int(4)), true),
+            (Test::Less(Term::Var(0), Term::Int(3)), false),
+            (Test::Greater(Term::Int(4), Term::Var(0)), true),
+            (Test::Greater(Term::Int(3), Term::Var(0)), false),
+            (Test::AtMost(Term::Var(0), Term::Int(3)), true),
+            (Test::AtMost(Term::Var(0), Term::Int(2)), false),
+            (Test::AtLeast(Term::Var(0), Term::Int(3)), true),
+            (Test::AtLeast(Term::Var(0), Term::Int(4)), false),
+            (Test::Equals(sum, Term::Int(4)), true),
+            (Test::Equals(Term::Var(0), Term::Int(4)), false),
+            (Test::Differs(Term::Var(0), Term::Int(4)), true),
+            (Test::Differs(Term::Var(0), Term::Int(3)), false),
+            (Test::Equals(Term::Var(1), Term::Int(3)), false),
+            (Test::Differs(Term::Var(1), Term::Int(3)), false),
+            (
+                Test::Less(over(alloc, Sym::DIVIDE, 1, 0)?, Term::Int(3)),
+                false,
+            ),
+            (
+                Test::AtLeast(over(alloc, Sym::DIVIDE, 1, 0)?, Term::Int(3)),
+                false,
+            ),
+            (Test::Differs(Term::Int(3), Term::Var(2)), false),
+        ],
+    )?;
+    for (test, answer) in &tests {
+        assert_eq!(&rt; holds(alloc, test, &matching)?, *answer);
+    }
+    Ok(())
+}
+
 /// Five variables, of which 0 is f(1) and 3 is 2.
 fn told<A: Allocator + Copy>(alloc: A, rt: &impl Abort) -> Result<Bindings<A>, Memory> {
     let mut bindings = variables(alloc, 5)?;
@@ -335,6 +453,40 @@ fn room_and_fresh_refused(rt: HostRuntime) -> Result<(), Fail> {
     assert_eq!(&rt; bindings.fresh(1000)?, 5);
     assert_eq!(&rt; bindings.len(), 1005);
     assert!(&rt; bindings.fresh(usize::MAX).is_err());
+    Ok(())
+}
+
+/// Each growth of `holds` refused in turn leaves the match as it was.
+#[test]
+fn holds_refused(rt: HostRuntime) -> Result<(), Fail> {
+    let meter = Refusing::new(rt.alloc(), 0);
+    meter.allow(1000);
+    let terms = guarded(&meter)?;
+    let matching = matched(&rt, &meter, &terms)?;
+    let test = Test::NotUnifiable(
+        one(&meter, F, one(&meter, F, Term::Var(2))?)?,
+        one(&meter, F, one(&meter, F, Term::Var(0))?)?,
+    );
+    let mut refused = 0;
+    for left in 0..100u64 {
+        meter.allow(left);
+        let answer = holds(&meter, &test, &matching);
+        meter.allow(1000);
+        for (var, term) in terms.iter().enumerate() {
+            assert!(&rt;
+                matching
+                    .get(var as u64)
+                    .is_some_and(|matched| same(matched, term))
+            );
+        }
+        if answer.is_ok() {
+            assert_eq!(&rt; answer, Ok(true));
+            break;
+        }
+        assert!(&rt; holds(&meter, &test, &matching)?);
+        refused = left + 1;
+    }
+    assert!(&rt; refused > 3 && refused < 100, "{refused}");
     Ok(())
 }
 

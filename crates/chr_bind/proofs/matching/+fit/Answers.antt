@@ -1,9 +1,9 @@
-use Rattle.std.proofs.Common.{None, Option, Some, MatchBool, option_and_then, ◌+◌, ◌≡◌, ◌∙◌, ap, arith, drop, length, refl, subst, sym}
-use Rattle.chr_semantics.specs.Match.{fit, fit_all}
+use Rattle.std.proofs.Common.{None, Option, Some, MatchBool, option_and_then, ◌+◌, ◌≡◌, ◌∙◌, ap, arith, drop, subst, sym}
+use Rattle.chr_semantics.specs.Match.{fit_all}
 use Rattle.chr_semantics.specs.Subst.{Subst}
 use Rattle.chr_semantics.specs.Tree.{node}
 use Rattle.chr_term.specs.View.{trees_view, view}
-use Rattle.chr_bind.specs.Matching.{Agrees, FitsTermTo}
+use Rattle.chr_bind.specs.Matching.{Agrees}
 use Rattle.chr_bind.proofs.Fits.{fit_all-at, fit_all-lengths, fit_end, fit_nodes}
 use Rattle.chr_bind.proofs.Lists.{below_item, size_item_plain}
 use Rattle.chr_bind.proofs.Views.{view-Node}

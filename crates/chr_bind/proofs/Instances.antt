@@ -1,0 +1,63 @@
+-- Patterns under a match.
+use Rattle.std.proofs.Common.{◌≡◌, ◌↔◌, ℕ, ℤ, Bool, IsTrue, true, false, not, cond, ◌==◌, Option, Some, None, is_some, is_none, option_map, [], ◌∷◌, slice_get, ap, refl, sym, ◌∙◌}
+use Rattle.std.specs.Borrow.{Bor}
+use Rattle.chr_semantics.specs.Tree.{Tree, var, int, same}
+use Rattle.chr_semantics.specs.Subst.{Subst, apply, value_at}
+use Rattle.chr_semantics.specs.Match.{matched}
+use Rattle.chr_semantics.specs.Mgu.{mgu}
+use Rattle.chr_semantics.proofs.SameLaw.{same_law}
+use Rattle.chr_term.specs.View.{view}
+use Rattle.chr_term.specs.declared.term.Term.{Term}
+use Rattle.chr_bind.specs.Matching.{AgreesWith, slot_tree}
+use Rattle.chr_bind.specs.declared.matching.Match.{Match}
+
+matched_step : (b : Bool) (u t w : Tree) (o : Option Tree) → (o ≡ Some t → w ≡ t) → cond b (Some u) o ≡ Some t → cond b u w ≡ t
+matched_step true u t w o f e = cc
+matched_step false u t w o f e = f e
+
+matched_value : (m : Subst) (x : ℕ) (t : Tree) → matched m x ≡ Some t → value_at m x ≡ t
+matched_value [] x t e = cc
+matched_value (p ∷ m) x t e = matched_step (p.0 == x) p.1 t (value_at m x) (matched m x) (matched_value m x t) e
+
+free_step : (b : Bool) (u v w : Tree) (o : Option Tree) → (o ≡ None → w ≡ v) → cond b (Some u) o ≡ None → cond b u w ≡ v
+free_step true u v w o f e = cc
+free_step false u v w o f e = f e
+
+free_value : (m : Subst) (x : ℕ) → matched m x ≡ None → value_at m x ≡ var x
+free_value [] x e = refl
+free_value (p ∷ m) x e = free_step (p.0 == x) p.1 (var x) (value_at m x) (matched m x) (free_value m x) e
+
+-- a variable that is matched is what it is matched to
+pub shown_matched : {A : Type 0} (h : Match A) (m : Subst) (x : ℕ) (p : Tree) (o : Option (Bor (Term A))) (t : Bor (Term A)) → AgreesWith h m → p ≡ var x → option_map (λ (r : Bor (Term A)). view r.now) o ≡ slot_tree (slice_get h.slots x) → o ≡ Some t
+    → view t.now ≡ apply m p
+shown_matched h m x p o t a ep eo et =
+    let slot : slot_tree (slice_get h.slots x) ≡ Some (view t.now) = sym eo ∙ ap (option_map (λ (r : Bor (Term _)). view r.now)) et in
+    sym (ap (apply m) ep ∙ matched_value m x (view t.now) (sym (a x) ∙ slot))
+
+-- one that is not stays
+pub shown_free : {A : Type 0} (h : Match A) (m : Subst) (x : ℕ) (p : Tree) (o : Option (Bor (Term A))) → AgreesWith h m → p ≡ var x → option_map (λ (r : Bor (Term A)). view r.now) o ≡ slot_tree (slice_get h.slots x) → o ≡ None → p ≡ apply m p
+shown_free h m x p o a ep eo et =
+    let slot : slot_tree (slice_get h.slots x) ≡ None = sym eo ∙ ap (option_map (λ (r : Bor (Term _)). view r.now)) et in
+    ep ∙ sym (ap (apply m) ep ∙ free_value m x (sym (a x) ∙ slot))
+
+pub shown_number : (m : Subst) (p : Tree) (z : ℤ) → p ≡ int z → p ≡ apply m p
+shown_number m p z e = e ∙ sym (ap (apply m) e)
+
+bools_agree : (b d : Bool) → (b ≡ true → d ≡ true) → (d ≡ true → b ≡ true) → b ≡ d
+bools_agree true d f h = sym (f refl)
+bools_agree false true f h = h refl
+bools_agree false false f h = refl
+
+-- whether two terms are the same
+pub decides_same : (b : Bool) (t u v w : Tree) → (IsTrue b ↔ (t ≡ u)) → t ≡ v → u ≡ w → b ≡ same v w
+decides_same b t u v w h et eu =
+    let law = same_law.terms v w in
+    bools_agree b (same v w) (λ k. law.1 (sym et ∙ h.0 k ∙ eu)) (λ k. h.1 (et ∙ law.0 k ∙ sym eu))
+
+not_some : (o : Option Subst) → not (is_some o) ≡ is_none o
+not_some None = refl
+not_some (Some w) = refl
+
+-- whether two terms have no unifier
+pub decides_none : (b : Bool) (t u v w : Tree) → b ≡ is_some (mgu [] t u) → t ≡ v → u ≡ w → not b ≡ is_none (mgu [] v w)
+decides_none b t u v w h et eu = ap not (h ∙ cc (et, eu)) ∙ not_some (mgu [] v w)

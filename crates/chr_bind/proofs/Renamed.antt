@@ -1,0 +1,173 @@
+-- Numbering variables anew changes nothing of whether terms have a unifier.
+use Rattle.std.proofs.Common.{◌≡◌, ◌≢◌, ℕ, zero, suc, ◌<◌, ◌≤◌, ◌+◌, Bool, true, false, cond, ◌==◌, Option, Some, None, is_some, List, [], ◌∷◌, ◌++◌, length, get_or, slice_get, take, ap, refl, sym, subst, ◌∙◌, arith, append_assoc}
+use Rattle.std.proofs.lemmas.Bool.Decides.{Decides-eqb}
+use Rattle.std.proofs.lemmas.List.{take_more}
+use Rattle.std.proofs.lemmas.Option.{slice_get-get_or}
+use Rattle.std.specs.List.{AllByRecursion, IsDistinct}
+use Rattle.chr_semantics.specs.Tree.{Tree, Trees, var, int, node, none, more}
+use Rattle.chr_semantics.specs.Subst.{Solves, Subst, apply, replaced, replaced_all, value_at}
+use Rattle.chr_semantics.specs.Mgu.{mgu}
+use Rattle.chr_semantics.proofs.Replaced.{replaced-replaced}
+use Rattle.chr_semantics.proofs.UnifierEqual.{mgu_makes_equal}
+use Rattle.chr_semantics.proofs.UnifierNone.{mgu_none}
+use Rattle.chr_term.specs.View.{trees_view, view}
+use Rattle.chr_term.specs.declared.term.Term.{Term}
+use Rattle.chr_bind.specs.Terms.{AreBelow, IsBelow}
+use Rattle.chr_bind.specs.Renamed.{AreRenamed, Extends, IsNames, IsRenamed, back}
+use Rattle.chr_bind.proofs.Fresh.{below_more, below_more_all}
+
+-- the first place of a number
+place_of : List ℕ → ℕ → ℕ
+place_of [] x = 0
+place_of (y ∷ ys) x = cond (y == x) 0 (suc (place_of ys x))
+
+-- each number stands once
+abbrev pub Once : List ℕ → Type 0
+Once names = (i j : ℕ) → i < length names → j < length names → get_or names i 0 ≡ get_or names j 0 → i ≡ j
+
+once_tail : (y : ℕ) (ys : List ℕ) → Once (y ∷ ys) → Once ys
+once_tail y ys h i j hi hj e = omega (arith, h (suc i) (suc j) (omega arith) (omega arith) e)
+
+place_at : (b : Bool) (y : ℕ) (ys : List ℕ) (i n : ℕ) → (y == get_or ys i 0) ≡ b → Once (y ∷ ys) → i < length ys → n ≡ i → cond b 0 (suc n) ≡ suc i
+place_at true y ys i n e h hi k = let same : 0 ≡ suc i = h 0 (suc i) (omega arith) (omega arith) ((Decides-eqb y (get_or ys i 0)).0 e) in absurd (omega (arith, same))
+place_at false y ys i n e h hi k = ap suc k
+
+place_of-get : (names : List ℕ) (i : ℕ) → Once names → i < length names → place_of names (get_or names i 0) ≡ i
+unfolding place_of
+place_of-get [] i h hi = absurd (omega arith)
+place_of-get (y ∷ ys) zero h hi = ap (λ (b : Bool). cond b 0 (suc (place_of ys y))) ((Decides-eqb y y).1 refl)
+place_of-get (y ∷ ys) (suc i) h hi = place_at (y == get_or ys i 0) y ys i (place_of ys (get_or ys i 0)) refl h (omega arith) (place_of-get ys i (once_tail y ys h) (omega arith))
+
+mutual
+  replaced_below : (n : ℕ) (f g : ℕ → Tree) (t : Tree) → ((i : ℕ) → i < n → f i ≡ g i) → IsBelow n t → replaced f t ≡ replaced g t
+  replaced_below n f g (var x) h b = h x b
+  replaced_below n f g (int z) h b = refl
+  replaced_below n f g (node k ts) h b = ap (node k) (replaced_all_below n f g ts h b)
+
+  replaced_all_below : (n : ℕ) (f g : ℕ → Tree) (ts : Trees) → ((i : ℕ) → i < n → f i ≡ g i) → AreBelow n ts → replaced_all f ts ≡ replaced_all g ts
+  replaced_all_below n f g none h b = refl
+  replaced_all_below n f g (more t ts) h b = cc (replaced_below n f g t h b.0, replaced_all_below n f g ts h b.1)
+
+-- a unifier of the terms, taken back to the new numbers
+forth : (names : List ℕ) (f : ℕ → Tree) (r t : Tree) → IsRenamed names r t → replaced (λ i. f (get_or names i 0)) r ≡ replaced f t
+forth names f r t h = sym (replaced-replaced f (back names) r) ∙ ap (replaced f) h.same
+
+-- a unifier of the new terms, taken to the old numbers
+home : (names : List ℕ) (g : ℕ → Tree) (r t : Tree) → Once names → IsRenamed names r t → replaced (λ x. g (place_of names x)) t ≡ replaced g r
+home names g r t once h =
+    sym (forth names (λ x. g (place_of names x)) r t h) ∙ replaced_below (length names) (λ i. g (place_of names (get_or names i 0))) g r (λ i k. ap g (place_of-get names i once k)) h.below
+
+no_bindings : (f : ℕ → Tree) → Solves f []
+no_bindings f x = refl
+
+same_answer : (names : List ℕ) (r q s t : Tree) (a b : Option Subst) → Once names → IsRenamed names r s → IsRenamed names q t → mgu [] r q ≡ a → mgu [] s t ≡ b → is_some a ≡ is_some b
+same_answer names r q s t None None once h k ea eb = refl
+same_answer names r q s t (Some w) (Some v) once h k ea eb = refl
+same_answer names r q s t None (Some w) once h k ea eb =
+    let f = value_at w in
+    let u = (mgu_makes_equal [] s t (no_bindings (value_at [])) w eb).2 in
+    absurd (mgu_none [] r q ea (λ i. f (get_or names i 0)) (no_bindings (λ i. f (get_or names i 0))) (forth names f r s h ∙ u ∙ sym (forth names f q t k)))
+same_answer names r q s t (Some w) None once h k ea eb =
+    let g = value_at w in
+    let u = (mgu_makes_equal [] r q (no_bindings (value_at [])) w ea).2 in
+    absurd (mgu_none [] s t eb (λ x. g (place_of names x)) (no_bindings (λ x. g (place_of names x))) (home names g r s once h ∙ u ∙ sym (home names g q t once k)))
+
+-- the new terms have a unifier where the old ones have
+pub renamed_unifiable : (names : List ℕ) (r q s t : Tree) → Once names → IsRenamed names r s → IsRenamed names q t → is_some (mgu [] r q) ≡ is_some (mgu [] s t)
+renamed_unifiable names r q s t once h k = same_answer names r q s t (mgu [] r q) (mgu [] s t) once h k refl refl
+
+-- names that are distinct stand once each
+all_at : (P : ℕ → Type 0) (xs : List ℕ) (i : ℕ) → AllByRecursion P xs → i < length xs → P (get_or xs i 0)
+all_at P [] i h k = absurd (omega arith)
+all_at P (x ∷ xs) zero h k = h.0
+all_at P (x ∷ xs) (suc i) h k = all_at P xs i h.1 (omega arith)
+
+differs : (x : ℕ) (xs : List ℕ) (i : ℕ) → AllByRecursion (λ y. (x == y) ≡ false) xs → i < length xs → x ≢ get_or xs i 0
+differs x xs i h k e = let same : true ≡ false = sym ((Decides-eqb x (get_or xs i 0)).1 e) ∙ all_at (λ y. (x == y) ≡ false) xs i h k in cc
+
+once_more : (x : ℕ) (xs : List ℕ) → AllByRecursion (λ y. (x == y) ≡ false) xs → Once xs → Once (x ∷ xs)
+once_more x xs h o zero zero hi hj e = refl
+once_more x xs h o zero (suc j) hi hj e = absurd (differs x xs j h (omega arith) e)
+once_more x xs h o (suc i) zero hi hj e = absurd (differs x xs i h (omega arith) (sym e))
+once_more x xs h o (suc i) (suc j) hi hj e = ap suc (o i j (omega arith) (omega arith) e)
+
+pub names_once : (names : List ℕ) → IsNames names → Once names
+unfolding IsDistinct
+names_once [] h = λ i j hi hj e. absurd (omega arith)
+names_once (x ∷ xs) h = once_more x xs h.0 (names_once xs h.1)
+
+-- a variable at its place among the names
+pub renamed_var : (names : List ℕ) (x i k : ℕ) → slice_get names i ≡ Some k → (x == k) ≡ true → i < length names → IsRenamed names (var i) (var x)
+renamed_var names x i k at e h =
+    let got : Some (get_or names i 0) ≡ Some k = sym (slice_get-get_or names i 0 h) ∙ at in
+    let found : get_or names i 0 ≡ k = cc in
+    record { same = ap var (found ∙ sym ((Decides-eqb x k).0 e)); below = h }
+
+extended_at : (old rest : List ℕ) (i : ℕ) → i < length old → back old i ≡ back (old ++ rest) i
+extended_at [] rest i h = absurd (omega arith)
+extended_at (x ∷ old) rest zero h = refl
+extended_at (x ∷ old) rest (suc i) h = extended_at old rest i (omega arith)
+
+longer : (old rest : List ℕ) → length old ≤ length (old ++ rest)
+longer [] rest = omega arith
+longer (x ∷ old) rest = let r = longer old rest in omega (arith, r)
+
+-- further names change nothing of what was numbered
+extended : (old new : List ℕ) (rs ts : Trees) → Extends old new → AreRenamed old rs ts → AreRenamed new rs ts
+extended old new rs ts e h = subst (λ n. AreRenamed n rs ts) (sym e.1)
+    (record { same = sym (replaced_all_below (length old) (back old) (back (old ++ e.0)) rs (extended_at old e.0) h.below) ∙ h.same; below = below_more_all (length old) (length (old ++ e.0)) rs (longer old e.0) h.below })
+
+pub extends_further : (a b c : List ℕ) → Extends a b → Extends b c → Extends a c
+extends_further a b c e f = (e.0 ++ f.0, f.1 ∙ ap (λ l. l ++ f.0) e.1 ∙ append_assoc a e.0 f.0)
+
+-- trees with one more at their end
+pushed : Trees → Tree → Trees
+pushed none t = more t none
+pushed (more u us) t = more u (pushed us t)
+
+view_pushed : {A : Type 0} (xs : List (Term A)) (x : Term A) → trees_view (xs ++ x ∷ []) ≡ pushed (trees_view xs) (view x)
+unfolding pushed
+view_pushed [] x = refl
+view_pushed (y ∷ xs) x = ap (more (view y)) (view_pushed xs x)
+
+replaced_pushed : (f : ℕ → Tree) (ts : Trees) (t : Tree) → replaced_all f (pushed ts t) ≡ pushed (replaced_all f ts) (replaced f t)
+unfolding pushed
+replaced_pushed f none t = refl
+replaced_pushed f (more u us) t = ap (more (replaced f u)) (replaced_pushed f us t)
+
+below_pushed : (n : ℕ) (ts : Trees) (t : Tree) → AreBelow n ts → IsBelow n t → AreBelow n (pushed ts t)
+unfolding pushed
+below_pushed n none t h b = (b, tt)
+below_pushed n (more u us) t h b = (h.0, below_pushed n us t h.1 b)
+
+pushed_renamed : (names : List ℕ) (rs ts : Trees) (r t : Tree) → AreRenamed names rs ts → IsRenamed names r t → AreRenamed names (pushed rs r) (pushed ts t)
+pushed_renamed names rs ts r t h k = record { same = replaced_pushed (back names) rs r ∙ cc (h.same, k.same); below = below_pushed (length names) rs r h.below k.below }
+
+-- one more term of a list, with the names that it added
+pub renamed_more : {A : Type 0} (old new : List ℕ) (items xs : List (Term A)) (r x : Term A) (i : ℕ) → Extends old new → AreRenamed old (trees_view items) (trees_view (take i xs)) → IsRenamed new (view r) (view x) → i < length xs → x ≡ get_or xs i x
+    → AreRenamed new (trees_view (items ++ r ∷ [])) (trees_view (take (i + 1) xs))
+renamed_more old new items xs r x i e h k lt at =
+    let rest : trees_view (take (i + 1) xs) ≡ pushed (trees_view (take i xs)) (view x) = ap trees_view (take_more xs i x lt) ∙ view_pushed (take i xs) (get_or xs i x) ∙ ap (λ y. pushed (trees_view (take i xs)) (view y)) (sym at) in
+    rw (rest, view_pushed items r) (pushed_renamed new (trees_view items) (trees_view (take i xs)) (view r) (view x) (extended old new (trees_view items) (trees_view (take i xs)) e h) k)
+
+pub extended_term : (old new : List ℕ) (r t : Tree) → Extends old new → IsRenamed old r t → IsRenamed new r t
+extended_term old new r t e h = subst (λ n. IsRenamed n r t) (sym e.1)
+    (record { same = sym (replaced_below (length old) (back old) (back (old ++ e.0)) r (extended_at old e.0) h.below) ∙ h.same; below = below_more (length old) (length (old ++ e.0)) r (longer old e.0) h.below })
+
+some_unifier : (r q : Tree) (o : Option Subst) → apply [] r ≡ apply [] q → mgu [] r q ≡ o → true ≡ is_some o
+some_unifier r q None e m = absurd (mgu_none [] r q m (value_at []) (no_bindings (value_at [])) e)
+some_unifier r q (Some w) e m = refl
+
+module _ (names : List ℕ) (r q s t : Tree) (distinct : IsNames names) (left : IsRenamed names r s) (right : IsRenamed names q t) where
+  same_unifiable : is_some (mgu [] r q) ≡ is_some (mgu [] s t)
+  same_unifiable = renamed_unifiable names r q s t (names_once names distinct) left right
+
+  -- the renamed terms are the same, have a unifier, or have none: so have the terms
+  pub unifiable_same : apply [] r ≡ apply [] q → true ≡ is_some (mgu [] s t)
+  unifiable_same e = some_unifier r q (mgu [] r q) e refl ∙ same_unifiable
+
+  pub unifiable_bound : (w : Subst) → mgu [] r q ≡ Some w → true ≡ is_some (mgu [] s t)
+  unifiable_bound w e = sym (ap is_some e) ∙ same_unifiable
+
+  pub not_unifiable : mgu [] r q ≡ None → false ≡ is_some (mgu [] s t)
+  not_unifiable e = sym (ap is_some e) ∙ same_unifiable

@@ -1,0 +1,199 @@
+//! Guards over what the variables of a rule are matched to.
+ghost use Rattle.std.specs.Prelude.{◌≡◌, IfOk};
+ghost use Rattle.chr_semantics.specs.Guard.{compared, entailed, holds_of, is_int};
+ghost use Rattle.chr_semantics.specs.Subst.{Subst, apply, replaced_all, value_at};
+ghost use Rattle.chr_semantics.specs.Value.{value as value_of};
+ghost use Rattle.chr_term.specs.View.{trees_view, view};
+ghost use Rattle.chr_bind.specs.Guards.{comparison_view, shown_view, test_view};
+ghost use Rattle.chr_bind.specs.Matching.{AgreesWith};
+
+use crate::Memory;
+use crate::arithmetic::value;
+use crate::matching::Match;
+use crate::renaming::are_unifiable;
+use chr_term::{Term, copy, is_ground, same};
+use std::alloc::{Allocator, Global};
+
+/// A test of a guard. Its terms are over the variables of the rule's heads.
+#[derive(Drop)]
+pub enum Test<A: Allocator = Global> {
+    /// `s = t`: both are identical.
+    Identical(Term<A>, Term<A>),
+    /// `s \= t`: nothing makes them equal.
+    NotUnifiable(Term<A>, Term<A>),
+    /// `s < t`
+    Less(Term<A>, Term<A>),
+    /// `s > t`
+    Greater(Term<A>, Term<A>),
+    /// `s =< t`
+    AtMost(Term<A>, Term<A>),
+    /// `s >= t`
+    AtLeast(Term<A>, Term<A>),
+    /// `s =:= t`
+    Equals(Term<A>, Term<A>),
+    /// `s =\= t`
+    Differs(Term<A>, Term<A>),
+    /// `integer(t)`: a whole number, not evaluated.
+    Integer(Term<A>),
+    /// `ground(t)`: no variable.
+    Ground(Term<A>),
+}
+
+/// What a pattern is under a match: lent where that is a whole term, else made.
+#[derive(Drop)]
+enum Shown<'t, A: Allocator> {
+    Lent(&'t Term<A>),
+    Made(Term<A>),
+}
+
+impl<'t, A: Allocator> Shown<'t, A> {
+    fn term(&self) -> &Term<A>
+        ensures { view result.now ≡ shown_view self.now }
+    {
+        match self {
+            Shown::Lent(term) => term,
+            Shown::Made(term) => term,
+        }
+    }
+}
+
+/// The pattern under the match. A pattern that is one variable is not copied.
+fn under<'t, A: Allocator + Copy>(
+    alloc: A,
+    matching: &Match<'t, A>,
+    pattern: &'t Term<A>,
+) -> Result<Shown<'t, A>, Memory>
+    ensures { IfOk result (λ shown. (m : Subst) → AgreesWith matching.now m → shown_view shown ≡ apply m (view pattern.now)) }
+{
+    match pattern {
+        Term::Var(x) => match matching.get(*x) {
+            Some(matched) => Ok(Shown::Lent(matched)),
+            None => Ok(Shown::Lent(pattern)),
+        },
+        Term::Int(_) => Ok(Shown::Lent(pattern)),
+        Term::Node(_, _) => Ok(Shown::Made(instance(alloc, matching, pattern)?)),
+    }
+}
+
+/// The pattern with what its variables are matched to put in.
+#[cycle(instance)]
+fn instance<A: Allocator + Copy>(
+    alloc: A,
+    matching: &Match<'_, A>,
+    pattern: &Term<A>,
+) -> Result<Term<A>, Memory>
+    ensures { IfOk result (λ made. (m : Subst) → AgreesWith matching.now m → view made ≡ apply m (view pattern.now)) }
+{
+    match pattern {
+        Term::Var(x) => match matching.get(*x) {
+            Some(matched) => Ok(copy(alloc, matched)?),
+            None => Ok(Term::Var(*x)),
+        },
+        Term::Int(number) => Ok(Term::Int(*number)),
+        Term::Node(sym, patterns) => Ok(Term::Node(
+            *sym,
+            instances(alloc, matching, patterns.as_slice())?,
+        )),
+    }
+}
+
+#[cycle(instance)]
+fn instances<A: Allocator + Copy>(
+    alloc: A,
+    matching: &Match<'_, A>,
+    patterns: &[Term<A>],
+) -> Result<Vec<Term<A>, A>, Memory>
+    ensures { IfOk result (λ made. (m : Subst) → AgreesWith matching.now m → trees_view made.items ≡ replaced_all (value_at m) (trees_view patterns.now)) }
+{
+    let mut items = Vec::with_capacity(alloc, patterns.len())?;
+    for pattern in patterns {
+        items.push(instance(alloc, matching, pattern)?)?;
+    }
+    Ok(items)
+}
+
+/// How two numbers are compared.
+#[derive(Clone, Copy, Drop)]
+enum Comparison {
+    Less,
+    Greater,
+    AtMost,
+    AtLeast,
+    Equals,
+    Differs,
+}
+
+/// Whether the comparison holds of two numbers.
+fn is_so(comparison: Comparison, left: i128, right: i128) -> bool
+    ensures { result ≡ compared (comparison_view comparison) left right }
+{
+    match comparison {
+        Comparison::Less => left < right,
+        Comparison::Greater => right < left,
+        Comparison::AtMost => !(right < left),
+        Comparison::AtLeast => !(left < right),
+        Comparison::Equals => left == right,
+        Comparison::Differs => left != right,
+    }
+}
+
+/// Whether both sides have values, and the comparison holds of them.
+fn compares<A: Allocator + Copy>(
+    alloc: A,
+    matching: &Match<'_, A>,
+    comparison: Comparison,
+    left: &Term<A>,
+    right: &Term<A>,
+) -> Result<bool, Memory>
+    ensures { IfOk result (λ so. (m : Subst) → AgreesWith matching.now m → so ≡ holds_of (comparison_view comparison) (value_of (apply m (view left.now))) (value_of (apply m (view right.now)))) }
+{
+    let left = under(alloc, matching, left)?;
+    let right = under(alloc, matching, right)?;
+    match (value(left.term()), value(right.term())) {
+        (Ok(left), Ok(right)) => Ok(is_so(comparison, left, right)),
+        (Ok(_), Err(_)) => Ok(false),
+        (Err(_), Ok(_)) => Ok(false),
+        (Err(_), Err(_)) => Ok(false),
+    }
+}
+
+/// Whether the term is a whole number.
+fn is_integer<A: Allocator>(term: &Term<A>) -> bool
+    ensures { result ≡ is_int (view term.now) }
+{
+    match term {
+        Term::Var(_) => false,
+        Term::Int(_) => true,
+        Term::Node(_, _) => false,
+    }
+}
+
+/// Whether the test is entailed by the match.
+pub fn holds<A: Allocator + Copy>(
+    alloc: A,
+    test: &Test<A>,
+    matching: &Match<'_, A>,
+) -> Result<bool, Memory>
+    ensures { IfOk result (λ so. (m : Subst) → AgreesWith matching.now m → so ≡ entailed m (test_view test.now)) }
+{
+    match test {
+        Test::Identical(left, right) => {
+            let left = under(alloc, matching, left)?;
+            let right = under(alloc, matching, right)?;
+            Ok(same(left.term(), right.term()))
+        }
+        Test::NotUnifiable(left, right) => {
+            let left = under(alloc, matching, left)?;
+            let right = under(alloc, matching, right)?;
+            Ok(!are_unifiable(alloc, left.term(), right.term())?)
+        }
+        Test::Less(left, right) => compares(alloc, matching, Comparison::Less, left, right),
+        Test::Greater(left, right) => compares(alloc, matching, Comparison::Greater, left, right),
+        Test::AtMost(left, right) => compares(alloc, matching, Comparison::AtMost, left, right),
+        Test::AtLeast(left, right) => compares(alloc, matching, Comparison::AtLeast, left, right),
+        Test::Equals(left, right) => compares(alloc, matching, Comparison::Equals, left, right),
+        Test::Differs(left, right) => compares(alloc, matching, Comparison::Differs, left, right),
+        Test::Integer(term) => Ok(is_integer(under(alloc, matching, term)?.term())),
+        Test::Ground(term) => Ok(is_ground(under(alloc, matching, term)?.term())),
+    }
+}
