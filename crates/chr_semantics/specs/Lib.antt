@@ -10,6 +10,10 @@ pub mod State
 pub mod Step
 pub mod Trace
 pub mod Names
+pub mod Tokens
+pub mod Syntax
+pub mod Grammar
+pub mod Reading
 pub mod Print
 pub mod Text
 pub mod Touch

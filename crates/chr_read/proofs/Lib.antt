@@ -1,0 +1,9 @@
+mod Complete
+mod Sound
+mod Viable
+mod Limits
+pub mod Steps
+pub mod Sections
+pub mod Listings
+mod Views
+mod Laws

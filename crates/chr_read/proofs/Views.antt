@@ -1,0 +1,55 @@
+-- What expressions are as trees.
+use Rattle.std.proofs.Common.{◌≡◌, ℕ, zero, suc, ◌==◌, true, false, List, [], ◌∷◌, ◌++◌, rules, Vec, Box, box_value, String, string_bytes, refl, ap, map, length, ◌<◌, arith}
+use Rattle.std.proofs.lemmas.Bool.Decides.{Decides-eqb}
+use Rattle.chr_semantics.specs.Syntax as s
+use Rattle.chr_tokens.specs.View.{additive_view, multiplicative_view, placed_views}
+use Rattle.chr_tokens.specs.declared.token.Placed.{Placed}
+use Rattle.chr_tokens.specs.declared.token.Additive.{Additive}
+use Rattle.chr_tokens.specs.declared.token.Multiplicative.{Multiplicative}
+use Rattle.chr_read.specs.View.{additive_operands, multiplicative_operands, products, sums, view, views}
+use Rattle.chr_read.specs.declared.syntax.Expr.{Expr, the_lemmas}
+use Rattle.chr_read.specs.declared.syntax.Expr.TheVariants.{Call, List as Listed, ListWithEnd, Sum, Product}
+
+pub view-Sum : (A : Type 0) (e : Box (Expr A) A) (es : Vec (Additive × Expr A) A) → view {A = A} (Sum e es) ≡ sums (view (box_value e)) (additive_operands es.items)
+view-Sum A e es = search (rules, the_lemmas)
+
+pub view-Product : (A : Type 0) (e : Box (Expr A) A) (es : Vec (Multiplicative × Expr A) A) → view {A = A} (Product e es) ≡ products (view (box_value e)) (multiplicative_operands es.items)
+view-Product A e es = search (rules, the_lemmas)
+
+pub view-Call : (A : Type 0) (w : String A) (es : Vec (Expr A) A) → view {A = A} (Call w es) ≡ s.call (string_bytes w) (s.exprs_of (views es.items))
+view-Call A w es = search (rules, the_lemmas)
+
+pub view-List : (A : Type 0) (es : Vec (Expr A) A) → view {A = A} (Listed es) ≡ s.list (views es.items) s.nil
+view-List A es = search (rules, the_lemmas)
+
+pub view-ListWithEnd : (A : Type 0) (es : Vec (Expr A) A) (e : Box (Expr A) A) → view {A = A} (ListWithEnd es e) ≡ s.list (views es.items) (view (box_value e))
+view-ListWithEnd A es e = search (rules, the_lemmas)
+
+-- one more operand
+pub sums_pushed : {A : Type 0} (e : s.Expr) (es : List (Additive × Expr A)) (x : Additive × Expr A) → sums e (additive_operands (es ++ x ∷ [])) ≡ s.sum (additive_view x.0) (sums e (additive_operands es)) (view x.1)
+sums_pushed e [] x = refl
+sums_pushed e (y ∷ es) x = sums_pushed (s.sum (additive_view y.0) e (view y.1)) es x
+
+pub products_pushed : {A : Type 0} (e : s.Expr) (es : List (Multiplicative × Expr A)) (x : Multiplicative × Expr A) → products e (multiplicative_operands (es ++ x ∷ [])) ≡ s.product (multiplicative_view x.0) (products e (multiplicative_operands es)) (view x.1)
+products_pushed e [] x = refl
+products_pushed e (y ∷ es) x = products_pushed (s.product (multiplicative_view y.0) e (view y.1)) es x
+
+pub map_pushed : {X Y : Type 0} (f : X → Y) (xs : List X) (x : X) → map f (xs ++ x ∷ []) ≡ map f xs ++ f x ∷ []
+map_pushed f [] x = refl
+map_pushed f (y ∷ xs) x = ap (λ ys. f y ∷ ys) (map_pushed f xs x)
+
+-- lists of tokens are as long as what they stand for
+pub empty_views : (ts : List Placed) → length ts ≡ 0 → length (placed_views ts) ≡ 0
+empty_views [] h = refl
+empty_views (t ∷ ts) h = absurd (omega (arith, h))
+
+pub longer_views : (ts : List Placed) → 0 < length ts → 0 < length (placed_views ts)
+longer_views [] h = absurd (omega (arith, h))
+longer_views (t ∷ ts) h = omega arith
+
+pub eqb_true : (n m : ℕ) → (n == m) ≡ true → n ≡ m
+eqb_true n m e = (Decides-eqb n m).0 e
+
+pub not_empty : (n : ℕ) → (n == 0) ≡ false → 0 < n
+not_empty zero e = cc
+not_empty (suc n) e = omega arith

@@ -1,0 +1,5 @@
+pub mod Machine
+pub mod View
+pub mod Reads
+pub mod Parts
+pub mod Refusals

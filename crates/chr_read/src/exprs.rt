@@ -1,0 +1,278 @@
+//! Expressions, by recursive descent. The depth is that of the brackets, of which at most 256 are open at once.
+ghost use Rattle.std.specs.Prelude.{◌≡◌, ◌<◌, ◌≤◌, IfOk, length, map};
+ghost use Rattle.std.specs.Str.{encode_utf8_all};
+ghost use Rattle.chr_semantics.specs.Syntax.{call, exprs_of, list as syntax_list, nil};
+ghost use Rattle.chr_semantics.specs.Tokens.{comma};
+ghost use Rattle.chr_tokens.specs.View.{placed_views};
+ghost use Rattle.chr_read.specs.Reads.{Lacks, NoAdditive, NoMultiplicative, ReadsElements, ReadsInParens, ReadsList, ReadsNamed, ReadsPrimary, ReadsProduct, ReadsSigned, ReadsSum};
+ghost use Rattle.chr_read.specs.View.{additive_operands, multiplicative_operands, products, sums, view, views};
+
+use crate::halt::Halt;
+use crate::syntax::Expr;
+use crate::words::{additive, behind, multiplicative, negative, number, spelled, split};
+use chr_tokens::{Additive, Memory, Multiplicative, Placed, Sign, Token};
+use std::alloc::Allocator;
+
+/// Products with `+` or `-` between them.
+#[cycle(expr)]
+#[tactic(auto, using(crate::proofs::Steps::steps))]
+pub(crate) fn sum<'a, A: Allocator + Copy>(
+    alloc: A,
+    text: &'a [Placed<'a>],
+    room: usize,
+) -> Result<(Expr<A>, &'a [Placed<'a>]), Halt<'a>>
+    requires { room ≤ 256 }
+    ensures reads { ReadsSum room (placed_views text.now) result }
+    ensures shorter { IfOk result (λ x. length x.1.now < length text.now) }
+    ensures no_sum { IfOk result (λ x. NoAdditive (placed_views x.1.now)) }
+    ensures no_product { IfOk result (λ x. NoMultiplicative (placed_views x.1.now)) }
+{
+    let (first, mut rest) = product(alloc, text, room)?;
+    let mut others = Vec::new(alloc);
+    while let Some((_, operator, after)) = additive(rest) {
+        let (operand, behind) = product(alloc, after, room)?;
+        others.push((operator, operand))?;
+        rest = behind;
+    }
+    Ok((sum_of(alloc, first, others)?, rest))
+}
+
+/// A sum, or its only operand.
+fn sum_of<A: Allocator + Copy>(
+    alloc: A,
+    first: Expr<A>,
+    others: Vec<(Additive, Expr<A>), A>,
+) -> Result<Expr<A>, Memory>
+    ensures { IfOk result (λ e. view e ≡ sums (view first) (additive_operands others.items)) }
+{
+    if others.is_empty() {
+        Ok(first)
+    } else {
+        Ok(Expr::Sum(Box::new(alloc, first)?, others))
+    }
+}
+
+/// Primaries with `*`, `//` or `mod` between them.
+#[cycle(expr)]
+#[tactic(auto, using(crate::proofs::Steps::steps))]
+fn product<'a, A: Allocator + Copy>(
+    alloc: A,
+    text: &'a [Placed<'a>],
+    room: usize,
+) -> Result<(Expr<A>, &'a [Placed<'a>]), Halt<'a>>
+    requires { room ≤ 256 }
+    ensures reads { ReadsProduct room (placed_views text.now) result }
+    ensures shorter { IfOk result (λ x. length x.1.now < length text.now) }
+    ensures no_product { IfOk result (λ x. NoMultiplicative (placed_views x.1.now)) }
+{
+    let (first, mut rest) = primary(alloc, text, room)?;
+    let mut others = Vec::new(alloc);
+    while let Some((_, operator, after)) = multiplicative(rest) {
+        let (operand, behind) = primary(alloc, after, room)?;
+        others.push((operator, operand))?;
+        rest = behind;
+    }
+    Ok((product_of(alloc, first, others)?, rest))
+}
+
+/// A product, or its only operand.
+fn product_of<A: Allocator + Copy>(
+    alloc: A,
+    first: Expr<A>,
+    others: Vec<(Multiplicative, Expr<A>), A>,
+) -> Result<Expr<A>, Memory>
+    ensures { IfOk result (λ e. view e ≡ products (view first) (multiplicative_operands others.items)) }
+{
+    if others.is_empty() {
+        Ok(first)
+    } else {
+        Ok(Expr::Product(Box::new(alloc, first)?, others))
+    }
+}
+
+/// A variable, a number, a name with or without arguments, a list, or an expression in parentheses.
+#[cycle(expr)]
+#[tactic(auto, using(crate::proofs::Steps::steps))]
+fn primary<'a, A: Allocator + Copy>(
+    alloc: A,
+    text: &'a [Placed<'a>],
+    room: usize,
+) -> Result<(Expr<A>, &'a [Placed<'a>]), Halt<'a>>
+    requires { room ≤ 256 }
+    ensures reads { ReadsPrimary room (placed_views text.now) result }
+    ensures shorter { IfOk result (λ x. length x.1.now < length text.now) }
+{
+    let Some((first, after)) = split(text) else {
+        return Err(Halt::Expected(text));
+    };
+    match first.token {
+        Token::Variable(word) => Ok((Expr::Variable(spelled(alloc, word)?), after)),
+        Token::Number { signed: _, value } => match number(value) {
+            Some(number) => Ok((Expr::Number(number), after)),
+            None => Err(Halt::Expected(text)),
+        },
+        Token::Additive(Additive::Minus) => signed(after),
+        Token::Name(word) => named(alloc, word, after, room),
+        Token::Sign(Sign::Open) => {
+            if room == 0 {
+                return Err(Halt::TooDeep(text));
+            }
+            in_parens(alloc, after, room - 1)
+        }
+        Token::Sign(Sign::OpenList) => {
+            if room == 0 {
+                return Err(Halt::TooDeep(text));
+            }
+            list(alloc, after, room - 1)
+        }
+        _ => Err(Halt::Expected(text)),
+    }
+}
+
+/// The digits of a number behind its `-`.
+fn signed<'a, A: Allocator>(text: &'a [Placed<'a>]) -> Result<(Expr<A>, &'a [Placed<'a>]), Halt<'a>>
+    ensures reads { ReadsSigned (placed_views text.now) result }
+    ensures shorter { IfOk result (λ x. length x.1.now < length text.now) }
+{
+    let Some((first, after)) = split(text) else {
+        return Err(Halt::Expected(text));
+    };
+    match first.token {
+        Token::Number {
+            signed: true,
+            value,
+        } => match negative(value) {
+            Some(number) => Ok((Expr::Number(number), after)),
+            None => Err(Halt::Expected(text)),
+        },
+        _ => Err(Halt::Expected(text)),
+    }
+}
+
+/// A name's arguments, if it has some.
+#[cycle(expr)]
+#[tactic(auto, using(crate::proofs::Steps::steps))]
+fn named<'a, A: Allocator + Copy>(
+    alloc: A,
+    word: &'a [char],
+    text: &'a [Placed<'a>],
+    room: usize,
+) -> Result<(Expr<A>, &'a [Placed<'a>]), Halt<'a>>
+    requires { room ≤ 256 }
+    ensures reads { ReadsNamed word.now room (placed_views text.now) result }
+    ensures shorter { IfOk result (λ x. length x.1.now ≤ length text.now) }
+{
+    let Some((_, inside)) = behind(text, Sign::Open) else {
+        return Ok((call_of(alloc, word, Vec::new(alloc))?, text));
+    };
+    if room == 0 {
+        return Err(Halt::TooDeep(text));
+    }
+    let (args, end) = elements(alloc, inside, room - 1)?;
+    match behind(end, Sign::Close) {
+        Some((_, after)) => Ok((call_of(alloc, word, args)?, after)),
+        None => Err(Halt::Expected(end)),
+    }
+}
+
+/// A name with its arguments.
+fn call_of<A: Allocator + Copy>(
+    alloc: A,
+    word: &[char],
+    args: Vec<Expr<A>, A>,
+) -> Result<Expr<A>, Memory>
+    ensures { IfOk result (λ e. view e ≡ call (encode_utf8_all word.now) (exprs_of (views args.items))) }
+{
+    Ok(Expr::Call(spelled(alloc, word)?, args))
+}
+
+/// An expression and its closing parenthesis.
+#[cycle(expr)]
+#[tactic(auto, using(crate::proofs::Steps::steps))]
+fn in_parens<'a, A: Allocator + Copy>(
+    alloc: A,
+    text: &'a [Placed<'a>],
+    room: usize,
+) -> Result<(Expr<A>, &'a [Placed<'a>]), Halt<'a>>
+    requires { room < 256 }
+    ensures reads { ReadsInParens room (placed_views text.now) result }
+    ensures shorter { IfOk result (λ x. length x.1.now < length text.now) }
+{
+    let (inner, end) = sum(alloc, text, room)?;
+    match behind(end, Sign::Close) {
+        Some((_, after)) => Ok((inner, after)),
+        None => Err(Halt::Expected(end)),
+    }
+}
+
+/// A list, behind its bracket.
+#[cycle(expr)]
+#[tactic(auto, using(crate::proofs::Steps::steps))]
+fn list<'a, A: Allocator + Copy>(
+    alloc: A,
+    text: &'a [Placed<'a>],
+    room: usize,
+) -> Result<(Expr<A>, &'a [Placed<'a>]), Halt<'a>>
+    requires { room < 256 }
+    ensures reads { ReadsList room (placed_views text.now) result }
+    ensures shorter { IfOk result (λ x. length x.1.now < length text.now) }
+{
+    if let Some((_, after)) = behind(text, Sign::CloseList) {
+        return Ok((list_of(Vec::new(alloc)), after));
+    }
+    let (items, end) = elements(alloc, text, room)?;
+    if let Some((_, after)) = behind(end, Sign::CloseList) {
+        return Ok((list_of(items), after));
+    }
+    let Some((_, after)) = behind(end, Sign::Bar) else {
+        return Err(Halt::Expected(end));
+    };
+    let (last, end) = sum(alloc, after, room)?;
+    match behind(end, Sign::CloseList) {
+        Some((_, after)) => Ok((list_with_end(alloc, items, last)?, after)),
+        None => Err(Halt::Expected(end)),
+    }
+}
+
+/// A list of these elements.
+fn list_of<A: Allocator>(items: Vec<Expr<A>, A>) -> Expr<A>
+    ensures { view result ≡ syntax_list (views items.items) nil }
+{
+    Expr::List(items)
+}
+
+/// A list of these elements that ends so.
+fn list_with_end<A: Allocator + Copy>(
+    alloc: A,
+    items: Vec<Expr<A>, A>,
+    last: Expr<A>,
+) -> Result<Expr<A>, Memory>
+    ensures { IfOk result (λ e. view e ≡ syntax_list (views items.items) (view last)) }
+{
+    Ok(Expr::ListWithEnd(items, Box::new(alloc, last)?))
+}
+
+/// One or more expressions with commas between them.
+#[cycle(expr)]
+#[tactic(auto, using(crate::proofs::Steps::steps))]
+fn elements<'a, A: Allocator + Copy>(
+    alloc: A,
+    text: &'a [Placed<'a>],
+    room: usize,
+) -> Result<(Vec<Expr<A>, A>, &'a [Placed<'a>]), Halt<'a>>
+    requires { room ≤ 256 }
+    ensures reads { ReadsElements (λ v. v.items) room (placed_views text.now) result }
+    ensures shorter { IfOk result (λ x. length x.1.now < length text.now) }
+    ensures no_comma { IfOk result (λ x. Lacks comma (placed_views x.1.now)) }
+{
+    let mut items = Vec::new(alloc);
+    let (mut last, mut rest) = sum(alloc, text, room)?;
+    while let Some((_, after)) = behind(rest, Sign::Comma) {
+        items.push(last)?;
+        let (next, others) = sum(alloc, after, room)?;
+        last = next;
+        rest = others;
+    }
+    items.push(last)?;
+    Ok((items, rest))
+}

@@ -1,0 +1,140 @@
+//! Rules.
+ghost use Rattle.std.specs.Prelude.{◌≡◌, ◌<◌, ◌≤◌, IfOk, length, string_bytes};
+ghost use Rattle.chr_tokens.specs.View.{placed_views};
+ghost use Rattle.chr_read.specs.Parts.{BeginsRule, ReadsBody, ReadsFront, ReadsLabel, ReadsRule};
+
+use crate::halt::Halt;
+use crate::items::{heads, items};
+use crate::syntax::{Arrow, Head, Item, RuleSyntax};
+use crate::words::{arrow, behind, name, spelled};
+use chr_tokens::{Placed, Sign};
+use std::alloc::Allocator;
+
+/// A rule's heads and its arrow.
+#[derive(Drop)]
+struct Front<A: Allocator> {
+    heads: Vec<Head<A>, A>,
+    behind: Vec<Head<A>, A>,
+    arrow: Arrow,
+}
+
+/// What stands behind a rule's arrow.
+#[derive(Drop)]
+struct Body<A: Allocator> {
+    guard: Vec<Item<A>, A>,
+    body: Vec<Item<A>, A>,
+}
+
+/// A rule, up to its END and with it.
+pub(crate) fn rule<'a, A: Allocator + Copy>(
+    alloc: A,
+    text: &'a [Placed<'a>],
+) -> Result<(RuleSyntax<A>, &'a [Placed<'a>]), Halt<'a>>
+    requires { BeginsRule (placed_views text.now) }
+    ensures reads { ReadsRule (placed_views text.now) result }
+    ensures shorter { IfOk result (λ x. length x.1.now < length text.now) }
+{
+    let (label, start) = label(alloc, text)?;
+    let (front, rest) = all_heads(alloc, start)?;
+    match guard_and_body(alloc, rest) {
+        Ok((whole, rest)) => {
+            let rule = RuleSyntax {
+                label,
+                heads: front.heads,
+                behind: front.behind,
+                arrow: front.arrow,
+                guard: whole.guard,
+                body: whole.body,
+            };
+            Ok((rule, rest))
+        }
+        Err(halt) => Err(halt),
+    }
+}
+
+/// The name of a rule, where it has one.
+#[tactic(auto, using(crate::proofs::Sections::label_steps))]
+fn label<'a, A: Allocator + Copy>(
+    alloc: A,
+    text: &'a [Placed<'a>],
+) -> Result<(Option<String<A>>, &'a [Placed<'a>]), Halt<'a>>
+    requires { BeginsRule (placed_views text.now) }
+    ensures reads { ReadsLabel string_bytes (placed_views text.now) result }
+    ensures shorter { IfOk result (λ x. length x.1.now ≤ length text.now) }
+{
+    let Some((_, word, mark)) = name(text) else {
+        return Ok((None, text));
+    };
+    match behind(mark, Sign::Label) {
+        Some((_, after)) => Ok((Some(spelled(alloc, word)?), after)),
+        None => Ok((None, text)),
+    }
+}
+
+/// The heads of a rule, and its arrow.
+#[tactic(auto, using(crate::proofs::Sections::front_steps))]
+fn all_heads<'a, A: Allocator + Copy>(
+    alloc: A,
+    text: &'a [Placed<'a>],
+) -> Result<(Front<A>, &'a [Placed<'a>]), Halt<'a>>
+    ensures reads { ReadsFront (placed_views text.now) result }
+    ensures shorter { IfOk result (λ x. length x.1.now < length text.now) }
+{
+    let (first, end) = heads(alloc, text)?;
+    match behind(end, Sign::Backslash) {
+        None => {
+            let (arrow, after) = arrow(end)?;
+            let behind = Vec::new(alloc);
+            Ok((
+                Front {
+                    heads: first,
+                    behind,
+                    arrow,
+                },
+                after,
+            ))
+        }
+        Some((_, others)) => {
+            let (second, end) = heads(alloc, others)?;
+            let (arrow, after) = arrow(end)?;
+            Ok((
+                Front {
+                    heads: first,
+                    behind: second,
+                    arrow,
+                },
+                after,
+            ))
+        }
+    }
+}
+
+/// The guard, where there is one, and the body of a rule, with the END.
+#[tactic(auto, using(crate::proofs::Sections::body_steps))]
+fn guard_and_body<'a, A: Allocator + Copy>(
+    alloc: A,
+    text: &'a [Placed<'a>],
+) -> Result<(Body<A>, &'a [Placed<'a>]), Halt<'a>>
+    ensures reads { ReadsBody (placed_views text.now) result }
+    ensures shorter { IfOk result (λ x. length x.1.now < length text.now) }
+{
+    let (first, end) = items(alloc, text)?;
+    if let Some((_, after)) = behind(end, Sign::Stop) {
+        let guard = Vec::new(alloc);
+        return Ok((Body { guard, body: first }, after));
+    }
+    let Some((_, after)) = behind(end, Sign::Bar) else {
+        return Err(Halt::Expected(end));
+    };
+    let (second, end) = items(alloc, after)?;
+    match behind(end, Sign::Stop) {
+        Some((_, after)) => Ok((
+            Body {
+                guard: first,
+                body: second,
+            },
+            after,
+        )),
+        None => Err(Halt::Expected(end)),
+    }
+}

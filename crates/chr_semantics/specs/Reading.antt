@@ -1,0 +1,86 @@
+-- How a text is read: what it spells within the limits, or what is wrong with it and where (this project's own choice of errors).
+use Rattle.std.specs.Prelude.{◌≡◌, ℕ, suc, pred, ◌<◌, ◌≤◌, Bool, if◌then◌else◌, List, [], ◌∷◌, ◌++◌, length}
+use Rattle.std.specs.Str.{IsUtf8, chars}
+use Rattle.chr_semantics.specs.Tokens.{Place, Sign, opens, closes, opens_list, closes_list, Token, variable, name, numeral, additive, multiplicative, relation, sign, fault, over, bad_character, unclosed_comment, too_large, Placed, at, tokens}
+use Rattle.chr_semantics.specs.Grammar.{is_number}
+
+-- a `(` or `[` opens a bracket
+abbrev pub Opens : Token → Type 0
+Opens (sign opens) = Unit {0}
+Opens (sign opens_list) = Unit {0}
+Opens _ = ⊥
+
+-- how many brackets are open behind a token, and behind several
+abbrev pub next : ℕ → Token → ℕ
+next d (sign opens) = suc d
+next d (sign opens_list) = suc d
+next d (sign closes) = pred d
+next d (sign closes_list) = pred d
+next d _ = d
+
+abbrev pub level : ℕ → List Placed → ℕ
+level d [] = d
+level d (at p t ∷ ts) = level (next d t) ts
+
+-- no bracket opens where 256 are open
+abbrev pub Within : ℕ → List Placed → Type 0
+Within d [] = Unit {0}
+Within d (at p t ∷ ts) = (Opens t → d < 256) × Within (next d t) ts
+
+-- the kinds of errors, beside want of memory
+pub data Kind : Type 0 where
+  not_utf8 : Kind
+  too_long : Kind
+  bad_char : Kind
+  open_comment : Kind
+  number_too_large : Kind
+  expected : Kind
+  too_deep : Kind
+
+-- what is wrong where no text goes on with a token
+abbrev pub kind_of : Token → Kind
+kind_of (fault bad_character) = bad_char
+kind_of (fault unclosed_comment) = open_comment
+kind_of (fault too_large) = number_too_large
+kind_of (numeral signed n) = if is_number n then expected else number_too_large
+kind_of _ = expected
+
+-- Of the texts that a language has, by their tokens and with what they spell: how its texts are refused.
+module _ {S : Type 0} (Spells : List Placed → S → Type 0) where
+  -- some text begins with these tokens
+  abbrev pub Begins : List Placed → Type 0
+  Begins ts = (more : List Placed) × (s : S) × Spells (ts ++ more) s
+
+  -- No text begins with the tokens up to this one, and some begins with those before it, whose brackets are within the limit.
+  pub record IsUnexpected (ts : List Placed) (place : Place) (t : Token) : Type 0 where
+    pub front : List Placed
+    pub rest : List Placed
+    pub split : ts ≡ front ++ at place t ∷ rest
+    pub before : Within 0 front
+    pub none : Begins (front ++ at place t ∷ []) → ⊥
+    pub begun : Begins front
+
+  -- The first bracket that opens where 256 are open is this one, and some text begins with the tokens up to it.
+  pub record IsTooDeep (ts : List Placed) (place : Place) : Type 0 where
+    pub front : List Placed
+    pub bracket : Token
+    pub rest : List Placed
+    pub split : ts ≡ front ++ at place bracket ∷ rest
+    pub before : Within 0 front
+    pub is_bracket : Opens bracket
+    pub full : 256 ≤ level 0 front
+    pub begun : Begins (front ++ at place bracket ∷ [])
+
+  -- the text spells this within the limits
+  pub record IsRead (text : List ℕ) (s : S) : Type 0 where
+    pub is_utf8 : IsUtf8 text
+    pub is_short : length text ≤ 1048576
+    pub spells : Spells (tokens (chars text)) s
+    pub within : Within 0 (tokens (chars text))
+
+  -- The text is refused so: that it is not UTF-8 comes first, then that it is too long, then the earliest place; those two have no place.
+  abbrev pub IsRefused : List ℕ → Kind → Place → Type 0
+  IsRefused text not_utf8 p = (IsUtf8 text → ⊥) × (p ≡ record { line = 0; column = 0 })
+  IsRefused text too_long p = IsUtf8 text × (1048576 < length text) × (p ≡ record { line = 0; column = 0 })
+  IsRefused text too_deep p = IsUtf8 text × (length text ≤ 1048576) × IsTooDeep (tokens (chars text)) p
+  IsRefused text kind p = IsUtf8 text × (length text ≤ 1048576) × ((t : Token) × (kind ≡ kind_of t) × IsUnexpected (tokens (chars text)) p t)

@@ -1,0 +1,5 @@
+-- The lemmas.
+pub mod Capped
+pub mod Comments
+pub mod Cuts
+mod Lasts
