@@ -1,5 +1,5 @@
 -- What expressions are as trees.
-use Rattle.std.proofs.Common.{◌≡◌, ℕ, zero, suc, ◌==◌, true, false, List, [], ◌∷◌, ◌++◌, rules, Vec, Box, box_value, String, string_bytes, refl, ap, map, length, ◌<◌, arith}
+use Rattle.std.proofs.Common.{◌≡◌, ℕ, zero, suc, ◌==◌, true, false, List, [], ◌∷◌, ◌++◌, rules, Vec, Box, box_value, String, string_bytes, refl, ap, sym, ◌∙◌, map, length, ◌<◌, arith}
 use Rattle.std.proofs.lemmas.Bool.Decides.{Decides-eqb}
 use Rattle.chr_semantics.specs.Syntax as s
 use Rattle.chr_tokens.specs.View.{additive_view, multiplicative_view, placed_views}
@@ -33,6 +33,13 @@ sums_pushed e (y ∷ es) x = sums_pushed (s.sum (additive_view y.0) e (view y.1)
 pub products_pushed : {A : Type 0} (e : s.Expr) (es : List (Multiplicative × Expr A)) (x : Multiplicative × Expr A) → products e (multiplicative_operands (es ++ x ∷ [])) ≡ s.product (multiplicative_view x.0) (products e (multiplicative_operands es)) (view x.1)
 products_pushed e [] x = refl
 products_pushed e (y ∷ es) x = products_pushed (s.product (multiplicative_view y.0) e (view y.1)) es x
+
+-- the same of a list that is one longer
+pub sums_grown : {A : Type 0} (e : s.Expr) (es longer : List (Additive × Expr A)) (x : Additive × Expr A) → longer ≡ es ++ x ∷ [] → s.sum (additive_view x.0) (sums e (additive_operands es)) (view x.1) ≡ sums e (additive_operands longer)
+sums_grown e es longer x h = sym (ap (λ os. sums e (additive_operands os)) h ∙ sums_pushed e es x)
+
+pub products_grown : {A : Type 0} (e : s.Expr) (es longer : List (Multiplicative × Expr A)) (x : Multiplicative × Expr A) → longer ≡ es ++ x ∷ [] → s.product (multiplicative_view x.0) (products e (multiplicative_operands es)) (view x.1) ≡ products e (multiplicative_operands longer)
+products_grown e es longer x h = sym (ap (λ os. products e (multiplicative_operands os)) h ∙ products_pushed e es x)
 
 pub map_pushed : {X Y : Type 0} (f : X → Y) (xs : List X) (x : X) → map f (xs ++ x ∷ []) ≡ map f xs ++ f x ∷ []
 map_pushed f [] x = refl

@@ -27,11 +27,13 @@ fn with_commas<'e, A: Allocator>(
     Ok(())
 }
 
-/// A chain of sums, flat.
+/// A chain of sums, flat, up to its brace.
 fn sums<'e, A: Allocator>(
     pieces: &mut Vec<Piece<'e, A>>,
+    first: &'e Expr<A>,
     others: &'e [(Additive, Expr<A>)],
 ) -> Result<(), Memory> {
+    pieces.push(Piece::Text("}"))?;
     for (operator, operand) in others.iter().rev() {
         pieces.push(Piece::Expr(operand))?;
         pieces.push(Piece::Text(match operator {
@@ -39,14 +41,17 @@ fn sums<'e, A: Allocator>(
             Additive::Minus => "-",
         }))?;
     }
+    pieces.push(Piece::Expr(first))?;
     Ok(())
 }
 
-/// A chain of products, flat.
+/// The same of products.
 fn products<'e, A: Allocator>(
     pieces: &mut Vec<Piece<'e, A>>,
+    first: &'e Expr<A>,
     others: &'e [(Multiplicative, Expr<A>)],
 ) -> Result<(), Memory> {
+    pieces.push(Piece::Text("}"))?;
     for (operator, operand) in others.iter().rev() {
         pieces.push(Piece::Expr(operand))?;
         pieces.push(Piece::Text(match operator {
@@ -55,6 +60,7 @@ fn products<'e, A: Allocator>(
             Multiplicative::Modulo => " mod ",
         }))?;
     }
+    pieces.push(Piece::Expr(first))?;
     Ok(())
 }
 
@@ -89,15 +95,11 @@ fn show_first<'e, A: Allocator>(
             shown.push_str("[")?;
         }
         Expr::Sum(first, others) => {
-            pieces.push(Piece::Text("}"))?;
-            sums(pieces, others)?;
-            pieces.push(Piece::Expr(first))?;
+            sums(pieces, first, others)?;
             shown.push_str("{")?;
         }
         Expr::Product(first, others) => {
-            pieces.push(Piece::Text("}"))?;
-            products(pieces, others)?;
-            pieces.push(Piece::Expr(first))?;
+            products(pieces, first, others)?;
             shown.push_str("{")?;
         }
     }
@@ -445,6 +447,11 @@ fn greatest_magnitudes(rt: HostRuntime) -> Result<(), Fail> {
         ("007.", "1: 7"),
     ];
     queries(&rt, rt.alloc(), &table)?;
+    Ok(())
+}
+
+#[test]
+fn greatest_arities(rt: HostRuntime) -> Result<(), Fail> {
     let table = [
         (
             ":- chr_constraint p/170141183460469231731687303715884105727.",
@@ -533,6 +540,14 @@ fn rule_productions(rt: HostRuntime) -> Result<(), Fail> {
             "X, 1, [], a+b, X = Y # passive <=> true.",
             "1 rule X, 1, [], {a+b}, X = Y # passive <=> true",
         ),
+    ];
+    programs(&rt, rt.alloc(), &table)?;
+    Ok(())
+}
+
+#[test]
+fn names_in_rules(rt: HostRuntime) -> Result<(), Fail> {
+    let table = [
         // Words that are taken in their own places only.
         (
             "passive @ passive # passive <=> passive(passive) | passive.",
@@ -731,6 +746,11 @@ fn places_of_two_faults(rt: HostRuntime) -> Result<(), Fail> {
         ),
     ];
     refused(&rt, rt.alloc(), &table)?;
+    Ok(())
+}
+
+#[test]
+fn places_behind_a_query(rt: HostRuntime) -> Result<(), Fail> {
     let table = [
         ("a. b", "1:4: Expected"),
         ("a. !", "1:4: BadChar"),
@@ -796,12 +816,8 @@ fn places_too_deep(rt: HostRuntime) -> Result<(), Fail> {
 }
 
 #[test]
-fn expected_in_queries(rt: HostRuntime) -> Result<(), Fail> {
+fn expected_in_brackets(rt: HostRuntime) -> Result<(), Fail> {
     let table = [
-        ("", "1:1: Expected"),
-        ("% c\n", "2:1: Expected"),
-        (".", "1:1: Expected"),
-        (":- chr_constraint p/1.", "1:1: Expected"),
         ("p()", "1:3: Expected"),
         ("p(1;2)", "1:4: BadChar"),
         ("p(1 2)", "1:5: Expected"),
@@ -817,6 +833,14 @@ fn expected_in_queries(rt: HostRuntime) -> Result<(), Fail> {
         ("[](1)", "1:3: Expected"),
         ("[a)", "1:3: Expected"),
         ("f(a]", "1:4: Expected"),
+    ];
+    queries(&rt, rt.alloc(), &table)?;
+    Ok(())
+}
+
+#[test]
+fn expected_by_operators(rt: HostRuntime) -> Result<(), Fail> {
+    let table = [
         ("+1", "1:1: Expected"),
         ("1++2", "1:3: Expected"),
         ("1+.", "1:3: Expected"),
@@ -825,9 +849,6 @@ fn expected_in_queries(rt: HostRuntime) -> Result<(), Fail> {
         ("a mod mod b", "1:7: Expected"),
         ("mod", "1:1: Expected"),
         ("is", "1:1: Expected"),
-        ("X is.", "1:5: Expected"),
-        ("a = b = c.", "1:7: Expected"),
-        ("a == b.", "1:4: Expected"),
         ("-", "1:2: Expected"),
         ("- ", "1:3: Expected"),
         ("- 5", "1:3: Expected"),
@@ -836,6 +857,21 @@ fn expected_in_queries(rt: HostRuntime) -> Result<(), Fail> {
         ("-a", "1:2: Expected"),
         ("-(1)", "1:2: Expected"),
         ("--1", "1:2: Expected"),
+    ];
+    queries(&rt, rt.alloc(), &table)?;
+    Ok(())
+}
+
+#[test]
+fn expected_in_queries(rt: HostRuntime) -> Result<(), Fail> {
+    let table = [
+        ("", "1:1: Expected"),
+        ("% c\n", "2:1: Expected"),
+        (".", "1:1: Expected"),
+        (":- chr_constraint p/1.", "1:1: Expected"),
+        ("X is.", "1:5: Expected"),
+        ("a = b = c.", "1:7: Expected"),
+        ("a == b.", "1:4: Expected"),
         ("a,.", "1:3: Expected"),
         ("a # passive.", "1:3: Expected"),
         ("a | b.", "1:3: Expected"),

@@ -2,9 +2,9 @@ use Rattle.std.proofs.Common.{◌∙◌, ◌∷◌, ◌++◌, [], None, Some, ap
 use Rattle.chr_tokens.specs.View.{additive_view, multiplicative_view, placed_views}
 use Rattle.chr_read.specs.Machine.{elements, have, limited, run}
 use Rattle.chr_read.specs.Reads.{closing}
-use Rattle.chr_read.specs.View.{additive_operands, multiplicative_operands, products, sums, view, views}
+use Rattle.chr_read.specs.View.{view, views}
 use Rattle.chr_read.proofs.Steps.{elements_close, sum_settles}
-use Rattle.chr_read.proofs.Views.{products_pushed, sums_pushed, map_pushed}
+use Rattle.chr_read.proofs.Views.{products_grown, sums_grown, map_pushed}
 use Rattle.chr_read.proofs.exprs.+expr.Goals as goal
 
 pub elements-loop-after-preserved : goal.elements-loop-after-preserved
@@ -31,30 +31,24 @@ elements-returns-clause-reads g t c q b k h =
 
 pub product-loop-operator-preserved : goal.product-loop-operator-preserved
 product-loop-operator-preserved g t c =
-    let first = view c.loop-operator.first-1 in
-    let others = c.loop-operator.others.items in
-    let whole = products first (multiplicative_operands others) in
-    let pushed = ap (λ es. products first (multiplicative_operands es)) c.in_ok-push.ensures.items ∙ products_pushed first others (c.in-Some.operator, c.in_ok-operand.operand) in
+    let operator = multiplicative_view c.in-Some.operator in
     record {
       reads = λ s k h. c.loop-operator.invariant.reads s k h
-          ∙ ap (run limited (have s whole k)) c.in-Some.ensures.first
-          ∙ c.in_ok-operand.ensures.reads (record { sum = s; product = Some (whole, multiplicative_view c.in-Some.operator) }) k h
-          ∙ ap (λ e. run limited (have s e k) (placed_views c.in_ok-operand.behind.now)) (sym pushed);
+          ∙ ap (run limited (have s _ k)) c.in-Some.ensures.first
+          ∙ c.in_ok-operand.ensures.reads (record { sum = s; product = Some (_, operator) }) k h
+          ∙ ap (λ e. run limited (have s e k) (placed_views c.in_ok-operand.behind.now)) (products_grown _ _ _ _ c.in_ok-push.ensures.items);
       shorter = omega (arith, c.loop-operator.invariant.shorter, c.in-Some.ensures.shorter, c.in_ok-operand.ensures.shorter);
     }
 
 pub sum-loop-operator-preserved : goal.sum-loop-operator-preserved
 sum-loop-operator-preserved g t c =
-    let first = view c.loop-operator.first-1 in
-    let others = c.loop-operator.others.items in
-    let whole = sums first (additive_operands others) in
-    let pushed = ap (λ es. sums first (additive_operands es)) c.in_ok-push.ensures.items ∙ sums_pushed first others (c.in-Some.operator, c.in_ok-operand.operand) in
+    let operator = additive_view c.in-Some.operator in
     record {
       reads = λ k h. c.loop-operator.invariant.reads k h
-          ∙ ap (run limited (have None whole k)) c.in-Some.ensures.first
-          ∙ c.in_ok-operand.ensures.reads (Some (whole, additive_view c.in-Some.operator)) k h
-          ∙ sum_settles (Some (whole, additive_view c.in-Some.operator)) (view c.in_ok-operand.operand) k (placed_views c.in_ok-operand.behind.now) c.in_ok-operand.ensures.no_product
-          ∙ ap (λ e. run limited (have None e k) (placed_views c.in_ok-operand.behind.now)) (sym pushed);
+          ∙ ap (run limited (have None _ k)) c.in-Some.ensures.first
+          ∙ c.in_ok-operand.ensures.reads (Some (_, operator)) k h
+          ∙ sum_settles (Some (_, operator)) (view c.in_ok-operand.operand) k (placed_views c.in_ok-operand.behind.now) c.in_ok-operand.ensures.no_product
+          ∙ ap (λ e. run limited (have None e k) (placed_views c.in_ok-operand.behind.now)) (sums_grown _ _ _ _ c.in_ok-push.ensures.items);
       shorter = omega (arith, c.loop-operator.invariant.shorter, c.in-Some.ensures.shorter, c.in_ok-operand.ensures.shorter);
       no_product = c.in_ok-operand.ensures.no_product;
     }
