@@ -5,5 +5,5 @@ mod Limits
 pub mod Steps
 pub mod Sections
 pub mod Listings
-mod Views
+pub mod Views
 mod Laws

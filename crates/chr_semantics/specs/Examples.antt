@@ -4,3 +4,4 @@ pub mod Example
 pub mod Runs
 pub mod Numbers
 pub mod Speculation
+pub mod Syntaxes

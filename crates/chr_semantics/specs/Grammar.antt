@@ -1,5 +1,5 @@
 -- The grammar, a constructor for each way to spell a phrase (Frühwirth 2009, syntax of CHR; directives as in the CHR systems of Prolog).
-use Rattle.std.specs.Prelude.{◌≡◌, ℕ, ℤ, pos, neg_ℤ, nat_le, Bool, true, false, List, [], ◌∷◌, ◌++◌, Option, Some, None, codes}
+use Rattle.std.specs.Prelude.{◌≡◌, ℕ, pos, neg_ℤ, nat_le, Bool, true, false, List, [], ◌∷◌, ◌++◌, Option, Some, None, codes}
 use Rattle.std.specs.Str.{encode_utf8_all}
 use Rattle.chr_semantics.specs.Tokens as token
 use Rattle.chr_semantics.specs.Tokens.{Place, Additive, minus, Multiplicative, Relation, Sign, opens, closes, opens_list, closes_list, comma, bar, label, backslash, hash, simplifies, propagates, slash, stop, Token, name, numeral, additive, multiplicative, relation, sign, over, Placed, at}

@@ -14,6 +14,8 @@ pub mod Tokens
 pub mod Syntax
 pub mod Grammar
 pub mod Reading
+pub mod Meaning
+pub mod Checked
 pub mod Print
 pub mod Text
 pub mod Touch

@@ -1,7 +1,7 @@
 -- How a text is read: what it spells within the limits, or what is wrong with it and where (this project's own choice of errors).
-use Rattle.std.specs.Prelude.{◌≡◌, ℕ, suc, pred, ◌<◌, ◌≤◌, Bool, if◌then◌else◌, List, [], ◌∷◌, ◌++◌, length}
+use Rattle.std.specs.Prelude.{◌≡◌, ℕ, suc, pred, ◌<◌, ◌≤◌, if◌then◌else◌, List, [], ◌∷◌, ◌++◌, length}
 use Rattle.std.specs.Str.{IsUtf8, chars}
-use Rattle.chr_semantics.specs.Tokens.{Place, Sign, opens, closes, opens_list, closes_list, Token, variable, name, numeral, additive, multiplicative, relation, sign, fault, over, bad_character, unclosed_comment, too_large, Placed, at, tokens}
+use Rattle.chr_semantics.specs.Tokens.{Place, opens, closes, opens_list, closes_list, Token, numeral, sign, fault, bad_character, unclosed_comment, too_large, Placed, at, tokens}
 use Rattle.chr_semantics.specs.Grammar.{is_number}
 
 -- a `(` or `[` opens a bracket

@@ -2,6 +2,7 @@
 //! examples.
 #![tactic(auto)]
 
+pub mod checks;
 pub mod laws;
 pub mod runs;
 pub mod speculation;

@@ -221,6 +221,17 @@ fn intern_or_keep<A: Allocator + Copy>(names: &mut Names<A>, rt: &impl Abort) ->
     Some(())
 }
 
+/// Copies the names of variables. `None` where memory is refused.
+fn copied_names<A: Allocator + Copy>(alloc: A, rt: &impl Abort) -> Option<()> {
+    let names = var_names(alloc, &["X", "_", "Long_name"]).ok()?;
+    let copied = names.copy().ok()?;
+    assert_eq!(rt; copied.len(), 3);
+    assert_eq!(rt; copied.name(0), Some("X"));
+    assert_eq!(rt; copied.name(1), None);
+    assert_eq!(rt; copied.name(2), Some("Long_name"));
+    Some(())
+}
+
 /// Makes, copies and prints. `None` where memory is refused.
 fn all_calls<A: Allocator + Copy>(alloc: A, rt: &impl Abort) -> Option<()> {
     let mut names = own_names(alloc, rt).ok()?;
@@ -229,7 +240,13 @@ fn all_calls<A: Allocator + Copy>(alloc: A, rt: &impl Abort) -> Option<()> {
     let copied = copy(alloc, &term).ok()?;
     let text = text_of(alloc, rt, &copied).ok()?;
     assert_eq!(rt; text.as_slice(), b">(1+2)*(3+4)".as_slice());
-    Some(())
+    copied_names(alloc, rt)
+}
+
+#[test]
+fn var_names_calls(rt: HostRuntime) -> Result<(), Fail> {
+    assert_eq!(&rt; copied_names(rt.alloc(), &rt), Some(()));
+    Ok(())
 }
 
 #[test]

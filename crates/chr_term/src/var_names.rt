@@ -1,6 +1,8 @@
-ghost use Rattle.std.specs.Prelude.{◌≡◌, ◌↔◌, [], length, map, IsTrue, Some, option_copied, string_bytes};
+ghost use Rattle.std.specs.Prelude.{◌≡◌, ◌↔◌, [], length, map, IfOk, IsTrue, Some, option_copied, string_bytes};
 ghost use Rattle.chr_semantics.specs.Names.{if_capital, var_name};
+ghost use Rattle.chr_term.specs.Texts.{texts_of};
 
+use crate::Memory;
 use std::alloc::{Allocator, Global};
 use std::marker::Model;
 
@@ -56,6 +58,30 @@ impl<A: Allocator> VarNames<A> {
             None
         }
     }
+}
+
+impl<A: Allocator + Copy> VarNames<A> {
+    /// Equal names, in memory of their own.
+    pub fn copy(&self) -> Result<VarNames<A>, Memory>
+        ensures { IfOk result (λ copied. copied ≡ self.now) }
+    {
+        let names = copy_texts(*self.names.allocator(), self.names.as_slice())?;
+        Ok(VarNames { names })
+    }
+}
+
+/// Equal texts.
+fn copy_texts<A: Allocator + Copy>(
+    alloc: A,
+    texts: &[String<A>],
+) -> Result<Vec<String<A>, A>, Memory>
+    ensures { IfOk result (λ copied. texts_of copied.items ≡ texts_of texts.now) }
+{
+    let mut copied = Vec::with_capacity(alloc, texts.len())?;
+    for text in texts {
+        copied.push(String::from_str(alloc, text.as_str())?)?;
+    }
+    Ok(copied)
 }
 
 fn begins_with_capital(name: &str) -> bool

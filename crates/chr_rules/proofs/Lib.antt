@@ -1,0 +1,13 @@
+pub mod Listed
+pub mod Occurrences
+pub mod Within
+pub mod Weighs
+pub mod Each
+pub mod Pushed
+pub mod Numbered
+pub mod Turned
+pub mod Called
+pub mod Mistakes
+pub mod Ruled
+pub mod Placed
+pub mod Few

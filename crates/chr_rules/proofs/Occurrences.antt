@@ -1,0 +1,137 @@
+-- What an occurrence is of: a rule of the program, at its number, and one of the rule's heads.
+use Rattle.std.proofs.Common.{◌≡◌, ◌∙◌, ℕ, zero, suc, ◌+◌, ◌-◌, ◌<◌, ◌≤◌, ◌++◌, List, [], ◌∷◌, length, refl, ap, sym, subst, arith, Bool, true, false, not, ◌&&◌, ◌==◌, map, cond, get_or, Some}
+use Rattle.std.specs.Prelude.{slice_get, reverse}
+use Rattle.std.proofs.lemmas.List.{reverse-append, length-append, length-map}
+use Rattle.chr_semantics.specs.Program.{Head, Rule, Program, Occurrence, places_from, occurrences_in, occurrences_from, occurrences, occurrence}
+use Rattle.chr_rules.specs.Index.{pair_view, pairs_view, pair_of, pairs_of, head_count}
+use Rattle.chr_rules.specs.declared.index.Occurrence.{Occurrence as Pair}
+
+Every : {X : Type 0} → (X → Type 0) → List X → Type 0
+Every P [] = Unit {0}
+Every P (x ∷ xs) = P x × Every P xs
+
+every-append : {X : Type 0} (P : X → Type 0) (xs ys : List X) → Every P xs → Every P ys → Every P (xs ++ ys)
+unfolding Every
+every-append P [] ys h k = k
+every-append P (x ∷ xs) ys h k = (h.0, every-append P xs ys h.1 k)
+
+every-reverse : {X : Type 0} (P : X → Type 0) (xs : List X) → Every P xs → Every P (reverse xs)
+unfolding Every
+every-reverse P [] h = tt
+every-reverse P (x ∷ xs) h = subst (Every P) (sym (reverse-append (x ∷ []) xs)) (every-append P (reverse xs) (x ∷ []) (every-reverse P xs h.1) (h.0, tt))
+
+every-get : {X : Type 0} (P : X → Type 0) (xs : List X) (k : ℕ) (x : X) → slice_get xs k ≡ Some x → Every P xs → P x
+unfolding Every
+every-get P [] k x e h = cc
+every-get P (y ∷ xs) zero x e h = let same : y ≡ x = cc in subst P same h.0
+every-get P (y ∷ xs) (suc k) x e h = every-get P xs k x e h.1
+
+-- an occurrence of the rules that begin with the number r
+record IsFrom (r : ℕ) (p : Program) (o : Occurrence) : Type 0 where
+  number : r ≤ o.number
+  rule : slice_get p (o.number - r) ≡ Some o.rule
+  place : o.place < length o.rule.heads
+
+places_below : (b : Bool) (k m n : ℕ) (ks : List ℕ) → k < n → m ≤ n → Every (λ place. place < n) ks → Every (λ place. place < n) (cond b (k ∷ ks) ks)
+unfolding Every
+places_below true k m n ks h l e = (h, e)
+places_below false k m n ks h l e = e
+
+places_within : (k f n : ℕ) (hs : List Head) → k + length hs ≤ n → Every (λ place. place < n) (places_from k f hs)
+unfolding Every
+places_within k f n [] h = tt
+places_within k f n (x ∷ hs) h = places_below (x.atom.sym == f && not x.passive) k k n (places_from (k + 1) f hs) (omega (arith, h)) (omega (arith, h)) (places_within (k + 1) f n hs (omega (arith, h)))
+
+from_places : (r : ℕ) (rule : Rule) (p : Program) (ks : List ℕ) → Every (λ place. place < length rule.heads) ks → Every (IsFrom r (rule ∷ p)) (map (λ k. record { number = r; rule = rule; place = k }) ks)
+unfolding Every
+from_places r rule p [] h = tt
+from_places r rule p (k ∷ ks) h =
+    let none : r - r ≡ 0 = omega arith in
+    (record { number = omega arith; rule = rw none; place = h.0 }, from_places r rule p ks h.1)
+
+from_behind : (r : ℕ) (rule : Rule) (p : Program) (os : List Occurrence) → Every (IsFrom (r + 1) p) os → Every (IsFrom r (rule ∷ p)) os
+unfolding Every
+from_behind r rule p [] h = tt
+from_behind r rule p (o ∷ os) h =
+    let one : o.number - r ≡ suc (o.number - (r + 1)) = omega (arith, h.0.number) in
+    (record { number = omega (arith, h.0.number); rule = rw one h.0.rule; place = h.0.place }, from_behind r rule p os h.1)
+
+all_from : (r : ℕ) (p : Program) (f : ℕ) → Every (IsFrom r p) (occurrences_from r p f)
+unfolding Every
+all_from r [] f = tt
+all_from r (rule ∷ p) f =
+    every-append (IsFrom r (rule ∷ p)) (occurrences_in r rule f) (occurrences_from (r + 1) p f)
+    (from_places r rule p (reverse (places_from 0 f rule.heads)) (every-reverse (λ place. place < length rule.heads) (places_from 0 f rule.heads) (places_within 0 f (length rule.heads) rule.heads (omega arith))))
+    (from_behind r rule p (occurrences_from (r + 1) p f) (all_from (r + 1) p f))
+
+-- an occurrence of the program: its rule stands at its number, and its place is of a head
+pub record IsIn (p : Program) (o : Occurrence) : Type 0 where
+  pub rule : slice_get p o.number ≡ Some o.rule
+  pub place : o.place < length o.rule.heads
+
+pub occurrence_in : (p : Program) (f j : ℕ) (o : Occurrence) → occurrence p f j ≡ Some o → IsIn p o
+occurrence_in p f zero o e = cc
+occurrence_in p f (suc k) o e =
+    let from = every-get (IsFrom 0 p) (occurrences_from 0 p f) k o e (all_from 0 p f) in
+    let whole : o.number - 0 ≡ o.number = omega arith in
+    record { rule = rw whole at from.rule; place = from.place }
+
+length_step : (b : Bool) (k m : ℕ) (ks : List ℕ) → length ks ≤ m → length (cond b (k ∷ ks) ks) ≤ m + 1
+length_step true k m ks h = omega (arith, h)
+length_step false k m ks h = omega (arith, h)
+
+length-places : (k f : ℕ) (hs : List Head) → length (places_from k f hs) ≤ length hs
+length-places k f [] = omega arith
+length-places k f (h ∷ hs) = omega (arith, length_step (h.atom.sym == f && not h.passive) k (length hs) (places_from (k + 1) f hs) (length-places (k + 1) f hs))
+
+length-reverse : {X : Type 0} (xs : List X) → length (reverse xs) ≡ length xs
+length-reverse [] = refl
+length-reverse (x ∷ xs) = ap length (reverse-append (x ∷ []) xs) ∙ omega (arith, length-append (reverse xs) (x ∷ []), length-reverse xs)
+
+length-occurrences_in : (r : ℕ) (rule : Rule) (f : ℕ) → length (occurrences_in r rule f) ≤ length rule.heads
+length-occurrences_in r rule f =
+    omega (arith, length-map {B = Occurrence} (reverse (places_from 0 f rule.heads)) (λ k. record { number = r; rule = rule; place = k }), length-reverse (places_from 0 f rule.heads), length-places 0 f rule.heads)
+
+length-occurrences_from : (r : ℕ) (p : Program) (f : ℕ) → length (occurrences_from r p f) ≤ head_count p
+length-occurrences_from r [] f = omega arith
+length-occurrences_from r (rule ∷ p) f =
+    omega (arith, length-append (occurrences_in r rule f) (occurrences_from (r + 1) p f), length-occurrences_in r rule f, length-occurrences_from (r + 1) p f)
+
+-- there are no more occurrences than heads
+pub length-occurrences : (p : Program) (f : ℕ) → length (occurrences p f) ≤ head_count p
+length-occurrences p f = length-occurrences_from 0 p f
+
+get_below : {X : Type 0} (xs : List X) (k : ℕ) (x : X) → slice_get xs k ≡ Some x → k < length xs
+get_below [] k x e = cc
+get_below (y ∷ xs) zero x e = omega arith
+get_below (y ∷ xs) (suc k) x e = omega (arith, get_below xs k x e)
+
+-- the occurrence with a number, as a pair
+pub record IsNumbered (p : Program) (f n : ℕ) (pair : ℕ × ℕ) : Type 0 where
+  pub is : Occurrence
+  pub found : occurrence p f n ≡ Some is
+  pub as_pair : pair ≡ pair_of is
+
+same_pairs : (os : List Pair) (qs : List Occurrence) (k : ℕ) (d : Pair) → map pair_view os ≡ map pair_of qs → k < length os → (q : Occurrence) × (slice_get qs k ≡ Some q) × (pair_view (get_or os k d) ≡ pair_of q)
+same_pairs [] qs k d e h = absurd (omega (arith, h))
+same_pairs (o ∷ os) [] k d e h = absurd (cc)
+same_pairs (o ∷ os) (q ∷ qs) zero d e h = (q, refl, cc)
+same_pairs (o ∷ os) (q ∷ qs) (suc k) d e h = same_pairs os qs k d (cc) (omega (arith, h))
+
+occurrence_at : (p : Program) (f n : ℕ) → 0 < n → occurrence p f n ≡ slice_get (occurrences p f) (n - 1)
+occurrence_at p f zero h = absurd (omega (arith, h))
+occurrence_at p f (suc k) h = let e : suc k - 1 ≡ k = omega arith in rw e
+
+pub numbered : (p : Program) (f n : ℕ) (os : List Pair) (d : Pair) → pairs_view os ≡ pairs_of (occurrences p f) → 0 < n → n ≤ length os → IsNumbered p f n (pair_view (get_or os (n - 1) d))
+numbered p f n os d e some within =
+    let at = same_pairs os (occurrences p f) (n - 1) d e (omega (arith, some, within)) in
+    record { is = at.0; found = occurrence_at p f n some ∙ at.1; as_pair = at.2 }
+
+-- it is of a rule of the program
+pub numbered_rule : (p : Program) (f n : ℕ) (pair : ℕ × ℕ) → IsNumbered p f n pair → pair.0 < length p
+numbered_rule p f n pair h = let within = get_below p h.is.number h.is.rule (occurrence_in p f n h.is h.found).rule in omega (arith, within, ap (λ (q : ℕ × ℕ). q.0) h.as_pair)
+
+-- and its number is no more than the heads
+pub numbered_few : (p : Program) (f : ℕ) (os : List Pair) → pairs_view os ≡ pairs_of (occurrences p f) → length os ≤ head_count p
+numbered_few p f os e =
+    omega (arith, length-map os pair_view, length-map (occurrences p f) pair_of, ap length e, length-occurrences p f)

@@ -1,0 +1,21 @@
+use Rattle.std.proofs.Common.{◌∙◌, [], ◌∷◌, ap, length, sym}
+use Rattle.chr_semantics.specs.Meaning.{scope}
+use Rattle.chr_semantics.specs.Program.{constraint}
+use Rattle.chr_semantics.specs.Syntax.{exprs_of}
+use Rattle.chr_read.specs.View.{views}
+use Rattle.chr_rules.proofs.Called.{goal_called, goal_failing, goal_left_out}
+use Rattle.chr_rules.proofs.Within.{count_views}
+use Rattle.chr_rules.proofs.goals.called.Goals as goal
+
+pub returns-then-is_test : goal.returns-then-is_test
+returns-then-is_test g c =
+    sym (goal_left_out (scope c.args.names.now c.args.variables.now) c.args.name.now (exprs_of (views c.args.args.now)) (length c.args.args.now) (sym (count_views c.args.args.now)) c.if-is_test.ensures)
+
+pub returns-then-is_fail : goal.returns-then-is_fail
+returns-then-is_fail g c =
+    sym (goal_failing (scope c.args.names.now c.args.variables.now) c.args.name.now (exprs_of (views c.args.args.now)) (length c.args.args.now) (sym (count_views c.args.args.now)) c.if-is_test.ensures c.if-is_fail.ensures)
+
+pub returns : goal.returns
+returns g c =
+    ap (λ a. (a.0, constraint a.1 ∷ [])) c.in_ok-sym.ensures
+    ∙ sym (goal_called (scope c.args.names.now c.args.variables.now) c.args.name.now (exprs_of (views c.args.args.now)) (length c.args.args.now) (sym (count_views c.args.args.now)) c.if-is_test.ensures c.if-is_fail.ensures)

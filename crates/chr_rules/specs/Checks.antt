@@ -1,0 +1,69 @@
+-- What is looked for in an item, and what is wrong with a rule, part by part.
+use Rattle.std.specs.Prelude.{ℕ, ◌≡◌, ◌≢◌, Bool, List, [], ◌∷◌, ◌++◌, ◌&&◌, nat_lt, nat_le, length, Option, Some, None, option_map, Result, Ok, Err}
+use Rattle.std.specs.List.{list_any}
+use Rattle.chr_semantics.specs.Names.{Names}
+use Rattle.chr_semantics.specs.Program.{Program}
+use Rattle.chr_semantics.specs.Syntax as syntax
+use Rattle.chr_semantics.specs.Syntax.{Item}
+use Rattle.chr_semantics.specs.Meaning.{all_heads, has_backslash, propagates}
+use Rattle.chr_semantics.specs.Checked.{Mistake, undeclared, builtin_in_head, not_a_goal, not_a_test, guard_variable, guard_only, duplicate_name, too_many_heads, arity_too_large, too_many_rules, backslash_in_propagation, too_many_variables, Refusal, is_undeclared, is_built_in, is_no_goal, is_no_test, is_guard_only, is_free, is_wide, on_sides, head_items, has_label}
+use Rattle.chr_rules.specs.declared.checks.Check.{Check}
+use Rattle.chr_rules.specs.declared.checks.Check.TheVariants as C
+use Rattle.chr_rules.specs.declared.error.RuleFault.{RuleFault}
+use Rattle.chr_rules.specs.declared.error.RuleFault.TheVariants as fault
+use Rattle.chr_rules.specs.declared.error.RuleError.{RuleError}
+
+abbrev pub check_view : {A : Type 0} → Check A → Item → Bool
+check_view (C.Undeclared names declared) = is_undeclared names.now declared
+check_view C.BuiltIn = is_built_in
+check_view C.NoGoal = is_no_goal
+check_view C.NoTest = is_no_test
+check_view (C.Free variables) = on_sides (is_free variables.now)
+check_view C.GuardOnly = is_guard_only
+check_view C.Wide = on_sides is_wide
+
+-- a mistake as it is answered
+abbrev pub fault_of : Mistake → RuleFault
+fault_of undeclared = fault.Undeclared
+fault_of builtin_in_head = fault.BuiltinInHead
+fault_of not_a_goal = fault.NotAGoal
+fault_of not_a_test = fault.NotATest
+fault_of guard_variable = fault.GuardVariable
+fault_of guard_only = fault.GuardOnly
+fault_of duplicate_name = fault.DuplicateName
+fault_of too_many_heads = fault.TooManyHeads
+fault_of arity_too_large = fault.ArityTooLarge
+fault_of too_many_rules = fault.TooManyRules
+fault_of backslash_in_propagation = fault.BackslashInPropagation
+fault_of too_many_variables = fault.TooManyVariables
+
+abbrev pub error_of : Refusal → RuleError
+error_of r = record { kind = fault_of r.mistake; line = r.line; rule = r.rule }
+
+-- the answer, unless memory was refused
+abbrev pub IsFault : RuleFault → Option Mistake → Type 0
+IsFault f m = f ≢ fault.Memory → option_map fault_of m ≡ Some f
+
+-- Memory is answered with no line and no rule. Any other answer is the refusal.
+abbrev pub IsError : {S : Type 0} → RuleError → Result S Refusal → Type 0
+IsError e (Ok s) = e ≡ record { kind = fault.Memory; line = 0; rule = 0 }
+IsError e (Err r) = e ≢ record { kind = fault.Memory; line = 0; rule = 0 } → e ≡ error_of r
+
+-- what is wrong with the items of a rule, before its heads are looked at as such
+abbrev pub wrong_items : Names → ℕ → syntax.Rule → List (Bool × Mistake)
+wrong_items names declared r =
+    (list_any (is_undeclared names declared) (head_items r ++ r.body), undeclared) ∷
+    (list_any is_built_in (head_items r), builtin_in_head) ∷
+    (list_any is_no_goal (head_items r ++ r.body), not_a_goal) ∷
+    (list_any is_no_test r.guard, not_a_test) ∷ []
+
+-- what is wrong with a rule whose heads have these variables
+abbrev pub wrong_rule : List (List ℕ) → Program → syntax.Rule → List (Bool × Mistake)
+wrong_rule vars earlier r =
+    (list_any (on_sides (is_free vars)) r.guard, guard_variable) ∷
+    (list_any is_guard_only r.body, guard_only) ∷
+    (has_label r.label earlier, duplicate_name) ∷
+    (nat_lt 8 (length (all_heads r)), too_many_heads) ∷
+    (list_any (on_sides is_wide) (head_items r ++ (r.guard ++ r.body)), arity_too_large) ∷
+    (nat_le 1024 (length earlier), too_many_rules) ∷
+    (propagates r.arrow && has_backslash r, backslash_in_propagation) ∷ []

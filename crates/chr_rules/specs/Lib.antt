@@ -1,0 +1,10 @@
+pub mod Words
+pub mod View
+pub mod Heads
+pub mod Turns
+pub mod Operands
+pub mod Index
+pub mod Checks
+pub mod Building
+pub mod Standing
+pub mod Weight

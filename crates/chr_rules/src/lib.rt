@@ -1,0 +1,21 @@
+//! Checked programs and queries: what a syntax stands for, or the first mistake in it with its line and rule.
+#![tactic(auto)]
+
+mod building;
+mod builtins;
+mod checks;
+mod error;
+mod goals;
+mod index;
+mod parts;
+mod program;
+mod queries;
+mod rule;
+mod rules;
+mod trees;
+mod variables;
+
+pub use error::{RuleError, RuleFault};
+pub use index::Occurrence;
+pub use program::Program;
+pub use rule::{Goal, Op, Query, Rule, copy_goals};

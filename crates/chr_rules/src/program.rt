@@ -1,0 +1,120 @@
+//! Programs: their checks, their rules, and the occurrences of each symbol.
+ghost use Rattle.std.specs.Prelude.{◌≡◌, ◌<◌, ◌^◌, IfErr, IfOk, IfSome, Ok, OnSome, Some, length, option_map, slice_get};
+ghost use Rattle.chr_semantics.specs.Checked.{checked, checked_query};
+ghost use Rattle.chr_semantics.specs.Program.{occurrence, occurrences};
+ghost use Rattle.chr_read.specs.View.{program_view, query_view as syntax_query};
+ghost use Rattle.chr_rules.specs.Checks.{IsError};
+ghost use Rattle.chr_rules.specs.Index.{AreListed, head_count, pair_of, pair_view, pairs_of, pairs_view};
+ghost use Rattle.chr_rules.specs.View.{query_view, rule_view, rules_view};
+
+use crate::building::{declare_all, rules};
+use crate::error::RuleError;
+use crate::index::{Occurrence, index_of};
+use crate::queries::query;
+use crate::rule::{Query, Rule};
+use chr_read::{ProgramSyntax, QuerySyntax};
+use chr_term::{Names, Sym};
+use std::alloc::{Allocator, Global};
+
+/// A program: its rules, the names of its symbols, and the occurrences of each symbol.
+#[derive(Drop)]
+pub struct Program<A: Allocator = Global> {
+    alloc: A,
+    names: Names<A>,
+    /// How many symbols are the first seven or declared; these have the numbers below.
+    declared: usize,
+    rules: Vec<Rule<A>, A>,
+    index: Vec<Vec<Occurrence, A>, A>,
+    ghost listed: { AreListed index.items (rules_view rules.items) },
+    ghost few: { head_count (rules_view rules.items) < 2 ^ 31 },
+}
+
+impl<A: Allocator + Copy> Program<A> {
+    ghost use Rattle.chr_rules.specs.Standing.{checked_view};
+
+    /// What a syntax stands for, or what is wrong with it first: the declarations are looked at first, then the rules, both in their order.
+    /// `Memory` is also answered where more than 4,294,967,295 symbols would be named.
+    pub fn build(alloc: A, syntax: ProgramSyntax<A>) -> Result<Program<A>, RuleError>
+        ensures accepted { IfOk result (λ program. checked (program_view syntax) ≡ Ok (checked_view program)) }
+        ensures refused { IfErr result (λ e. IsError e (checked (program_view syntax))) }
+    {
+        let parts = syntax.parts.as_slice();
+        let mut names = Names::new(alloc)?;
+        declare_all(&mut names, parts)?;
+        let declared = names.len();
+        let rules = rules(alloc, &mut names, declared, parts)?;
+        let index = index_of(alloc, rules.as_slice())?;
+        Ok(Program {
+            alloc,
+            names,
+            declared,
+            rules,
+            index,
+        })
+    }
+
+    /// What a query over this program stands for, or what is wrong with it first. The names grow, also where memory is refused.
+    pub fn goals_of_query(&mut self, syntax: QuerySyntax<A>) -> Result<Query<A>, RuleError>
+        ensures accepted { IfOk result (λ query. checked_query (checked_view self.old) (syntax_query syntax) ≡ Ok ((checked_view self.new).names, query_view query)) }
+        ensures refused { IfErr result (λ e. IsError e (checked_query (checked_view self.old) (syntax_query syntax))) }
+        ensures declared { (checked_view self.new).declared ≡ (checked_view self.old).declared }
+        ensures rules { (checked_view self.new).rules ≡ (checked_view self.old).rules }
+    {
+        query(self.alloc, &mut self.names, self.declared, &syntax)
+    }
+}
+
+impl<A: Allocator> Program<A> {
+    ghost use Rattle.chr_rules.specs.Standing.{checked_view};
+
+    /// The names of its symbols.
+    pub fn names(&self) -> &Names<A>
+        ensures { result.now ≡ (checked_view self.now).names }
+    {
+        &self.names
+    }
+
+    /// The number of its rules.
+    pub fn rules(&self) -> usize
+        ensures { result ≡ length (checked_view self.now).rules }
+    {
+        self.rules.len()
+    }
+
+    /// The k-th rule, counted from 0.
+    pub fn rule(&self, k: usize) -> &Rule<A>
+        requires { k < length (checked_view self.now).rules }
+        ensures { slice_get (checked_view self.now).rules k ≡ Some (rule_view result.now) }
+    {
+        &self.rules[k]
+    }
+
+    /// The occurrences of a symbol: over the rules downwards, and over the heads of a rule from right to left.
+    pub fn occurrences(&self, sym: Sym) -> &[Occurrence]
+        ensures { pairs_view result.now ≡ pairs_of (occurrences (checked_view self.now).rules sym.0) }
+    {
+        let place = sym.0 as usize;
+        if place < self.index.len() {
+            self.index[place].as_slice()
+        } else {
+            &[]
+        }
+    }
+}
+
+impl<A: Allocator> Program<A> {
+    ghost use Rattle.chr_rules.specs.Standing.{checked_view};
+
+    /// The occurrence of a symbol by its number, which counts from 1.
+    pub fn occurrence(&self, sym: Sym, number: u32) -> Option<Occurrence>
+        ensures found { option_map pair_view result ≡ option_map pair_of (occurrence (checked_view self.now).rules sym.0 number) }
+        ensures rule { IfSome result (λ found. found.rule < length (checked_view self.now).rules) }
+        ensures few { OnSome result (number < 2 ^ 31) }
+    {
+        let places = self.occurrences(sym);
+        if number == 0 || number as usize > places.len() {
+            return None;
+        }
+        Some(places[number as usize - 1])
+    }
+}

@@ -1,0 +1,74 @@
+//! Queries.
+ghost use Rattle.std.specs.Prelude.{◌≡◌, IfErr, IfOk, Ok, option_map};
+ghost use Rattle.chr_semantics.specs.Checked.{checked_query, mistake_in_query, query_from};
+ghost use Rattle.chr_semantics.specs.Program.{Program};
+ghost use Rattle.chr_read.specs.View.{item_views, query_view as syntax_query};
+ghost use Rattle.chr_rules.specs.Building.{checked_of};
+ghost use Rattle.chr_rules.specs.Checks.{fault_of, IsError};
+ghost use Rattle.chr_rules.specs.View.{query_view};
+
+use crate::building::error;
+use crate::checks::{Check, in_items};
+use crate::error::{RuleError, RuleFault};
+use crate::goals::goals;
+use crate::rule::Query;
+use crate::variables::Variables;
+use chr_read::{Item, QuerySyntax};
+use chr_term::{Memory, Names};
+use std::alloc::Allocator;
+
+/// A query over a program with these names, of which so many are the first seven or declared.
+pub(crate) fn query<A: Allocator + Copy>(
+    alloc: A,
+    names: &mut Names<A>,
+    declared: usize,
+    syntax: &QuerySyntax<A>,
+) -> Result<Query<A>, RuleError>
+    ensures accepted { IfOk result (λ query. (rules : Program) → checked_query (checked_of names.old declared rules) (syntax_query syntax.now) ≡ Ok (names.new, query_view query)) }
+    ensures refused { IfErr result (λ e. (rules : Program) → IsError e (checked_query (checked_of names.old declared rules) (syntax_query syntax.now))) }
+{
+    let items = syntax.items.as_slice();
+    if let Some(fault) = wrong_goals(names, declared, items) {
+        return Err(error(fault, syntax.line, 0));
+    }
+    Ok(accepted(alloc, names, items)?)
+}
+
+/// The query of items that are goals.
+fn accepted<A: Allocator + Copy>(
+    alloc: A,
+    names: &mut Names<A>,
+    items: &[Item<A>],
+) -> Result<Query<A>, Memory>
+    ensures { IfOk result (λ query. query_from names.old (item_views items.now) ≡ (names.new, query_view query)) }
+{
+    let mut variables = Variables::new(alloc);
+    let goals = goals(alloc, names, &mut variables, items)?;
+    Ok(Query {
+        goals,
+        var_names: variables.names(alloc)?,
+    })
+}
+
+/// What is wrong first with the items of a query.
+fn wrong_goals<A: Allocator + Copy>(
+    names: &Names<A>,
+    declared: usize,
+    items: &[Item<A>],
+) -> Option<RuleFault>
+    ensures { result ≡ option_map fault_of (mistake_in_query names.now declared (item_views items.now)) }
+{
+    if in_items(Check::Undeclared(names, declared), items) {
+        return Some(RuleFault::Undeclared);
+    }
+    if in_items(Check::NoGoal, items) {
+        return Some(RuleFault::NotAGoal);
+    }
+    if in_items(Check::GuardOnly, items) {
+        return Some(RuleFault::GuardOnly);
+    }
+    if in_items(Check::Wide, items) {
+        return Some(RuleFault::ArityTooLarge);
+    }
+    None
+}

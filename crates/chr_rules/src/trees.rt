@@ -1,0 +1,211 @@
+//! The trees of expressions.
+ghost use Rattle.std.specs.Prelude.{◌≡◌, [], IfOk, OnOk, Some, map};
+ghost use Rattle.chr_semantics.specs.Meaning.{additive_symbol, atom_from, in_turn, multiplicative_symbol, node_of, scope, tree_from};
+ghost use Rattle.chr_semantics.specs.Names.{symbol_of, with_symbol};
+ghost use Rattle.chr_semantics.specs.Syntax.{exprs_of, list as syntax_list, nil};
+ghost use Rattle.chr_term.specs.View.{view};
+ghost use Rattle.chr_read.specs.View.{additive_operands, multiplicative_operands, products, sums, view as syntax_view, views};
+ghost use Rattle.chr_tokens.specs.View.{additive_view, multiplicative_view};
+ghost use Rattle.chr_rules.specs.View.{atom_view};
+ghost use Rattle.chr_rules.specs.Turns.{listed, tree_turn};
+
+use crate::variables::Variables;
+use chr_read::Expr;
+use chr_term::{Memory, Names, Sym, Term};
+use chr_tokens::{Additive, Multiplicative};
+use std::alloc::{AllocError, Allocator};
+
+/// The tree of an expression. The names and variables that are new get the next numbers.
+#[cycle(tree)]
+pub(crate) fn tree<'s, A: Allocator + Copy>(
+    alloc: A,
+    names: &mut Names<A>,
+    variables: &mut Variables<'s, A>,
+    expr: &'s Expr<A>,
+) -> Result<Term<A>, Memory>
+    ensures { IfOk result (λ tree. (scope names.new variables.new, view tree) ≡ tree_from (scope names.old variables.old) (syntax_view expr.now)) }
+{
+    match expr {
+        Expr::Variable(word) => Ok(Term::Var(variables.meet(word.as_str())?)),
+        Expr::Number(number) => Ok(Term::Int(*number)),
+        Expr::Call(name, args) => {
+            let (sym, args) = atom(alloc, names, variables, name.as_str(), args.as_slice())?;
+            Ok(Term::Node(sym, args))
+        }
+        Expr::List(items) => list(alloc, names, variables, items.as_slice()),
+        Expr::ListWithEnd(items, end) => {
+            list_with_end(alloc, names, variables, items.as_slice(), &**end)
+        }
+        Expr::Sum(first, others) => sum(alloc, names, variables, &**first, others.as_slice()),
+        Expr::Product(first, others) => {
+            product(alloc, names, variables, &**first, others.as_slice())
+        }
+    }
+}
+
+/// A name over expressions.
+#[cycle(tree)]
+pub(crate) fn atom<'s, A: Allocator + Copy>(
+    alloc: A,
+    names: &mut Names<A>,
+    variables: &mut Variables<'s, A>,
+    name: &str,
+    args: &'s [Expr<A>],
+) -> Result<(Sym, Vec<Term<A>, A>), Memory>
+    ensures { IfOk result (λ atom. (scope names.new variables.new, atom_view atom.0 atom.1.items) ≡ atom_from (scope names.old variables.old) name.now (exprs_of (views args.now))) }
+{
+    let sym = symbol(names, name, args.len())?;
+    let args = trees(alloc, names, variables, args)?;
+    Ok((sym, args))
+}
+
+/// The symbol of a name with so many arguments. Want of memory is answered also where the numbers of symbols are used up.
+pub(crate) fn symbol<A: Allocator + Copy>(
+    names: &mut Names<A>,
+    name: &str,
+    arity: usize,
+) -> Result<Sym, Memory>
+    ensures names { OnOk result (names.new ≡ with_symbol names.old name.now arity) }
+    ensures symbol { IfOk result (λ sym. symbol_of names.new name.now arity ≡ Some sym.0) }
+{
+    if names.len() < 4_294_967_295 {
+        names.intern(name, arity)
+    } else {
+        Err(AllocError)
+    }
+}
+
+/// The trees of expressions, from the left.
+#[cycle(tree)]
+fn trees<'s, A: Allocator + Copy>(
+    alloc: A,
+    names: &mut Names<A>,
+    variables: &mut Variables<'s, A>,
+    exprs: &'s [Expr<A>],
+) -> Result<Vec<Term<A>, A>, Memory>
+    ensures { IfOk result (λ trees. (scope names.new variables.new, map view trees.items) ≡ in_turn tree_turn (scope names.old variables.old, []) (views exprs.now)) }
+{
+    let mut trees = Vec::with_capacity(alloc, exprs.len())?;
+    for expr in exprs {
+        trees.push(tree(alloc, names, variables, expr)?)?;
+    }
+    Ok(trees)
+}
+
+/// A list that ends with `[]`.
+#[cycle(tree)]
+fn list<'s, A: Allocator + Copy>(
+    alloc: A,
+    names: &mut Names<A>,
+    variables: &mut Variables<'s, A>,
+    items: &'s [Expr<A>],
+) -> Result<Term<A>, Memory>
+    ensures { IfOk result (λ tree. (scope names.new variables.new, view tree) ≡ tree_from (scope names.old variables.old) (syntax_list (views items.now) nil)) }
+{
+    let trees = trees(alloc, names, variables, items)?;
+    listed(alloc, trees, Term::Node(Sym::NIL, Vec::new(alloc)))
+}
+
+/// A list with an end of its own.
+#[cycle(tree)]
+fn list_with_end<'s, A: Allocator + Copy>(
+    alloc: A,
+    names: &mut Names<A>,
+    variables: &mut Variables<'s, A>,
+    items: &'s [Expr<A>],
+    end: &'s Expr<A>,
+) -> Result<Term<A>, Memory>
+    ensures { IfOk result (λ tree. (scope names.new variables.new, view tree) ≡ tree_from (scope names.old variables.old) (syntax_list (views items.now) (syntax_view end.now))) }
+{
+    let trees = trees(alloc, names, variables, items)?;
+    let last = tree(alloc, names, variables, end)?;
+    listed(alloc, trees, last)
+}
+
+/// The list of these trees that ends so.
+fn listed<A: Allocator + Copy>(
+    alloc: A,
+    trees: Vec<Term<A>, A>,
+    end: Term<A>,
+) -> Result<Term<A>, Memory>
+    ensures { IfOk result (λ tree. view tree ≡ listed (map view trees.items) (view end)) }
+{
+    let mut trees = trees;
+    let mut list = end;
+    while let Some(tree) = trees.pop() {
+        list = node(alloc, Sym::CONS, tree, list)?;
+    }
+    Ok(list)
+}
+
+/// A symbol over two trees.
+fn node<A: Allocator + Copy>(
+    alloc: A,
+    sym: Sym,
+    left: Term<A>,
+    right: Term<A>,
+) -> Result<Term<A>, Memory>
+    ensures { IfOk result (λ tree. view tree ≡ node_of sym.0 (view left) (view right)) }
+{
+    let mut args = Vec::with_capacity(alloc, 2)?;
+    args.push(left)?;
+    args.push(right)?;
+    Ok(Term::Node(sym, args))
+}
+
+/// A chain of `+` and `-`, from the left.
+#[cycle(tree)]
+fn sum<'s, A: Allocator + Copy>(
+    alloc: A,
+    names: &mut Names<A>,
+    variables: &mut Variables<'s, A>,
+    first: &'s Expr<A>,
+    others: &'s [(Additive, Expr<A>)],
+) -> Result<Term<A>, Memory>
+    ensures { IfOk result (λ tree. (scope names.new variables.new, view tree) ≡ tree_from (scope names.old variables.old) (sums (syntax_view first.now) (additive_operands others.now))) }
+{
+    let mut whole = tree(alloc, names, variables, first)?;
+    for other in others {
+        let right = tree(alloc, names, variables, &other.1)?;
+        whole = node(alloc, additive_symbol(other.0), whole, right)?;
+    }
+    Ok(whole)
+}
+
+/// A chain of `*`, `//` and `mod`, from the left.
+#[cycle(tree)]
+fn product<'s, A: Allocator + Copy>(
+    alloc: A,
+    names: &mut Names<A>,
+    variables: &mut Variables<'s, A>,
+    first: &'s Expr<A>,
+    others: &'s [(Multiplicative, Expr<A>)],
+) -> Result<Term<A>, Memory>
+    ensures { IfOk result (λ tree. (scope names.new variables.new, view tree) ≡ tree_from (scope names.old variables.old) (products (syntax_view first.now) (multiplicative_operands others.now))) }
+{
+    let mut whole = tree(alloc, names, variables, first)?;
+    for other in others {
+        let right = tree(alloc, names, variables, &other.1)?;
+        whole = node(alloc, multiplicative_symbol(other.0), whole, right)?;
+    }
+    Ok(whole)
+}
+
+fn additive_symbol(operator: Additive) -> Sym
+    ensures { result.0 ≡ additive_symbol (additive_view operator) }
+{
+    match operator {
+        Additive::Plus => Sym::PLUS,
+        Additive::Minus => Sym::MINUS,
+    }
+}
+
+fn multiplicative_symbol(operator: Multiplicative) -> Sym
+    ensures { result.0 ≡ multiplicative_symbol (multiplicative_view operator) }
+{
+    match operator {
+        Multiplicative::Times => Sym::TIMES,
+        Multiplicative::Divide => Sym::DIVIDE,
+        Multiplicative::Modulo => Sym::MODULO,
+    }
+}

@@ -1,0 +1,95 @@
+-- The answer is what the words ask for.
+use Rattle.std.proofs.Common.{◌≡◌, ◌∙◌, ℕ, Bool, true, false, refl, sym, ap, subst, List, [], ◌∷◌, Option, Some, None, codes, true≢false, inl, inr}
+use Rattle.std.specs.Prelude.{◌⊎◌}
+use Rattle.clap.specs.Kinds.{IsAmong, Kinds}
+use Rattle.clap.specs.Faults.{fault_of}
+use Rattle.clap.specs.Simple.{matches_of}
+use Rattle.clap.specs.Walk.{Text, first_of, one_of, rows_of}
+use Rattle.clap.proofs.WalkLemmas.{first_value-rows, one_text-rows}
+use Rattle.clap.specs.declared.error.kind.ErrorKind.{ErrorKind}
+use Rattle.clap.specs.declared.error.kind.ErrorKind.TheVariants as kind
+use Rattle.clap.specs.declared.parser.matches.Found.{Found}
+use Rattle.chr_words.specs.declared.words.Request.{Request}
+use Rattle.chr_words.specs.declared.words.Request.TheVariants.{Run, Help, Refused}
+use Rattle.chr_words.specs.App.{chr_app}
+use Rattle.chr_words.specs.Answer.{IsAnswer, IsRead, IsRefusal, budget_of}
+use Rattle.chr_words.specs.Words.{Asks, Said, asks_of, help, refused, run}
+use Rattle.chr_words.proofs.Rows.{IsNumbered}
+use Rattle.chr_words.proofs.Turns.{Shows, are_wrong, is_wrong}
+use Rattle.chr_words.proofs.Walked.{IsParsedAs, all_parsed}
+
+budget_is : (f : Found) (budget : Option Text) (n : ℕ) → one_of (codes "budget") (rows_of f) ≡ budget → IsNumbered budget → (program query : _) → IsRead f (Run program query n) → n ≡ budget_of budget
+budget_is f None n is numbered program query read = read.2 (one_text-rows f (codes "budget") ∙ is)
+budget_is f (Some text) n is numbered program query read = read.3 text (one_text-rows f (codes "budget") ∙ is) (numbered text refl)
+
+shown : (words : List Text) (f : Found) (said : Said) (r : Request) → asks_of words ≡ run said → rows_of f ≡ matches_of chr_app words → Shows said (matches_of chr_app words)
+    → IsRead f r → IsAnswer words r
+shown words f said (Run program query n) asks rows shows read = (
+  said,
+  asks,
+  read.0 ∙ first_value-rows f (codes "PROGRAM") ∙ ap (first_of (codes "PROGRAM")) rows ∙ shows.program,
+  read.1 ∙ first_value-rows f (codes "QUERY") ∙ ap (first_of (codes "QUERY")) rows ∙ shows.query,
+  budget_is f said.budget n (ap (one_of (codes "budget")) rows ∙ shows.budget) shows.numbered program query read,
+)
+shown words f said (Help text) asks rows shows read = absurd read
+shown words f said (Refused text) asks rows shows read = absurd read
+
+abbrev some_kind : Kinds → Bool
+some_kind [] = false
+some_kind (k ∷ ks) = true
+
+-- words that clap takes
+pub answered_run : (words : List Text) (f : Found) (r : Request) → fault_of chr_app words ≡ [] → rows_of f ≡ matches_of chr_app words → IsRead f r → IsAnswer words r
+answered_run words f r fine rows read = go (asks_of words) refl (all_parsed words)
+  where
+    go : (a : Asks) → asks_of words ≡ a → IsParsedAs a words → IsAnswer words r
+    go (run said) asks parsed = shown words f said r asks rows parsed.1 read
+    go help asks parsed = absurd (true≢false (ap some_kind (sym parsed ∙ fine)))
+    go refused asks parsed = absurd (true≢false (sym parsed ∙ ap are_wrong fine))
+
+abbrev is_memory : ErrorKind → Bool
+is_memory kind.OutOfMemory = true
+is_memory _ = false
+
+abbrev is_help : ErrorKind → Bool
+is_help kind.DisplayHelp = true
+is_help _ = false
+
+-- an error that is not for want of memory has the kind of the fault
+kind_among : (kinds : Kinds) (k : ErrorKind) → (k ≡ kind.OutOfMemory) ⊎ IsAmong k kinds → is_memory k ≡ false → IsAmong k kinds
+kind_among kinds k (inl e) not_memory = absurd (true≢false (sym (ap is_memory e) ∙ not_memory))
+kind_among kinds k (inr among) not_memory = among
+
+-- where the kind is that of a refusal, no one asked for help
+not_wrong : (kinds : Kinds) (k : ErrorKind) → IsAmong k kinds → are_wrong kinds ≡ true → is_wrong k ≡ true
+not_wrong [] k among wrong = absurd among
+not_wrong (x ∷ []) k (inl e) wrong = ap is_wrong e ∙ wrong
+not_wrong (x ∷ []) k (inr among) wrong = absurd among
+not_wrong (x ∷ y ∷ more) k among wrong = absurd (true≢false (sym wrong))
+
+among_at : (k : ErrorKind) (a b : Kinds) → a ≡ b → IsAmong k a → IsAmong k b
+among_at k a b e among = subst (λ (kinds : Kinds). IsAmong k kinds) e among
+
+-- words at which clap gives an error
+pub answered_refusal : (words : List Text) (k : ErrorKind) (r : Request) → (k ≡ kind.OutOfMemory) ⊎ IsAmong k (fault_of chr_app words) → IsRefusal k r → IsAnswer words r
+answered_refusal words k (Run program query n) has says = absurd says
+answered_refusal words k (Help text) has says = go (asks_of words) refl (all_parsed words)
+  where
+    among : IsAmong k (fault_of chr_app words)
+    among = kind_among (fault_of chr_app words) k has (ap is_memory says)
+
+    go : (a : Asks) → asks_of words ≡ a → IsParsedAs a words → asks_of words ≡ help
+    go (run said) asks parsed = absurd (among_at k _ [] parsed.0 among)
+    go help asks parsed = asks
+    go refused asks parsed = absurd (true≢false (sym (not_wrong (fault_of chr_app words) k among parsed) ∙ ap is_wrong says))
+answered_refusal words k (Refused text) has says = go (asks_of words) refl (all_parsed words) has
+  where
+    only_help : IsAmong k (kind.DisplayHelp ∷ []) → ⊥
+    only_help (inl e) = says.0 e
+    only_help (inr e) = e
+
+    go : (a : Asks) → asks_of words ≡ a → IsParsedAs a words → (k ≡ kind.OutOfMemory) ⊎ IsAmong k (fault_of chr_app words) → asks_of words ≡ refused
+    go a asks parsed (inl e) = absurd (says.1 e)
+    go (run said) asks parsed (inr among) = absurd (among_at k _ [] parsed.0 among)
+    go help asks parsed (inr among) = absurd (only_help (among_at k _ (kind.DisplayHelp ∷ []) parsed among))
+    go refused asks parsed (inr among) = asks

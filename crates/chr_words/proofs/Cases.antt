@@ -1,0 +1,190 @@
+-- What an option does where the walk stands.
+use Rattle.std.proofs.Common.{◌≡◌, ◌∙◌, ◌||◌, ◌==◌, ℕ, Bool, true, false, cond, refl, sym, ap, ap₂, List, [], ◌∷◌, Option, Some, None, codes, length, true≢false}
+use Rattle.std.specs.Prelude.{drop, encode_utf8, is_some, slice_get}
+use Rattle.std.specs.Option.{option_map_or}
+use Rattle.std.specs.Str.{bytes_eq, chars}
+use Rattle.std.proofs.Math.Bool.{or-false}
+use Rattle.clap.specs.Kinds.{Kinds, or_else}
+use Rattle.clap.specs.Faults.{bundle_fault, bundle_step_fault, flags_fault, long_fault, settle_fault, short_fault, step_fault, use_fault}
+use Rattle.clap.specs.Walk.{Held, Row, Rule, Text, Waiting, Walk, after_flag, after_step, arg_by_long, arg_by_short, bundle_met, bundle_step, done, long_met, short_met, plain, plain_word, reacted, settled, short_or_plain}
+use Rattle.clap.specs.declared.error.kind.ErrorKind.{ErrorKind}
+use Rattle.clap.specs.declared.error.kind.ErrorKind.TheVariants as kind
+use Rattle.chr_words.proofs.Rows.{budget_built, help_built}
+use Rattle.chr_words.proofs.Turns.{is_wrong, rules, top}
+use Rattle.chr_words.proofs.Steps.{at, fault_by, held_at, walk_by}
+
+-- a fault that is one kind, and no request for help
+pub record Wrong (fault : Kinds) : Type 0 where
+  pub kind : ErrorKind
+  pub is : fault ≡ kind ∷ []
+  pub wrong : is_wrong kind ≡ true
+
+abbrev pub by_names : Bool → Bool → Option Rule
+by_names a b = cond a (Some budget_built) (cond b (Some help_built) None)
+
+found_is : (name : Text) (a b : Bool) → bytes_eq (codes "budget") name ≡ a → bytes_eq (codes "help") name ≡ b → arg_by_long rules name ≡ by_names a b
+found_is name a b is_a is_b = ap₂ (λ x y. by_names (x || false) (y || false)) is_a is_b ∙ ap₂ by_names (or-false a) (or-false b)
+
+-- a long option, by the argument that it names
+abbrev pub long_fault_by : Waiting → ℕ → Held → Text → Option Text → Option Rule → Kinds
+long_fault_by waiting position h word v found =
+    let met = after_flag rules waiting word (long_met rules found v h).0 (long_met rules found v h).1 in
+    or_else (long_fault rules false found v h) (step_fault top position met.0 met.1)
+
+abbrev pub long_walk_by : Waiting → ℕ → List Row → Option (Text × List Text) → Text → Option Text → Option Rule → Walk
+long_walk_by waiting position rows pending word v found =
+    let met = after_flag rules waiting word (long_met rules found v (held_at rows pending)).0 (long_met rules found v (held_at rows pending)).1 in
+    after_step rules word (at false waiting position rows pending) met.0 met.1
+
+module _ (waiting : Waiting) (position : ℕ) (rows : List Row) (pending : Option (Text × List Text)) (word name : Text) (v : Option Text) (a b : Bool)
+    (is_a : bytes_eq (codes "budget") name ≡ a) (is_b : bytes_eq (codes "help") name ≡ b) where
+  pub long_fault_is : fault_by waiting position (held_at rows pending) word false (Some (name, v)) ≡ long_fault_by waiting position (held_at rows pending) word v (by_names a b)
+  long_fault_is = ap (long_fault_by waiting position (held_at rows pending) word v) (found_is name a b is_a is_b)
+
+  pub long_walk_is : walk_by waiting position rows pending word false (Some (name, v)) ≡ long_walk_by waiting position rows pending word v (by_names a b)
+  long_walk_is = ap (long_walk_by waiting position rows pending word v) (found_is name a b is_a is_b)
+
+-- where what is pending fails, a long option fails
+pub long_wrong : (waiting : Waiting) (position : ℕ) (rows : List Row) (pending : Option (Text × List Text)) (word name : Text) (v : Option Text) (k : ErrorKind)
+    → settle_fault rules false (held_at rows pending) ≡ k ∷ [] → is_wrong k ≡ true → Wrong (fault_by waiting position (held_at rows pending) word false (Some (name, v)))
+long_wrong waiting position rows pending word name v k is wrong = go (bytes_eq (codes "budget") name) (bytes_eq (codes "help") name) v refl refl
+  where
+    h : Held
+    h = held_at rows pending
+
+    go : (a b : Bool) (v : Option Text) → bytes_eq (codes "budget") name ≡ a → bytes_eq (codes "help") name ≡ b → Wrong (fault_by waiting position (held_at rows pending) word false (Some (name, v)))
+    go true b None is_a is_b = record {
+      kind = k;
+      is = long_fault_is waiting position rows pending word name None true b is_a is_b ∙ ap (λ f. or_else f []) is;
+      wrong = wrong;
+    }
+    go true b (Some x) is_a is_b = record {
+      kind = k;
+      is = long_fault_is waiting position rows pending word name (Some x) true b is_a is_b
+          ∙ ap (λ f. or_else (or_else f (use_fault false budget_built (x ∷ []) (settled rules (held_at rows pending)).rows)) []) is;
+      wrong = wrong;
+    }
+    go false true None is_a is_b = record {
+      kind = k;
+      is = long_fault_is waiting position rows pending word name None false true is_a is_b ∙ ap (λ f. or_else (or_else f (kind.DisplayHelp ∷ [])) []) is;
+      wrong = wrong;
+    }
+    go false true (Some x) is_a is_b = record {
+      kind = kind.TooManyValues;
+      is = long_fault_is waiting position rows pending word name (Some x) false true is_a is_b;
+      wrong = refl;
+    }
+    go false false v is_a is_b = record {
+      kind = kind.UnknownArgument;
+      is = long_fault_is waiting position rows pending word name v false false is_a is_b;
+      wrong = refl;
+    }
+
+-- ---- short options
+
+abbrev pub short_fault_by : Waiting → ℕ → Held → Text → Option Text → Kinds
+short_fault_by waiting position h word letters =
+    let met = short_or_plain rules waiting word letters h in
+    or_else (option_map_or (λ flags. bundle_fault rules false flags h) letters []) (step_fault top position met.0 met.1)
+
+abbrev pub short_walk_by : Waiting → ℕ → List Row → Option (Text × List Text) → Text → Option Text → Walk
+short_walk_by waiting position rows pending word letters =
+    let met = short_or_plain rules waiting word letters (held_at rows pending) in
+    after_step rules word (at false waiting position rows pending) met.0 met.1
+
+-- a word that is no option
+abbrev pub plain_fault_by : Waiting → ℕ → Held → Text → Kinds
+plain_fault_by waiting position h word =
+    let met = plain_word rules waiting word h in
+    step_fault top position met.0 met.1
+
+abbrev pub plain_walk_by : Waiting → ℕ → List Row → Option (Text × List Text) → Text → Walk
+plain_walk_by waiting position rows pending word =
+    let met = plain_word rules waiting word (held_at rows pending) in
+    after_step rules word (at false waiting position rows pending) met.0 met.1
+
+-- the first character of a bundle
+abbrev letter_fault_by : Waiting → ℕ → Held → Text → ℕ → Text → Option ℕ → Kinds
+letter_fault_by waiting position h word k flags c =
+    let met = bundle_step rules c flags 0 plain h (bundle_met rules k) in
+    let after = after_flag rules waiting word met.0 met.1 in
+    or_else (bundle_step_fault rules false c flags 0 h (flags_fault rules false k)) (step_fault top position after.0 after.1)
+
+abbrev letter_walk_by : Waiting → ℕ → List Row → Option (Text × List Text) → Text → ℕ → Text → Option ℕ → Walk
+letter_walk_by waiting position rows pending word k flags c =
+    let met = bundle_step rules c flags 0 plain (held_at rows pending) (bundle_met rules k) in
+    let after = after_flag rules waiting word met.0 met.1 in
+    after_step rules word (at false waiting position rows pending) after.0 after.1
+
+module _ (waiting : Waiting) (position : ℕ) (rows : List Row) (pending : Option (Text × List Text)) (word : Text) where
+  -- no letter stands behind the hyphen
+  pub no_letter_fault : (flags : Text) → slice_get (chars flags) 0 ≡ None → short_fault_by waiting position (held_at rows pending) word (Some flags) ≡ plain_fault_by waiting position (held_at rows pending) word
+  unfolding flags_fault bundle_met
+  no_letter_fault [] none = refl
+  no_letter_fault (x ∷ xs) none = ap (letter_fault_by waiting position (held_at rows pending) word (length xs) (x ∷ xs)) none
+
+  pub no_letter_walk : (flags : Text) → slice_get (chars flags) 0 ≡ None → short_walk_by waiting position rows pending word (Some flags) ≡ plain_walk_by waiting position rows pending word
+  unfolding bundle_met
+  no_letter_walk [] none = refl
+  no_letter_walk (x ∷ xs) none = ap (letter_walk_by waiting position rows pending word (length xs) (x ∷ xs)) none
+
+abbrev by_letter : Bool → Option Rule
+by_letter b = cond b (Some help_built) None
+
+short_found_is : (c : ℕ) (b : Bool) → (104 == c) ≡ b → arg_by_short rules c ≡ by_letter b
+short_found_is c b e = ap (λ x. by_letter (x || false)) e ∙ ap by_letter (or-false b)
+
+abbrev letter_found_by : Waiting → ℕ → Held → Text → ℕ → Text → ℕ → Option Rule → Kinds
+letter_found_by waiting position h word k flags c found =
+    let rest = drop (length (encode_utf8 c)) flags in
+    let met = short_met rules found rest h (bundle_met rules k rest 0 done) in
+    let after = after_flag rules waiting word met.0 met.1 in
+    or_else (short_fault rules false found rest h (flags_fault rules false k rest 0)) (step_fault top position after.0 after.1)
+
+module _ (waiting : Waiting) (position : ℕ) (rows : List Row) (pending : Option (Text × List Text)) (word : Text) where
+  letter_is : (flags : Text) (c : ℕ) (b : Bool) → slice_get (chars flags) 0 ≡ Some c → (104 == c) ≡ b
+      → (k : ℕ) × (short_fault_by waiting position (held_at rows pending) word (Some flags) ≡ letter_found_by waiting position (held_at rows pending) word k flags c (by_letter b))
+  unfolding flags_fault bundle_met chars
+  letter_is [] c b is is_b = absurd (true≢false (ap is_some (sym is)))
+  letter_is (x ∷ xs) c b is is_b = (
+    length xs,
+    ap (letter_fault_by waiting position (held_at rows pending) word (length xs) (x ∷ xs)) is
+        ∙ ap (letter_found_by waiting position (held_at rows pending) word (length xs) (x ∷ xs) c) (short_found_is c b is_b),
+  )
+
+  -- `-h`, where what is pending fails not
+  pub letter_help : (flags : Text) (c : ℕ) → slice_get (chars flags) 0 ≡ Some c → (104 == c) ≡ true → settle_fault rules false (held_at rows pending) ≡ []
+      → short_fault_by waiting position (held_at rows pending) word (Some flags) ≡ kind.DisplayHelp ∷ []
+  letter_help flags c is is_b fine =
+      let found = letter_is flags c true is is_b in
+      let rest : Text = drop (length (encode_utf8 c)) flags in
+      let h : Held = held_at rows pending in
+      let met = short_met rules (Some help_built) rest h (bundle_met rules found.0 rest 0 done) in
+      let after = after_flag rules waiting word met.0 met.1 in
+      found.1 ∙ ap (λ f. or_else (or_else (or_else f (kind.DisplayHelp ∷ [])) (flags_fault rules false found.0 rest 0 (reacted rules help_built [] h)))
+      (step_fault top position after.0 after.1)) fine
+
+  -- where what is pending fails, a short option fails
+  pub letter_wrong : (flags : Text) (c : ℕ) (k : ErrorKind) → slice_get (chars flags) 0 ≡ Some c → settle_fault rules false (held_at rows pending) ≡ k ∷ [] → is_wrong k ≡ true
+      → Wrong (short_fault_by waiting position (held_at rows pending) word (Some flags))
+  letter_wrong flags c k is settles wrong = go (104 == c) refl
+    where
+      go : (b : Bool) → (104 == c) ≡ b → Wrong (short_fault_by waiting position (held_at rows pending) word (Some flags))
+      go true is_b =
+          let found = letter_is flags c true is is_b in
+          let rest : Text = drop (length (encode_utf8 c)) flags in
+          let h : Held = held_at rows pending in
+          let met = short_met rules (Some help_built) rest h (bundle_met rules found.0 rest 0 done) in
+          let after = after_flag rules waiting word met.0 met.1 in
+          record {
+            kind = k;
+            is = found.1 ∙ ap (λ f. or_else (or_else (or_else f (kind.DisplayHelp ∷ [])) (flags_fault rules false found.0 rest 0 (reacted rules help_built [] h)))
+                (step_fault top position after.0 after.1)) settles;
+            wrong = wrong;
+          }
+      go false is_b = record { kind = kind.UnknownArgument; is = (letter_is flags c false is is_b).1; wrong = refl }
+
+  -- another letter
+  pub letter_unknown : (flags : Text) (c : ℕ) → slice_get (chars flags) 0 ≡ Some c → (104 == c) ≡ false
+      → short_fault_by waiting position (held_at rows pending) word (Some flags) ≡ kind.UnknownArgument ∷ []
+  letter_unknown flags c is is_b = (letter_is flags c false is is_b).1

@@ -1,0 +1,10 @@
+pub mod Rows
+pub mod Numbers
+pub mod Turns
+pub mod Steps
+pub mod Cases
+pub mod Doomed
+pub mod Again
+pub mod Walked
+pub mod Answered
+pub mod Few

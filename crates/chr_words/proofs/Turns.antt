@@ -1,0 +1,126 @@
+-- What one word does in the walk of a parse.
+use Rattle.std.proofs.Common.{◌≡◌, ◌∙◌, ◌&&◌, ◌||◌, Bool, true, false, cond, refl, sym, ap, ap₂, subst, List, [], ◌∷◌, Option, None, codes, true≢false}
+use Rattle.std.specs.Prelude.{fold, is_some}
+use Rattle.std.specs.List.{list_all}
+use Rattle.clap.specs.Kinds.{Kinds, or_else}
+use Rattle.clap.specs.Faults.{check_fault, defaults_fault, entered_fault, given_default_fault, settle_fault, turn_fault, walk_fault}
+use Rattle.clap.specs.Walk.{Held, Row, Rule, Text, Walk, default_rows, finished, first_of, has_row, one_of, is_empty, reading_by, settled, walked, with_default}
+use Rattle.clap.specs.Simple.{Shape, built, entered}
+use Rattle.clap.specs.declared.error.kind.ErrorKind.{ErrorKind}
+use Rattle.clap.specs.declared.error.kind.ErrorKind.TheVariants as kind
+use Rattle.chr_words.specs.Words.{Asks, Said, help, refused, run}
+use Rattle.chr_words.specs.App.{chr_app}
+use Rattle.chr_words.proofs.Rows.{IsNumbered, budget_built, help_built, program_built, query_built}
+
+abbrev pub rules : List Rule
+rules = program_built ∷ query_built ∷ budget_built ∷ help_built ∷ []
+
+abbrev pub top : Shape
+top = (built chr_app).top
+
+pub rules_are : top.rules ≡ rules
+rules_are = refl
+
+-- ---- faults
+
+-- one kind, which is no request for help
+abbrev pub is_wrong : ErrorKind → Bool
+is_wrong kind.DisplayHelp = false
+is_wrong kind.OutOfMemory = false
+is_wrong _ = true
+
+abbrev pub are_wrong : Kinds → Bool
+are_wrong [] = false
+are_wrong (k ∷ []) = is_wrong k
+are_wrong (k ∷ l ∷ ks) = false
+
+-- the first fault of a walk, and what its end adds
+abbrev pub fault_from : Kinds → Walk → Kinds
+fault_from before end = or_else before (or_else (entered_fault (built chr_app) end.stopped)
+    (or_else (settle_fault rules false end.held)
+    (or_else (defaults_fault (settled rules end.held).rows rules)
+    (check_fault top (finished rules end.held) (is_some (entered (built chr_app) end.stopped))))))
+
+abbrev pub end_of : Walk → List Text → Walk
+end_of w words = fold (walked rules []) w words
+
+abbrev pub fault_at : Walk → List Text → Kinds
+fault_at w words = fault_from (walk_fault top [] w words) (end_of w words)
+
+-- the rows show what was said
+pub record Shows (said : Said) (rows : List Row) : Type 0 where
+  pub program : first_of (codes "PROGRAM") rows ≡ said.program
+  pub query : first_of (codes "QUERY") rows ≡ said.query
+  pub budget : one_of (codes "budget") rows ≡ said.budget
+  pub numbered : IsNumbered said.budget
+
+-- the walk over the words ends as they ask
+abbrev pub Agrees : Asks → Walk → List Text → Type 0
+Agrees (run said) w words = (fault_at w words ≡ []) × Shows said (finished rules (end_of w words).held)
+Agrees help w words = fault_at w words ≡ kind.DisplayHelp ∷ []
+Agrees refused w words = are_wrong (fault_at w words) ≡ true
+
+agrees_along : (a : Asks) (w v : Walk) (words more : List Text) → fault_at w words ≡ fault_at v more → end_of w words ≡ end_of v more → Agrees a v more → Agrees a w words
+agrees_along (run said) w v words more e f h = (e ∙ h.0, subst (λ (x : Walk). Shows said (finished rules x.held)) (sym f) h.1)
+agrees_along help w v words more e f h = e ∙ h
+agrees_along refused w v words more e f h = ap are_wrong e ∙ h
+
+-- a word that fails not, and takes the walk further
+pub goes_on : (a : Asks) (w v : Walk) (word : Text) (words : List Text) → turn_fault top [] w word ≡ [] → walked rules [] w word ≡ v → Agrees a v words → Agrees a w (word ∷ words)
+unfolding walk_fault
+goes_on a w v word words fine is h =
+    agrees_along a w v (word ∷ words) words
+    (ap₂ (λ (f : Kinds) (x : Walk). fault_from (or_else f (walk_fault top [] x words)) (end_of x words)) fine is)
+    (ap (λ (x : Walk). end_of x words) is) h
+
+-- a word that fails
+pub fails_at : (w : Walk) (word : Text) (words : List Text) (k : ErrorKind) → turn_fault top [] w word ≡ k ∷ [] → fault_at w (word ∷ words) ≡ k ∷ []
+unfolding walk_fault
+fails_at w word words k is =
+    ap (λ (f : Kinds). fault_from (or_else f (walk_fault top [] (walked rules [] w word) words)) (end_of (walked rules [] w word) words)) is
+
+-- ---- the end
+
+or-true : (b : Bool) → (b || true) ≡ true
+or-true true = refl
+or-true false = refl
+
+cond-same : {X : Type 0} (b : Bool) (x : X) → cond b x x ≡ x
+cond-same true x = refl
+cond-same false x = refl
+
+no_default : (rows : List Row) (a : Rule) → a.defaults ≡ [] → with_default rows a ≡ rows
+no_default rows a e = ap (λ d. cond (has_row a.id rows) rows (default_rows a.id (reading_by a) d rows)) e ∙ cond-same (has_row a.id rows) rows
+
+pub finished_is : (h : Held) → finished rules h ≡ (settled rules h).rows
+finished_is h =
+    let R = (settled rules h).rows in
+    ap (λ r. with_default (with_default (with_default r query_built) budget_built) help_built) (no_default R program_built refl)
+    ∙ ap (λ r. with_default (with_default r budget_built) help_built) (no_default R query_built refl)
+    ∙ ap (λ r. with_default r help_built) (no_default R budget_built refl)
+    ∙ no_default R help_built refl
+
+no_default_fault : (rows : List Row) (more : List Rule) → list_all (λ a. is_empty a.defaults) more ≡ true → defaults_fault rows more ≡ []
+unfolding defaults_fault
+no_default_fault rows [] e = refl
+no_default_fault rows (a ∷ more) e = go (is_empty a.defaults) e (no_default_fault (with_default rows a) more)
+  where
+    go : (b : Bool) → (b && list_all (λ x. is_empty x.defaults) more) ≡ true → (list_all (λ x. is_empty x.defaults) more ≡ true → defaults_fault (with_default rows a) more ≡ [])
+        → or_else (cond (has_row a.id rows || b) [] (given_default_fault a a.defaults)) (defaults_fault (with_default rows a) more) ≡ []
+    go true e rest = rw (or-true (has_row a.id rows)) (rest e)
+    go false e rest = absurd (true≢false (sym e))
+
+-- the walk ends where nothing is left to fail
+pub ends : (w : Walk) → w.stopped ≡ None → settle_fault rules false w.held ≡ [] → fault_at w [] ≡ []
+unfolding walk_fault
+ends w stopped fine =
+    ap₂ (λ (s : Option (Text × List Text)) (f : Kinds). or_else (entered_fault (built chr_app) s) (or_else f (or_else (defaults_fault (settled rules w.held).rows rules)
+    (check_fault top (finished rules w.held) (is_some (entered (built chr_app) s)))))) stopped fine
+    ∙ ap (λ (f : Kinds). or_else f []) (no_default_fault (settled rules w.held).rows rules refl)
+
+-- the walk ends where what is pending fails
+pub ends_wrong : (w : Walk) (k : ErrorKind) → w.stopped ≡ None → settle_fault rules false w.held ≡ k ∷ [] → fault_at w [] ≡ k ∷ []
+unfolding walk_fault
+ends_wrong w k stopped is =
+    ap₂ (λ (s : Option (Text × List Text)) (f : Kinds). or_else (entered_fault (built chr_app) s) (or_else f (or_else (defaults_fault (settled rules w.held).rows rules)
+    (check_fault top (finished rules w.held) (is_some (entered (built chr_app) s)))))) stopped is

@@ -1,0 +1,21 @@
+-- The words that `chr` takes, as `clap` is told of them.
+use Rattle.std.specs.Prelude.{true, codes, Some}
+use Rattle.clap.specs.Words.{App, Rule, new_app, new_rule, with_rule}
+use Rattle.clap.specs.Simple.{on_top}
+use Rattle.clap.specs.declared.builder.value_parser.ValueParser.TheVariants as vp
+
+abbrev pub program_rule : Rule
+program_rule = new_rule (codes "PROGRAM")
+
+abbrev pub query_rule : Rule
+query_rule = new_rule (codes "QUERY")
+
+abbrev pub budget_rule : Rule
+budget_rule = record (new_rule (codes "budget")) {
+  long = Some (codes "budget");
+  value_names = 1;
+  parser = Some (vp.Unsigned 0 18446744073709551615);
+}
+
+abbrev pub chr_app : App
+chr_app = with_rule (with_rule (with_rule (on_top (λ s. record s { no_binary_name = true }) (new_app (codes "chr"))) program_rule) query_rule) budget_rule

@@ -1,0 +1,3 @@
+pub mod Words
+pub mod App
+pub mod Answer

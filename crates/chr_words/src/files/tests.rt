@@ -1,0 +1,101 @@
+ghost use Rattle.std.specs.Prelude.{None, Some};
+
+use super::*;
+use std::io::{Error, ErrorKind};
+use std::test::Fail;
+
+const TEXT: &[u8] = b"a text\n";
+
+/// Each path has this text.
+#[derive(Drop)]
+struct Same(&'static [u8]);
+
+impl Opens for Same {
+    type File = &'static [u8];
+
+    ghost bytes_of = { λ s _. Some s.0.now };
+
+    fn open(&self, _path: &str) -> io::Result<&'static [u8]> {
+        Ok(self.0)
+    }
+}
+
+/// Gives a text, a byte at a call, and fails once `calls` of them were made.
+#[derive(Drop)]
+struct Source {
+    text: &'static [u8],
+    calls: u64,
+}
+
+impl Read for Source {
+    fn read(&mut self, buf: &mut [u8]) -> io::Result<usize> {
+        if self.calls == 0 {
+            return Err(Error::from(ErrorKind::Other));
+        }
+        self.calls -= 1;
+        let count = buf.len().min(1).min(self.text.len());
+        let (front, back) = self.text.split_at(count);
+        buf[..count].copy_from_slice(front);
+        self.text = back;
+        Ok(count)
+    }
+}
+
+/// One file, `there`, that is read by so many calls.
+#[derive(Drop)]
+struct One {
+    calls: u64,
+}
+
+impl Opens for One {
+    type File = Source;
+
+    ghost bytes_of = { λ _ _. None };
+
+    fn open(&self, path: &str) -> io::Result<Source> {
+        if path != "there" {
+            return Err(Error::from(ErrorKind::NotFound));
+        }
+        Ok(Source {
+            text: TEXT,
+            calls: self.calls,
+        })
+    }
+}
+
+#[test]
+fn reads_a_file(rt: HostRuntime) -> Result<(), Fail> {
+    let same = read_file(rt.alloc(), &Same(TEXT), "there").ok_or("a file")?;
+    assert_eq!(rt; same.as_slice(), TEXT);
+    let one = read_file(rt.alloc(), &One { calls: 8 }, "there").ok_or("a file")?;
+    assert_eq!(rt; one.as_slice(), TEXT);
+    Ok(())
+}
+
+#[test]
+fn cannot_read(rt: HostRuntime) {
+    for calls in 0..8 {
+        assert!(rt; read_file(rt.alloc(), &One { calls }, "there").is_none());
+    }
+    assert!(rt; read_file(rt.alloc(), &One { calls: 8 }, "elsewhere").is_none());
+    let disk = Disk(&rt);
+    assert!(rt; read_file(rt.alloc(), &disk, "/no/such/file").is_none());
+    assert!(rt; read_file(rt.alloc(), &disk, "/").is_none());
+}
+
+/// An input without an end, of which each call gives a space.
+#[derive(Drop)]
+struct Endless;
+
+impl Read for Endless {
+    fn read(&mut self, buf: &mut [u8]) -> io::Result<usize> {
+        let count = buf.len().min(1);
+        buf[..count].fill(b' ');
+        Ok(count)
+    }
+}
+
+#[test]
+fn no_end(rt: HostRuntime) {
+    assert!(rt; read_all(rt.alloc(), &mut Endless).is_none());
+}

@@ -1,0 +1,104 @@
+//! What the words behind the program's name ask for.
+ghost use Rattle.std.specs.Prelude.{◌≡◌, ℕ, List, [], ◌∷◌, Some, None, IfOk, false, true, map};
+ghost use Rattle.std.specs.String.{string_bytes};
+ghost use Rattle.clap.specs.Words.{app_of, found_of, kind_of, rule_of};
+ghost use Rattle.chr_words.specs.App.{chr_app, program_rule, query_rule, budget_rule};
+ghost use Rattle.chr_words.specs.Answer.{IsAnswer, IsRead, IsRefusal, IsRun};
+ghost use Rattle.chr_words.specs.Words.{is_plain};
+
+use clap::error::ErrorKind;
+use clap::{Arg, ArgMatches, Command, Error, value_parser};
+use std::alloc::{AllocError, Global};
+
+/// The budget of a run where the words give none.
+const BUDGET: u64 = 100_000;
+
+/// What the words behind the program's name ask for.
+#[derive(Debug, Drop)]
+pub enum Request<'a> {
+    /// A run, of the program in a file, or of the standard input where there is none.
+    Run {
+        program: Option<&'a str>,
+        query: Option<&'a str>,
+        budget: u64,
+    },
+    /// This text of help.
+    Help(String),
+    /// Nothing that there is, for the reason in this text.
+    Refused(String),
+}
+
+fn program_arg<'a>(alloc: Global) -> Arg<'a>
+    ensures rule { rule_of result ≡ program_rule }
+    ensures local { result.global ≡ false }
+{
+    Arg::new(alloc, "PROGRAM").help("The file of the program")
+}
+
+fn query_arg<'a>(alloc: Global) -> Arg<'a>
+    ensures rule { rule_of result ≡ query_rule }
+    ensures local { result.global ≡ false }
+{
+    Arg::new(alloc, "QUERY").help("The text of the query")
+}
+
+fn budget_arg<'a>(alloc: Global) -> Arg<'a>
+    ensures rule { rule_of result ≡ budget_rule }
+    ensures local { result.global ≡ false }
+{
+    Arg::new(alloc, "budget")
+        .long("budget")
+        .value_name("N")
+        .value_parser(value_parser!(u64))
+        .help("The greatest number of transitions, 100000 where not given")
+}
+
+/// The words that the program takes.
+fn chr_command<'a>(alloc: Global) -> Result<Command<'a>, AllocError>
+    ensures { IfOk result (λ c. app_of c ≡ chr_app) }
+{
+    Command::new(alloc, "chr")
+        .no_binary_name(true)
+        .about("Runs a query over a program of Constraint Handling Rules")
+        .arg(program_arg(alloc))?
+        .arg(query_arg(alloc))?
+        .arg(budget_arg(alloc))
+}
+
+/// What words that were taken ask for.
+fn run_of<'a>(matches: &ArgMatches<'a>) -> Request<'a>
+    ensures { IsRead (found_of matches.now) result }
+{
+    Request::Run {
+        program: matches.get_str("PROGRAM"),
+        query: matches.get_str("QUERY"),
+        budget: matches.get_one::<u64>("budget").unwrap_or(BUDGET),
+    }
+}
+
+/// What is said in place of a run.
+fn refusal_of<'a>(alloc: Global, error: &Error) -> Result<Request<'a>, AllocError>
+    ensures { IfOk result (IsRefusal (kind_of error.now)) }
+{
+    match error.kind() {
+        ErrorKind::OutOfMemory => Err(AllocError),
+        ErrorKind::DisplayHelp => Ok(Request::Help(format!(in alloc; "{error}")?)),
+        _ => Ok(Request::Refused(format!(in alloc; "{error}")?)),
+    }
+}
+
+/// What the words behind the program's name ask for, as `clap` reads them.
+pub fn asked<'a>(alloc: Global, words: &'a [String]) -> Result<Request<'a>, AllocError>
+    ensures asks { IfOk result (IsAnswer (map string_bytes words.entry.now)) }
+    ensures no_words { words.entry.now ≡ [] → IfOk result (IsRun None None 100000) }
+    ensures two_words { (p q : List ℕ) → map string_bytes words.entry.now ≡ p ∷ q ∷ [] → is_plain p ≡ true → is_plain q ≡ true
+        → IfOk result (IsRun (Some p) (Some q) 100000) }
+{
+    match chr_command(alloc)?.try_get_matches_from(words) {
+        Ok(matches) => Ok(run_of(&matches)),
+        Err(error) => refusal_of(alloc, &error),
+    }
+}
+
+#[cfg(test)]
+mod tests;
