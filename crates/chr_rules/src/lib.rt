@@ -19,3 +19,6 @@ pub use error::{RuleError, RuleFault};
 pub use index::Occurrence;
 pub use program::Program;
 pub use rule::{Goal, Op, Query, Rule, copy_goals};
+
+#[cfg(test)]
+mod tests;
