@@ -1,5 +1,5 @@
 -- Goals and tests of names.
-use Rattle.std.proofs.Common.{◌≤◌, arith, length, Option, Some, None, ◌≡◌, ◌∙◌, ◌||◌, ℕ, List, [], ◌∷◌, Bool, true, false, if◌then◌else◌, refl, ap, sym}
+use Rattle.std.proofs.Common.{◌≤◌, arith, length, Some, None, ◌≡◌, ◌∙◌, ◌||◌, ℕ, List, [], ◌∷◌, Bool, true, false, if◌then◌else◌, refl, ap, sym}
 use Rattle.chr_semantics.specs.Syntax.{Expr, Exprs, exprs_of, plain}
 use Rattle.std.specs.Prelude.{OnOk, Result, Ok, Err}
 use Rattle.chr_read.specs.View.{views}

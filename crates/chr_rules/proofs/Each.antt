@@ -1,9 +1,9 @@
 -- What is built from each element in turn, one element further.
-use Rattle.std.proofs.Common.{◌≡◌, ◌≢◌, ◌∙◌, ◌<◌, ◌+◌, ℕ, List, [], ◌∷◌, Result, Ok, Err, length, get_or, drop, drop-cons, add-one, map, refl, ap, arith, subst, sym}
+use Rattle.std.proofs.Common.{◌≡◌, ◌∙◌, ◌<◌, ◌+◌, ℕ, List, ◌∷◌, Result, Ok, Err, length, get_or, drop, drop-cons, add-one, map, refl, ap, subst, sym}
 use Rattle.std.specs.Prelude.{IfErr}
 use Rattle.std.specs.Result.{IsErrAnd}
 use Rattle.chr_semantics.specs.Checked.{Refusal, each}
-use Rattle.chr_rules.specs.Checks.{IsError, error_of}
+use Rattle.chr_rules.specs.Checks.{IsError}
 use Rattle.chr_rules.specs.declared.error.RuleFault.TheVariants.{Memory}
 use Rattle.chr_rules.specs.declared.error.RuleError.{RuleError}
 

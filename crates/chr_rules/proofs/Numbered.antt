@@ -1,5 +1,5 @@
 -- The numbers of words, with one word more.
-use Rattle.std.proofs.Common.{◌≡◌, ◌∙◌, ◌<◌, ◌+◌, ℕ, zero, suc, List, [], ◌∷◌, ◌++◌, Bool, true, false, not, cond, if◌then◌else◌, String, Option, Some, None, length, refl, ap, sym, arith, nat_lt, bytes_eq, codes, position, option_map, get_or, take, string_bytes}
+use Rattle.std.proofs.Common.{◌≡◌, ◌∙◌, ◌<◌, ◌+◌, ℕ, suc, List, [], ◌∷◌, ◌++◌, Bool, true, false, not, cond, if◌then◌else◌, String, Option, Some, None, length, refl, ap, sym, arith, nat_lt, bytes_eq, position, option_map, get_or, take, string_bytes}
 use Rattle.std.specs.List.{position_or_len}
 use Rattle.std.specs.Option.{option_or}
 use Rattle.std.specs.Map.{lookup}

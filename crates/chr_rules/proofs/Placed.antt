@@ -1,5 +1,5 @@
 -- Faults with their places.
-use Rattle.std.proofs.Common.{◌≡◌, ◌≢◌, ◌∙◌, ℕ, Option, Some, None, Result, Ok, Err, refl, ap, sym, subst, option_map}
+use Rattle.std.proofs.Common.{◌≡◌, ◌≢◌, ◌∙◌, ℕ, Option, Some, None, Result, Ok, Err, ap, sym, subst}
 use Rattle.std.specs.Prelude.{IfErr}
 use Rattle.chr_semantics.specs.Checked.{Mistake, Refusal, unless}
 use Rattle.chr_rules.specs.Building.{IsPlaced}

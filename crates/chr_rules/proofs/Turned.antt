@@ -1,5 +1,5 @@
 -- Trees that are built one after the other.
-use Rattle.std.proofs.Common.{rules, Vec, ◌≡◌, ◌∙◌, ◌<◌, ◌+◌, ℕ, suc, List, [], ◌∷◌, ◌++◌, Some, length, drop, drop-cons, add-one, get_or, map, refl, ap, sym, append_assoc, append-nil, arith, ◌≤◌}
+use Rattle.std.proofs.Common.{rules, Vec, ◌≡◌, ◌∙◌, ◌<◌, ◌+◌, ℕ, List, [], ◌∷◌, ◌++◌, Some, length, drop, drop-cons, add-one, get_or, map, refl, ap, sym, append_assoc, append-nil, arith, ◌≤◌}
 use Rattle.std.specs.Prelude.{unwrap_or}
 use Rattle.std.proofs.lemmas.Grind.{common_steps}
 use Rattle.std.specs.Prelude.{IfOk, Result, Ok, Err}
@@ -7,19 +7,17 @@ use Rattle.chr_term.specs.View.{view as tree_view, trees_view}
 use Rattle.chr_term.specs.declared.term.Sym.{Sym}
 use Rattle.chr_term.specs.declared.term.Term.{Term, the_lemmas}
 use Rattle.chr_term.specs.declared.term.Term.TheVariants.{Node}
-use Rattle.chr_semantics.specs.Tree.{Tree, Trees, trees_of, node, more}
+use Rattle.chr_semantics.specs.Tree.{Tree, trees_of, node, more}
 use Rattle.chr_semantics.specs.Names.{Names, symbol_of, with_symbol}
-use Rattle.chr_semantics.specs.Program.{Atom}
-use Rattle.chr_semantics.specs.Tokens as t
 use Rattle.chr_semantics.specs.Syntax as s
 use Rattle.chr_semantics.specs.Syntax.{Expr, exprs_of, list}
 use Rattle.chr_semantics.specs.Meaning.{Scope, additive_symbol, atom_from, count, in_turn, multiplicative_symbol, node_of, scope, symbol_in, tree_from, trees_from, with_name, with_turn}
 use Rattle.chr_tokens.specs.View.{additive_view, multiplicative_view}
 use Rattle.chr_tokens.specs.declared.token.Additive.{Additive}
 use Rattle.chr_tokens.specs.declared.token.Multiplicative.{Multiplicative}
-use Rattle.chr_read.specs.View.{additive_operands, multiplicative_operands, products, sums, view, views}
+use Rattle.chr_read.specs.View.{additive_operands, multiplicative_operands, products, sums, view}
 use Rattle.chr_read.specs.declared.syntax.Expr.{Expr as Code}
-use Rattle.chr_rules.specs.Turns.{factors_from, listed, summands_from, tree_turn, with_factor, with_summand}
+use Rattle.chr_rules.specs.Turns.{factors_from, listed, summands_from, tree_turn}
 
 -- what is done before stays in front
 turned_onto : (s : Scope) (done : List Tree) (es : List Expr) → in_turn tree_turn (s, done) es ≡ ((in_turn tree_turn (s, []) es).0, done ++ (in_turn tree_turn (s, []) es).1)

@@ -1,5 +1,5 @@
 -- The parts of an expression weigh less than the whole.
-use Rattle.std.proofs.Common.{rules, ◌≡◌, ◌∙◌, ◌<◌, ◌+◌, ℕ, zero, suc, List, [], ◌∷◌, Vec, Box, String, length, get_or, map, refl, ap, arith}
+use Rattle.std.proofs.Common.{rules, ◌≡◌, ◌∙◌, ◌<◌, ◌+◌, ℕ, zero, suc, List, [], ◌∷◌, Vec, Box, String, length, get_or, map, ap, arith}
 use Rattle.std.proofs.lemmas.Simd.{map-map}
 use Rattle.std.specs.Prelude.{box_value}
 use Rattle.chr_tokens.specs.declared.token.Additive.{Additive}

@@ -1,5 +1,5 @@
 -- What is found in the parts of lists and chains.
-use Rattle.std.proofs.Common.{◌≡◌, ◌<◌, ◌≤◌, arith, Vec, Box, String, suc, length, ◌∙◌, ℕ, List, [], ◌∷◌, Bool, true, false, ◌||◌, refl, ap, sym, map, None, Option}
+use Rattle.std.proofs.Common.{◌≡◌, ◌<◌, ◌≤◌, arith, Vec, Box, String, length, ◌∙◌, ℕ, List, [], ◌∷◌, Bool, true, false, ◌||◌, refl, ap, sym, None}
 use Rattle.std.specs.List.{list_any}
 use Rattle.chr_tokens.specs.declared.token.Additive.{Additive}
 use Rattle.chr_tokens.specs.declared.token.Multiplicative.{Multiplicative}

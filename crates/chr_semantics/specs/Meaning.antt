@@ -200,13 +200,15 @@ abbrev pub rule_from : Names → ℕ → syntax.Rule → Names × Rule
 rule_from names k r =
     let hs = in_turn head_from (fresh names, []) (all_heads r) in
     let gs = in_turn test_from (hs.0, []) r.guard in
-    let bs = in_turn goal_from (gs.0, []) r.body in
-    (bs.0.names, record {
-      label = label_of k r.label;
-      kept = kept_count r;
-      heads = hs.1;
-      guard = gs.1;
-      body = bs.1;
-      head_vars = length hs.0.variables;
-      vars = length bs.0.variables;
-    })
+    let bs = in_turn goal_from (gs.0, []) r.body in (
+      bs.0.names,
+      record {
+        label = label_of k r.label;
+        kept = kept_count r;
+        heads = hs.1;
+        guard = gs.1;
+        body = bs.1;
+        head_vars = length hs.0.variables;
+        vars = length bs.0.variables;
+      },
+    )

@@ -1,7 +1,7 @@
-use Rattle.std.proofs.Common.{rules, ◌≡◌, ◌∙◌, ap, sym, arith}
+use Rattle.std.proofs.Common.{rules, ◌∙◌, ap, sym, arith}
 use Rattle.std.specs.List.{list_any}
 use Rattle.chr_semantics.specs.Checked.{are_free, is_free}
-use Rattle.chr_semantics.specs.Syntax.{exprs_of, nil}
+use Rattle.chr_semantics.specs.Syntax.{exprs_of}
 use Rattle.chr_read.specs.View.{view, views}
 use Rattle.chr_rules.specs.Operands.{operands}
 use Rattle.chr_rules.specs.Weight.{weight, weights, operand_weights}

@@ -1,15 +1,14 @@
 use Rattle.std.proofs.Common.{rules, ◌≡◌, ◌∙◌, [], ◌∷◌, ◌++◌, ap, sym, subst, arith, map, length, IfOk}
 use Rattle.std.proofs.lemmas.List.{map-append}
 use Rattle.chr_semantics.specs.Syntax.{call, exprs_of, list, nil}
-use Rattle.chr_semantics.specs.Meaning.{atom_from, count, scope, tree_from}
+use Rattle.chr_semantics.specs.Meaning.{scope, tree_from}
 use Rattle.chr_semantics.specs.Tree.{node, none}
 use Rattle.std.specs.Prelude.{string_bytes}
 use Rattle.chr_term.specs.View.{trees_view, view}
 use Rattle.chr_term.specs.declared.term.Term.TheVariants.{Node}
-use Rattle.chr_tokens.specs.View.{additive_view}
 use Rattle.chr_read.specs.View.{additive_operands, multiplicative_operands, products, sums, view as syntax_view, views}
 use Rattle.chr_rules.specs.Turns.{factors_from, listed, summands_from, tree_turn}
-use Rattle.chr_rules.specs.Weight.{operand_weights, weight, weights}
+use Rattle.chr_rules.specs.Weight.{operand_weights, weight}
 use Rattle.chr_rules.proofs.Turned.{all_dropped, atom_made, factor_done, list_made, node_view, ok_answers, products_made, summand_done, sums_made, turn_done}
 use Rattle.chr_rules.proofs.Weighs.{element_weighs, product_weighs, sum_weighs}
 use Rattle.chr_rules.proofs.Within.{call_is, count_views, list_is, list_with_end_is, product_is, sum_is}

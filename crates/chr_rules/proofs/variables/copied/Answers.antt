@@ -1,6 +1,5 @@
-use Rattle.std.proofs.Common.{◌≡◌, ap, ◌∙◌, arith, length}
+use Rattle.std.proofs.Common.{◌≡◌, arith, length}
 use Rattle.std.proofs.Math.Seq.{take-length}
-use Rattle.chr_rules.specs.Words.{words_of}
 use Rattle.chr_rules.proofs.Numbered.{words_pushed}
 use Rattle.chr_rules.proofs.variables.copied.Goals as goal
 

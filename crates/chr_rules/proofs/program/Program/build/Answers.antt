@@ -1,4 +1,4 @@
-use Rattle.std.proofs.Common.{◌≡◌, ◌∙◌, ◌<◌, ◌^◌, [], Ok, ap, arith, subst, sym}
+use Rattle.std.proofs.Common.{◌∙◌, [], ap, arith, subst, sym}
 use Rattle.chr_semantics.specs.Checked.{checked, declare_in, declared_only, each, rule_in}
 use Rattle.chr_semantics.specs.Names.{first_names}
 use Rattle.chr_semantics.specs.Program.{occurrences}
