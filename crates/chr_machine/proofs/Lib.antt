@@ -1,7 +1,5 @@
-pub mod Listed
 pub mod Rows
 pub mod Resolved
-pub mod Occurrences
 pub mod Thin
 pub mod Stays
 pub mod Stacks
@@ -10,3 +8,4 @@ pub mod Simplified
 pub mod Moved
 pub mod Runs
 pub mod Heads
+pub mod Every

@@ -6,8 +6,8 @@ use Rattle.std.proofs.lemmas.Simd.{map-map}
 use Rattle.chr_semantics.specs.Match.{Row}
 use Rattle.chr_semantics.specs.Search.{History}
 use Rattle.chr_semantics.specs.State.{State, Element, Status, goal, start, with_stack}
-use Rattle.chr_machine.specs.Rules.{goal_view}
-use Rattle.chr_machine.specs.declared.program.Goal.{Goal}
+use Rattle.chr_rules.specs.View.{goal_view}
+use Rattle.chr_rules.specs.declared.rule.Goal.{Goal}
 use Rattle.chr_semantics.specs.Step.{step, after}
 use Rattle.chr_semantics.specs.Trace.{line}
 use Rattle.chr_semantics.specs.Text.{line_texts, trace}

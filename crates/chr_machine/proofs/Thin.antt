@@ -9,9 +9,9 @@ use Rattle.chr_semantics.specs.Search.{History, atom_of, same_ids, fired_before,
 use Rattle.chr_semantics.specs.State.{State, rows, resolved_atom}
 use Rattle.chr_semantics.specs.Step.{search_at}
 use Rattle.chr_machine.specs.Fragment.{is_ground_constraint, is_one_ground_head, is_thin_rule, is_thin_program, is_spent, IsThin, is_fit, IsFiring, IsThinRule}
-use Rattle.chr_machine.specs.Index.{pair_of}
+use Rattle.chr_rules.specs.Index.{pair_of}
 use Rattle.chr_machine.proofs.Resolved.{both-left, both-right, resolved_none}
-use Rattle.chr_machine.proofs.Occurrences.{occurrence_in}
+use Rattle.chr_rules.proofs.Occurrences.{occurrence_in}
 
 test-zero : (n : ℕ) → (n == 0) ≡ true → n ≡ 0
 test-zero n h = grind arith

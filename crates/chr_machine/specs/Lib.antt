@@ -1,5 +1,3 @@
-pub mod Rules
-pub mod Index
 pub mod Loaded
 pub mod Rows
 pub mod Slots

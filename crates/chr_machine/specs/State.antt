@@ -3,7 +3,7 @@ use Rattle.std.specs.Prelude.{ℕ, List, [], ◌∷◌, map, length, Vec}
 use Rattle.chr_semantics.specs.Value as semantics
 use Rattle.chr_semantics.specs.State as semantics'
 use Rattle.chr_semantics.specs.State.{Element, goal, known, active, State}
-use Rattle.chr_machine.specs.Rules.{atom_view, goal_view}
+use Rattle.chr_rules.specs.View.{atom_view, goal_view}
 use Rattle.chr_machine.specs.Slots.{rows_of, next_of}
 use Rattle.chr_machine.specs.declared.store.Id.{Id}
 use Rattle.chr_machine.specs.declared.state.Elem.{Elem}

@@ -6,9 +6,9 @@ use Rattle.chr_semantics.specs.Match.{Row}
 use Rattle.chr_semantics.specs.Trace.{line, line_top}
 use Rattle.chr_semantics.specs.Step.{step, step_top, after}
 use Rattle.chr_machine.specs.Loaded.{names_of, rules_of}
-use Rattle.chr_machine.specs.Rules.{goal_view}
+use Rattle.chr_rules.specs.View.{goal_view}
 use Rattle.chr_machine.specs.Slots.{next_of, rows_of}
-use Rattle.chr_machine.specs.declared.program.Goal.{Goal}
+use Rattle.chr_rules.specs.declared.rule.Goal.{Goal}
 use Rattle.chr_machine.specs.State.{state_of, status_view, texts}
 use Rattle.chr_machine.specs.declared.state.Execution.{Execution}
 use Rattle.chr_machine.specs.declared.state.Stepped.{Stepped}

@@ -5,14 +5,14 @@ ghost use Rattle.chr_semantics.specs.State.{active, goal, with_stack};
 ghost use Rattle.chr_semantics.specs.Step.{search_at};
 ghost use Rattle.chr_machine.specs.Fragment.{IsFiring, IsThin, IsThinRule, is_fit, is_one_ground_head};
 ghost use Rattle.chr_machine.specs.Loaded.{rules_of};
-ghost use Rattle.chr_machine.specs.Rules.{atom_view, goal_view, rule_view};
+ghost use Rattle.chr_rules.specs.View.{atom_view, goal_view, rule_view};
 ghost use Rattle.chr_machine.specs.Slots.{next_of, rows_of};
 ghost use Rattle.chr_machine.specs.State.{elem_view, ids_view, stack_view, state_of, texts};
 ghost use Rattle.chr_machine.specs.Step.{IsReady, Kept, Made, SameRun, topped};
 
-use crate::program::{Goal, Rule, copy_goals};
 use crate::state::{Elem, Execution, Fired};
 use crate::store::Id;
+use chr_rules::{Goal, Rule, copy_goals};
 use chr_term::{Memory, Sym, Term, same_all};
 use std::alloc::Allocator;
 

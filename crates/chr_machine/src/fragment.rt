@@ -2,9 +2,10 @@
 ghost use Rattle.std.specs.Prelude.{◌≡◌, map};
 ghost use Rattle.std.specs.List.{list_all};
 ghost use Rattle.chr_machine.specs.Fragment.{is_constraint, is_ground_constraint, is_one_ground_head, is_thin_program, is_thin_query, is_thin_rule};
-ghost use Rattle.chr_machine.specs.Rules.{goal_view, heads_view, query_view, rule_view, rules_view};
+ghost use Rattle.chr_machine.specs.Loaded.{rules_of};
+ghost use Rattle.chr_rules.specs.View.{goal_view, heads_view, query_view, rule_view};
 
-use crate::program::{Goal, Query, Rule};
+use chr_rules::{Goal, Program, Query, Rule};
 use chr_term::are_ground;
 use std::alloc::Allocator;
 
@@ -64,27 +65,26 @@ fn is_thin_rule<A: Allocator>(rule: &Rule<A>) -> bool
 {
     rule.kept == 0
         && is_one_ground_head(rule)
+        && rule.guard.is_empty()
         && are_ground_constraints(rule.body.as_slice())
         && rule.vars == 0
 }
 
-/// Whether each rule has one head, which is removed, and no variable.
-pub fn are_thin_rules<A: Allocator>(rules: &[Rule<A>]) -> bool
-    ensures { result ≡ is_thin_program (rules_view rules.now) }
+/// Whether the machine takes the program today: each rule has one head, which is removed, no guard and no variable.
+pub fn is_thin_program<A: Allocator>(program: &Program<A>) -> bool
+    ensures { result ≡ is_thin_program (rules_of program.now) }
 {
-    for rule in rules {
-        if !is_thin_rule(rule) {
+    for k in 0..program.rules() {
+        if !is_thin_rule(program.rule(k)) {
             return false;
         }
     }
     true
 }
 
-impl<A: Allocator> Query<A> {
-    /// Whether the machine takes it today: its goals are CHR constraints.
-    pub fn is_thin(&self) -> bool
-        ensures { result ≡ is_thin_query (query_view self.now) }
-    {
-        are_constraints(self.goals.as_slice())
-    }
+/// Whether the machine takes the query today: its goals are CHR constraints.
+pub fn is_thin_query<A: Allocator>(query: &Query<A>) -> bool
+    ensures { result ≡ is_thin_query (query_view query.now) }
+{
+    are_constraints(query.goals.as_slice())
 }

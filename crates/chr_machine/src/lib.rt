@@ -7,14 +7,13 @@ mod firing;
 mod fragment;
 mod lines;
 mod machine;
-mod program;
 mod run;
 mod state;
 mod steps;
 mod store;
 
+pub use fragment::{is_thin_program, is_thin_query};
 pub use machine::Machine;
-pub use program::{Goal, Occurrence, Op, Program, Query, Rule, copy_goals, heads_fit};
 pub use state::{Elem, Fault, Fired, Status, Stepped};
 pub use store::{Id, Row, Store};
 

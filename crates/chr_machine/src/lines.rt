@@ -5,12 +5,12 @@ ghost use Rattle.chr_semantics.specs.State.{resolved_atom};
 ghost use Rattle.chr_semantics.specs.Text.{active_text, firing_text, ids_text, known_text, line_text, more_ids_text};
 ghost use Rattle.chr_semantics.specs.Trace.{activates, defaults, drops, reactivates, simplifies};
 ghost use Rattle.chr_machine.specs.Loaded.{names_of};
-ghost use Rattle.chr_machine.specs.Rules.{atom_view};
+ghost use Rattle.chr_rules.specs.View.{atom_view};
 ghost use Rattle.chr_machine.specs.State.{ids_view};
 
-use crate::program::Rule;
 use crate::state::Execution;
 use crate::store::Id;
+use chr_rules::Rule;
 use chr_term::{Memory, Sym, Term, print_atom, print_number};
 use std::alloc::Allocator;
 

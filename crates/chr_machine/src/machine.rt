@@ -3,14 +3,14 @@ ghost use Rattle.std.specs.Prelude.{◌≡◌, ◌≤◌, ◌<◌, ◌+◌, ◌-
 ghost use Rattle.chr_semantics.specs.State.{start};
 ghost use Rattle.chr_machine.specs.Fragment.{IsThin, is_thin_program, is_thin_query};
 ghost use Rattle.chr_machine.specs.Loaded.{names_of, rules_of};
-ghost use Rattle.chr_machine.specs.Rules.{goal_view, query_view};
+ghost use Rattle.chr_rules.specs.View.{goal_view, query_view};
 ghost use Rattle.chr_machine.specs.Slots.{next_of, rows_of};
 ghost use Rattle.chr_machine.specs.State.{fired_view, stack_view, state_of, status_view, texts};
 ghost use Rattle.chr_machine.specs.Step.{IsReady};
 
-use crate::program::{Program, Query};
 use crate::state::{Elem, Execution, Fired, Status, Stepped};
 use crate::store::Store;
+use chr_rules::{Program, Query};
 use chr_term::{Memory, VarNames};
 use std::alloc::{Allocator, Global};
 

@@ -3,15 +3,15 @@ ghost use Rattle.std.specs.Prelude.{◌≡◌, ◌<◌, ◌≤◌, ◌+◌, ◌-
 ghost use Rattle.chr_semantics.specs.State.{start};
 ghost use Rattle.chr_machine.specs.Fragment.{IsThin};
 ghost use Rattle.chr_machine.specs.Loaded.{rules_of};
-ghost use Rattle.chr_machine.specs.Rules.{query_view};
+ghost use Rattle.chr_rules.specs.View.{query_view};
 ghost use Rattle.chr_machine.specs.Slots.{next_of};
 ghost use Rattle.chr_machine.specs.State.{elem_view, state_of};
 ghost use Rattle.chr_machine.specs.Step.{IsReady, Kept, Made, Ran, RunIs, StepIs, topped};
 
 use crate::firing::put_goals;
-use crate::program::{Goal, Program, Query};
 use crate::state::{Elem, Execution, Status, Stepped};
 use crate::store::Store;
+use chr_rules::{Goal, Program, Query};
 use chr_term::Memory;
 use std::alloc::{AllocError, Allocator};
 

@@ -1,6 +1,6 @@
 //! The parts of the state of a run.
-use crate::program::{Goal, Program};
 use crate::store::{Id, Store};
+use chr_rules::{Goal, Program};
 use chr_term::{Sym, Term, VarNames};
 use std::alloc::{Allocator, Global};
 

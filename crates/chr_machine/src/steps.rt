@@ -8,14 +8,14 @@ ghost use Rattle.chr_semantics.specs.State.{active, goal, known, with_stack};
 ghost use Rattle.chr_semantics.specs.Step.{search_at};
 ghost use Rattle.chr_machine.specs.Fragment.{IsThin};
 ghost use Rattle.chr_machine.specs.Loaded.{rules_of};
-ghost use Rattle.chr_machine.specs.Rules.{atom_view, rule_view};
+ghost use Rattle.chr_rules.specs.View.{atom_view, rule_view};
 ghost use Rattle.chr_machine.specs.Slots.{next_of, rows_of};
 ghost use Rattle.chr_machine.specs.State.{elem_view, stack_view, state_of, texts};
 ghost use Rattle.chr_machine.specs.Step.{IsReady, Kept, Made, SameRun, topped};
 
-use crate::program::Goal;
 use crate::state::{Elem, Execution, Status};
 use crate::store::Id;
+use chr_rules::Goal;
 use chr_term::{Sym, Term, copy_all};
 use std::alloc::Allocator;
 

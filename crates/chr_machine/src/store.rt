@@ -1,7 +1,7 @@
 //! The store: constraints by their identities.
 ghost use Rattle.std.specs.Prelude.{◌≡◌, ◌<◌, ◌++◌, ◌∷◌, ◌==◌, ◌^◌, ◌+◌, [], vec_len, vec_capacity, length, IfNone, IfSome, IfErr, IfOk, OnErr, OnOk, filter, is_some, not, option_map};
 ghost use Rattle.chr_semantics.specs.Search.{atom_of};
-ghost use Rattle.chr_machine.specs.Rules.{atom_view};
+ghost use Rattle.chr_rules.specs.View.{atom_view};
 ghost use Rattle.chr_machine.specs.Rows.{IsAbsent, row_atom, rows_from};
 
 use chr_term::{Memory, Sym, Term};

@@ -1,5 +1,7 @@
 use super::*;
-use chr_term::{Memory, Names, Sym, Term, VarNames};
+use chr_read::{read_program, read_query};
+use chr_rules::{Goal, Program, Query};
+use chr_term::{Memory, Sym, Term, VarNames};
 use std::alloc::Allocator;
 use std::process::Abort;
 use std::test::Fail;
@@ -7,22 +9,18 @@ use std::test::Fail;
 mod readers;
 mod refusals;
 
-/// p/1, q/1 and p/0, behind the seven symbols that each program has.
+/// p/1, q/1 and p/0, as the programs of these tests declare them: behind the seven symbols that each program has.
 const P: Sym = Sym(7);
 
 const Q: Sym = Sym(8);
 
 const BARE: Sym = Sym(9);
 
-/// The names of `P`, `Q` and `BARE`.
-fn own_names<A: Allocator + Copy>(alloc: A, rt: &impl Abort) -> Result<Names<A>, Memory> {
-    let mut names = Names::new(alloc)?;
-    for (name, arity) in [("p", 1), ("q", 1), ("p", 0)] {
-        assert!(rt; names.len() < 100);
-        names.intern(name, arity)?;
-    }
-    Ok(names)
-}
+const NO_RULES: &str = ":- chr_constraint p/1, q/1, p/0.";
+
+const GROUND_PROGRAM: &str = ":- chr_constraint p/1, q/1, p/0.\nr @ p(1) <=> q(2).\n";
+
+const GROUND_QUERY: &str = "p(1), p(2).";
 
 fn one<A: Allocator + Copy>(alloc: A, only: Term<A>) -> Result<Vec<Term<A>, A>, Memory> {
     let mut args = Vec::new(alloc);
@@ -30,69 +28,41 @@ fn one<A: Allocator + Copy>(alloc: A, only: Term<A>) -> Result<Vec<Term<A>, A>, 
     Ok(args)
 }
 
-/// The goals `p(n)`, of a symbol and a number each.
-fn goals_of<A: Allocator + Copy>(
-    alloc: A,
-    wanted: &[(Sym, i128)],
-) -> Result<Vec<Goal<A>, A>, Memory> {
-    let mut goals = Vec::new(alloc);
-    for (sym, number) in wanted {
-        goals.push(Goal::Chr(*sym, one(alloc, Term::Int(*number))?))?;
+fn program_of<A: Allocator + Copy>(alloc: A, rt: &impl Abort, text: &str) -> Program<A> {
+    match read_program(alloc, text.as_bytes()) {
+        Ok(syntax) => match Program::build(alloc, syntax) {
+            Ok(program) => program,
+            Err(error) => panic!(rt; "{error}"),
+        },
+        Err(error) => panic!(rt; "{error}"),
     }
-    Ok(goals)
 }
 
-/// A query that has no variable.
-fn query_of<A: Allocator + Copy>(alloc: A, wanted: &[(Sym, i128)]) -> Result<Query<A>, Memory> {
-    Ok(Query {
-        goals: goals_of(alloc, wanted)?,
-        var_names: VarNames::new(Vec::new(alloc)),
-    })
-}
-
-/// `label @ head <=> body.`
-fn rule_of<A: Allocator + Copy>(
-    alloc: A,
-    label: &str,
-    head: (Sym, i128),
-    body: &[(Sym, i128)],
-) -> Result<Rule<A>, Memory> {
-    let (sym, number) = head;
-    let mut heads = Vec::new(alloc);
-    heads.push((sym, one(alloc, Term::Int(number))?))?;
-    Ok(Rule {
-        label: String::from_str(alloc, label)?,
-        kept: 0,
-        heads,
-        passive: Vec::new(alloc),
-        body: goals_of(alloc, body)?,
-        vars: 0,
-    })
-}
-
-fn program_of<A: Allocator + Copy>(
+fn query_of<A: Allocator + Copy>(
     alloc: A,
     rt: &impl Abort,
-    rules: Vec<Rule<A>, A>,
-) -> Result<Program<A>, Memory> {
-    assert!(rt; heads_fit(rules.as_slice()));
-    Program::of_rules(alloc, own_names(alloc, rt)?, rules)
+    program: &mut Program<A>,
+    text: &str,
+) -> Query<A> {
+    match read_query(alloc, text.as_bytes()) {
+        Ok(syntax) => match program.goals_of_query(syntax) {
+            Ok(query) => query,
+            Err(error) => panic!(rt; "{error}"),
+        },
+        Err(error) => panic!(rt; "{error}"),
+    }
 }
 
-/// `r @ p(1) <=> q(2).`
-fn ground_rules<A: Allocator + Copy>(alloc: A) -> Result<Vec<Rule<A>, A>, Memory> {
-    let mut rules = Vec::new(alloc);
-    rules.push(rule_of(alloc, "r", (P, 1), &[(Q, 2)])?)?;
-    Ok(rules)
-}
-
-fn ground_program<A: Allocator + Copy>(alloc: A, rt: &impl Abort) -> Result<Program<A>, Memory> {
-    program_of(alloc, rt, ground_rules(alloc)?)
-}
-
-/// `p(1), p(2).`
-fn ground_query<A: Allocator + Copy>(alloc: A) -> Result<Query<A>, Memory> {
-    query_of(alloc, &[(P, 1), (P, 2)])
+/// A program and a query of these texts.
+fn both_of<A: Allocator + Copy>(
+    alloc: A,
+    rt: &impl Abort,
+    program: &str,
+    query: &str,
+) -> (Program<A>, Query<A>) {
+    let mut program = program_of(alloc, rt, program);
+    let query = query_of(alloc, rt, &mut program, query);
+    (program, query)
 }
 
 fn started<'p, A: Allocator + Copy>(
@@ -101,8 +71,8 @@ fn started<'p, A: Allocator + Copy>(
     program: &'p Program<A>,
     query: Query<A>,
 ) -> Result<Machine<'p, A>, Memory> {
-    assert!(rt; program.is_thin());
-    assert!(rt; query.is_thin());
+    assert!(rt; is_thin_program(program));
+    assert!(rt; is_thin_query(&query));
     Machine::start(alloc, program, query)
 }
 
@@ -188,8 +158,8 @@ fn assert_ground_end<A: Allocator>(rt: &impl Abort, machine: &Machine<A>) {
 
 #[test]
 fn machine_calls(rt: HostRuntime) -> Result<(), Fail> {
-    let program = ground_program(rt.alloc(), &rt)?;
-    let mut machine = started(rt.alloc(), &rt, &program, ground_query(rt.alloc())?)?;
+    let (program, query) = both_of(rt.alloc(), &rt, GROUND_PROGRAM, GROUND_QUERY);
+    let mut machine = started(rt.alloc(), &rt, &program, query)?;
     assert_eq!(&rt; step(&mut machine)?, Stepped::Moved);
     assert_eq!(&rt; run_alone(&mut machine, 100)?, Stepped::Ended);
     assert_ground_end(&rt, &machine);
@@ -223,7 +193,7 @@ fn assert_million<A: Allocator>(rt: &impl Abort, machine: &Machine<A>) {
 
 #[test]
 fn a_million_transitions(rt: HostRuntime) -> Result<(), Fail> {
-    let program = program_of(rt.alloc(), &rt, Vec::new(rt.alloc()))?;
+    let program = program_of(rt.alloc(), &rt, NO_RULES);
     let mut machine = started(rt.alloc(), &rt, &program, many(rt.alloc(), 524_288)?)?;
     assert_eq!(&rt; run_alone(&mut machine, 1_048_576)?, Stepped::Spent);
     assert_million(&rt, &machine);
@@ -235,8 +205,8 @@ fn a_million_transitions(rt: HostRuntime) -> Result<(), Fail> {
 
 #[test]
 fn nothing_to_do(rt: HostRuntime) -> Result<(), Fail> {
-    let program = program_of(rt.alloc(), &rt, Vec::new(rt.alloc()))?;
-    let mut machine = started(rt.alloc(), &rt, &program, query_of(rt.alloc(), &[])?)?;
+    let (program, query) = both_of(rt.alloc(), &rt, "", "true.");
+    let mut machine = started(rt.alloc(), &rt, &program, query)?;
     assert_stands(&rt, &machine, Status::Done, 0);
     assert_eq!(&rt; step(&mut machine)?, Stepped::Ended);
     assert_eq!(&rt; run_alone(&mut machine, 0)?, Stepped::Ended);
@@ -247,8 +217,8 @@ fn nothing_to_do(rt: HostRuntime) -> Result<(), Fail> {
 
 #[test]
 fn no_budget(rt: HostRuntime) -> Result<(), Fail> {
-    let program = program_of(rt.alloc(), &rt, Vec::new(rt.alloc()))?;
-    let mut machine = started(rt.alloc(), &rt, &program, query_of(rt.alloc(), &[(P, 1)])?)?;
+    let (program, query) = both_of(rt.alloc(), &rt, NO_RULES, "p(1).");
+    let mut machine = started(rt.alloc(), &rt, &program, query)?;
     assert_eq!(&rt; run_alone(&mut machine, 0)?, Stepped::Moved);
     assert_stands(&rt, &machine, Status::Running, 0);
     assert!(&rt; is_goal(machine.stack(), P, 1));

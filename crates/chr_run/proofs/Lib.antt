@@ -2,5 +2,5 @@ pub mod Parts
 pub mod Lines
 pub mod Bodies
 pub mod Ends
-pub mod Readings
 pub mod Inputs
+pub mod Accepted

@@ -1,7 +1,7 @@
 -- Bytes that go out in parts.
 use Rattle.std.proofs.Common.{◌≡◌, ◌∙◌, ℕ, ◌++◌, List, [], Option, Some, None, refl, ap, sym, append-nil, append_assoc}
 use Rattle.std.specs.Io.KnownBytes.{Appends, Keeps}
-use Rattle.chr_run.specs.Output.{IsOut}
+use Rattle.chr_run.specs.Output.{IsOut, AppendsPart}
 
 appends-none : (old : Option (List ℕ)) → Appends old old []
 appends-none None = tt
@@ -45,3 +45,7 @@ out-all old new bytes rest h none =
 pub keeps_same : (old : Option (List ℕ)) → Keeps old old
 keeps_same None = tt
 keeps_same (Some xs) = refl
+
+-- nothing is a first part of all
+pub part_none : (old : Option (List ℕ)) (bytes : List ℕ) → AppendsPart old old bytes
+part_none old bytes = record { rest = bytes; is_out = out-none old bytes }

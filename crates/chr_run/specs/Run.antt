@@ -12,17 +12,22 @@ use Rattle.chr_run.specs.Output.{AppendsPart}
 use Rattle.chr_run.specs.declared.texts.RunError.{RunError}
 use Rattle.chr_run.specs.declared.texts.RunError.TheVariants.{BudgetTooLarge, TooManyWorkers, Memory}
 use Rattle.chr_run.specs.declared.texts.TextError.{TextError}
-use Rattle.chr_run.specs.declared.texts.TextError.TheVariants.{Run, NotYet, Write}
+use Rattle.chr_run.specs.declared.texts.TextError.TheVariants.{Run, Write}
 
 -- the budget is at most 1,000,000, and there is no worker
 abbrev pub WithinLimits : ℕ → ℕ → Type 0
 WithinLimits n workers = (n ≤ 1000000) × (workers ≡ 0)
 
--- when each refusal of a run comes: the budget is looked at before the workers, and both before memory is asked for
+-- when the limits refuse a run: the budget is looked at before the workers
+abbrev pub PastLimits : ℕ → ℕ → RunError → Type 0
+PastLimits n workers BudgetTooLarge = 1000000 < n
+PastLimits n workers TooManyWorkers = (n ≤ 1000000) × (0 < workers)
+PastLimits n workers Memory = ⊥
+
+-- when each refusal of a run comes: both limits are looked at before memory is asked for
 abbrev pub RefusedRun : ℕ → ℕ → RunError → Type 0
-RefusedRun n workers BudgetTooLarge = 1000000 < n
-RefusedRun n workers TooManyWorkers = (n ≤ 1000000) × (0 < workers)
 RefusedRun n workers Memory = WithinLimits n workers
+RefusedRun n workers e = PastLimits n workers e
 
 -- what an answer says of the bytes that the writer tells: all of the text of n transitions and its status, a first part of it after
 -- Write, and nothing after another refusal; a program and a query that are there are never refused as texts
@@ -30,4 +35,4 @@ abbrev pub IsInto : Names → semantics.Program → semantics.Query → ℕ → 
 IsInto names p q n workers old new (Ok status) = WithinLimits n workers × Appends old new (text names p q n) × (status_view status ≡ (after p (start q) n).status)
 IsInto names p q n workers old new (Err (Run e)) = RefusedRun n workers e × Keeps old new
 IsInto names p q n workers old new (Err Write) = WithinLimits n workers × AppendsPart old new (text names p q n)
-IsInto names p q n workers old new (Err NotYet) = ⊥
+IsInto names p q n workers old new (Err _) = ⊥

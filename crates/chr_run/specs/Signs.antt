@@ -1,7 +1,7 @@
 -- The signs of built-ins.
 use Rattle.std.specs.Prelude.{ℕ, List, codes}
-use Rattle.chr_machine.specs.declared.program.Op.{Op}
-use Rattle.chr_machine.specs.declared.program.Op.TheVariants.{Equal, Is, Less, Greater, AtMost, AtLeast, Equals, Differs}
+use Rattle.chr_rules.specs.declared.rule.Op.{Op}
+use Rattle.chr_rules.specs.declared.rule.Op.TheVariants.{Equal, Is, Less, Greater, AtMost, AtLeast, Equals, Differs}
 
 abbrev pub sign_text : Op → List ℕ
 sign_text Equal = codes " = "

@@ -1,37 +1,66 @@
 -- What the run of two texts answers, and what goes out.
-use Rattle.std.specs.Prelude.{◌≡◌, ℕ, true, List, Option, Result, Ok, Err}
+use Rattle.std.specs.Prelude.{◌≡◌, ℕ, Bool, false, ◌&&◌, true, List, Option, Result, Ok, Err}
 use Rattle.std.specs.Io.KnownBytes.{Keeps}
+use Rattle.chr_semantics.specs.Accepted.{IsAcceptedProgram, IsAccepted}
+use Rattle.chr_semantics.specs.Checked.{Checked, checked, checked_query}
+use Rattle.chr_semantics.specs.Grammar.{IsProgram, IsQuery}
 use Rattle.chr_semantics.specs.Names.{Names}
-use Rattle.chr_semantics.specs.Program.{Program, Query}
+use Rattle.chr_semantics.specs.Program.{Program as Rules, Query as Goals}
+use Rattle.chr_semantics.specs.Reading.{IsRead}
+use Rattle.chr_semantics.specs.Syntax as syntax
+use Rattle.chr_read.specs.Refusals.{IsRefusal}
+use Rattle.chr_rules.specs.Checks.{IsError}
 use Rattle.chr_machine.specs.Fragment.{is_thin_program, is_thin_query}
 use Rattle.chr_machine.specs.declared.state.Status.{Status}
-use Rattle.thin_reader.specs.Read.{IsRead}
-use Rattle.chr_run.specs.Run.{WithinLimits, RefusedRun, IsInto}
+use Rattle.chr_run.specs.Run.{WithinLimits, PastLimits, IsInto}
+use Rattle.chr_run.specs.declared.texts.RunError.TheVariants.{Memory}
 use Rattle.chr_run.specs.declared.texts.TextError.{TextError}
-use Rattle.chr_run.specs.declared.texts.TextError.TheVariants.{Run, NotYet, Write}
+use Rattle.chr_run.specs.declared.texts.TextError.TheVariants as error
 
--- the texts are read as a program and a query that the machine performs today
-pub record IsAccepted (program query : List ℕ) (names : Names) (rules : Program) (q : Query) : Type 0 where
-  pub read : IsRead program query names rules q
-  pub thin_program : is_thin_program rules ≡ true
-  pub thin_query : is_thin_query q ≡ true
+-- the machine performs them today
+abbrev pub is_performed : Rules → Goals → Bool
+is_performed rules q = is_thin_program rules && is_thin_query q
 
--- the texts are not read as such
-abbrev pub NoneAccepted : List ℕ → List ℕ → Type 0
-NoneAccepted program query = (names : Names) (rules : Program) (q : Query) → IsAccepted program query names rules q → ⊥
+-- the text spells a query over the program, with no mistake; the names grow
+pub record IsAcceptedQuery (c : Checked) (text : List ℕ) (names : Names) (q : Goals) : Type 0 where
+  pub spelled : syntax.Query
+  pub read : IsRead IsQuery text spelled
+  pub is_checked : checked_query c spelled ≡ Ok (names, q)
 
--- the texts are accepted, and the run of what they mean answers so
+-- the text of a program is not read so, or it is read and there is this mistake
+abbrev pub IsProgramError : List ℕ → TextError → Type 0
+IsProgramError text (error.Program e) = IsRefusal IsProgram text e
+IsProgramError text (error.Rules e) = (spelled : syntax.Program) × IsRead IsProgram text spelled × IsError e (checked spelled)
+IsProgramError text _ = ⊥
+
+-- the same of a query over an accepted program
+abbrev pub IsQueryError : Checked → List ℕ → TextError → Type 0
+IsQueryError c text (error.Query e) = IsRefusal IsQuery text e
+IsQueryError c text (error.Goals e) = (spelled : syntax.Query) × IsRead IsQuery text spelled × IsError e (checked_query c spelled)
+IsQueryError c text _ = ⊥
+
+-- Why two texts are not run: the program is looked at first, then the query over it, and then whether the machine performs them today.
+abbrev pub IsTextError : List ℕ → List ℕ → TextError → Type 0
+IsTextError program query (error.Program e) = IsProgramError program (error.Program e)
+IsTextError program query (error.Rules e) = IsProgramError program (error.Rules e)
+IsTextError program query (error.Query e) = (c : Checked) × IsAcceptedProgram program c × IsQueryError c query (error.Query e)
+IsTextError program query (error.Goals e) = (c : Checked) × IsAcceptedProgram program c × IsQueryError c query (error.Goals e)
+IsTextError program query error.NotYet = (names : Names) × (rules : Rules) × (q : Goals) × IsAccepted program query names rules q × (is_performed rules q ≡ false)
+IsTextError program query _ = ⊥
+
+-- the texts are accepted, and the run of what they stand for answers so
 pub record IsAcceptedRun (program query : List ℕ) (n workers : ℕ) (old new : Option (List ℕ)) (result : Result Status TextError) : Type 0 where
   pub names : Names
-  pub rules : Program
-  pub q : Query
+  pub rules : Rules
+  pub q : Goals
   pub accepted : IsAccepted program query names rules q
+  pub performed : is_performed rules q ≡ true
   pub into : IsInto names rules q n workers old new result
 
--- What an answer says of the texts and of the bytes that the writer tells. The limits are looked at before the texts; memory may be
--- wanted by the reading already.
+-- What an answer says of the texts and of the bytes that the writer tells. The limits are looked at before the texts.
 abbrev pub IsTextRun : List ℕ → List ℕ → ℕ → ℕ → Option (List ℕ) → Option (List ℕ) → Result Status TextError → Type 0
 IsTextRun program query n workers old new (Ok status) = IsAcceptedRun program query n workers old new (Ok status)
-IsTextRun program query n workers old new (Err Write) = IsAcceptedRun program query n workers old new (Err Write)
-IsTextRun program query n workers old new (Err NotYet) = WithinLimits n workers × NoneAccepted program query × Keeps old new
-IsTextRun program query n workers old new (Err (Run e)) = RefusedRun n workers e × Keeps old new
+IsTextRun program query n workers old new (Err error.Write) = IsAcceptedRun program query n workers old new (Err error.Write)
+IsTextRun program query n workers old new (Err (error.Run Memory)) = IsAcceptedRun program query n workers old new (Err (error.Run Memory))
+IsTextRun program query n workers old new (Err (error.Run e)) = PastLimits n workers e × Keeps old new
+IsTextRun program query n workers old new (Err e) = WithinLimits n workers × IsTextError program query e × Keeps old new

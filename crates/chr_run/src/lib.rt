@@ -4,6 +4,7 @@
 mod outcome;
 mod output;
 mod program;
+mod refusal;
 mod texts;
 
 pub use program::command;

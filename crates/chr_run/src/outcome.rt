@@ -4,14 +4,15 @@ ghost use Rattle.std.specs.Fmt.{decimal};
 ghost use Rattle.chr_semantics.specs.Text.{entry_text, goal_text, ids_text, known_text, lines_text, more_ids_text, outcome, part, status_text};
 ghost use Rattle.chr_machine.specs.Loaded.{names_of, rules_of};
 ghost use Rattle.chr_machine.specs.Rows.{row_atom, rows_from};
-ghost use Rattle.chr_machine.specs.Rules.{atom_view, goal_view};
+ghost use Rattle.chr_rules.specs.View.{atom_view, goal_view};
 ghost use Rattle.chr_machine.specs.Standing.{standing};
 ghost use Rattle.chr_machine.specs.State.{elem_view, fired_view, ids_view, stack_view, status_view, texts};
 ghost use Rattle.chr_run.specs.Body.{body};
 ghost use Rattle.chr_run.specs.Signs.{sign_text};
 ghost use Rattle.chr_run.specs.Stored.{plain_text, rows_text, slot_rows};
 
-use chr_machine::{Elem, Fault, Fired, Goal, Id, Machine, Op, Program, Row, Status};
+use chr_machine::{Elem, Fault, Fired, Id, Machine, Row, Status};
+use chr_rules::{Goal, Op, Program};
 use chr_term::{Memory, Sym, Term, VarNames, print, print_atom, print_number};
 use std::alloc::Allocator;
 

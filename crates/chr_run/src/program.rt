@@ -1,40 +1,19 @@
 //! The program `chr`: what it reads, what it writes, and its exit status.
-ghost use Rattle.std.specs.Prelude.{◌≡◌, IfSome, length};
-ghost use Rattle.std.specs.Io.KnownBytes.{Consumes, IsAtEnd};
-ghost use Rattle.chr_run.specs.Command.{IsCommand, behind_line, first_line, refusal_text, status_code};
-ghost use Rattle.chr_run.specs.Output.{AppendsPart};
+ghost use Rattle.std.specs.Prelude.{◌≡◌, ◌⊎◌, codes, map, option_map};
+ghost use Rattle.std.specs.String.{string_bytes};
+ghost use Rattle.chr_run.specs.Command.{IsCommand, Refuses, RunsFile, RunsInput, RunsTexts, RunsWords, Shows, behind_line, first_line, status_code, told, unread_text};
 
 use crate::output::write_bytes;
+use crate::refusal::{say, say_refusal, say_unread};
 use crate::texts::{RunError, TextError, run_text};
 use chr_machine::Status;
+use chr_words::files::read_all;
+use chr_words::{Opens, Request, asked, read_file};
 use std::alloc::Global;
 use std::io::{Read, Write};
 
-/// The budget of a run.
-const BUDGET: u64 = 100_000;
-
-/// How often an input is read at most.
-const READS: u32 = 1_000_000;
-
 /// The exit status where there is no run.
 const REFUSED: u8 = 2;
-
-/// All that the input has left, or none where it cannot be read: a read fails, so many reads do not reach its end, or there is no memory for it.
-fn read_all<R: Read>(alloc: Global, input: &mut R) -> Option<Vec<u8>>
-    ensures bytes { IfSome result (λ bytes. Consumes (R.remaining input.old) (R.remaining input.new) bytes.items) }
-    ensures end { IfSome result (λ bytes. IsAtEnd (R.remaining input.new)) }
-{
-    let mut bytes = Vec::new(alloc);
-    let mut buffer = [0u8; 4096];
-    for _ in 0..READS {
-        let count = input.read(&mut buffer).ok()?;
-        if count == 0 {
-            return Some(bytes);
-        }
-        bytes.extend_from_slice(&buffer[..count]).ok()?;
-    }
-    None
-}
 
 /// The first line, without its line feed, and what stands behind that.
 fn split(text: &[u8]) -> (&[u8], &[u8])
@@ -61,49 +40,144 @@ fn status_code(status: Status) -> u8
     }
 }
 
-/// The line that says why there is no run.
-fn refusal_text(error: TextError) -> &'static str
-    ensures { result.now ≡ refusal_text error }
+/// Writes the text of the run of a program and a query, or says why there is none.
+fn run_texts<W: Write, E: Write>(
+    alloc: Global,
+    program: &[u8],
+    query: &[u8],
+    budget: u64,
+    output: &mut W,
+    error: &mut E,
+) -> u8
+    ensures { RunsTexts program.now query.now budget (told (W.contents output.old) (W.contents output.new) (E.contents error.old) (E.contents error.new) result) }
 {
-    match error {
-        TextError::NotYet => "chr: NotYet\n",
-        TextError::Run(RunError::Memory) => "chr: Memory\n",
-        TextError::Run(RunError::BudgetTooLarge) => "chr: BudgetTooLarge\n",
-        TextError::Run(RunError::TooManyWorkers) => "chr: TooManyWorkers\n",
-        TextError::Write => "chr: cannot write\n",
+    match run_text(alloc, program, query, budget, 0, output) {
+        Ok(status) => status_code(status),
+        Err(refusal) => {
+            say_refusal(alloc, error, refusal);
+            REFUSED
+        }
     }
 }
 
-/// Says why there is no run, as far as it can be written, and answers the exit status of a refusal.
-fn refuse<E: Write>(error: &mut E, line: &str) -> u8
-    ensures status { result ≡ 2 }
-    ensures says { AppendsPart (E.contents error.old) (E.contents error.new) line.now }
-{
-    let _ = write_bytes(error, line.as_bytes());
-    REFUSED
-}
-
-/// What the program `chr` does with the words behind its name, of which it takes none yet: it reads a query, which is the first line of the
-/// input, and a program, which is the rest, and writes the text of their run. The answer is the exit status: 0 done, 2 refused, 3 failed,
-/// 4 a fault, 5 the budget used up. Where it is 2, a line on `error` says why.
-pub fn command<R: Read, W: Write, E: Write>(
+/// The run of what the input has: a query in its first line, and a program behind it.
+fn run_input<R: Read, W: Write, E: Write>(
     alloc: Global,
-    words: &[String],
+    budget: u64,
     input: &mut R,
     output: &mut W,
     error: &mut E,
 ) -> u8
-    ensures { IsCommand (length words.now) (R.remaining input.old) (W.contents output.old) (W.contents output.new) (E.contents error.old) (E.contents error.new) result }
+    ensures { RunsInput (R.remaining input.old) budget (told (W.contents output.old) (W.contents output.new) (E.contents error.old) (E.contents error.new) result)
+        ⊎ Refuses (codes "chr: cannot read\n") (told (W.contents output.old) (W.contents output.new) (E.contents error.old) (E.contents error.new) result) }
 {
-    if !words.is_empty() {
-        return refuse(error, "chr: no words are taken yet\n");
+    match read_all(alloc, input) {
+        Some(text) => {
+            let (query, program) = split(text.as_slice());
+            run_texts(alloc, program, query, budget, output, error)
+        }
+        None => {
+            say(error, "chr: cannot read\n");
+            REFUSED
+        }
     }
-    let Some(text) = read_all(alloc, input) else {
-        return refuse(error, "chr: cannot read\n");
-    };
-    let (query, program) = split(text.as_slice());
-    match run_text(alloc, program, query, BUDGET, 0, output) {
-        Ok(status) => status_code(status),
-        Err(refusal) => refuse(error, refusal_text(refusal)),
+}
+
+/// The run of the program in a file.
+fn run_file<O: Opens, W: Write, E: Write>(
+    alloc: Global,
+    files: &O,
+    path: &str,
+    query: &str,
+    budget: u64,
+    output: &mut W,
+    error: &mut E,
+) -> u8
+    ensures { RunsFile (O.bytes_of files.now path.now) query.now budget (told (W.contents output.old) (W.contents output.new) (E.contents error.old) (E.contents error.new) result)
+        ⊎ Refuses (unread_text path.now) (told (W.contents output.old) (W.contents output.new) (E.contents error.old) (E.contents error.new) result) }
+{
+    match read_file(alloc, files, path) {
+        Some(program) => run_texts(
+            alloc,
+            program.as_slice(),
+            query.as_bytes(),
+            budget,
+            output,
+            error,
+        ),
+        None => {
+            say_unread(alloc, error, path);
+            REFUSED
+        }
+    }
+}
+
+/// The run that the words ask for.
+fn run_words<O: Opens, R: Read, W: Write, E: Write>(
+    alloc: Global,
+    program: Option<&str>,
+    query: Option<&str>,
+    budget: u64,
+    files: &O,
+    input: &mut R,
+    output: &mut W,
+    error: &mut E,
+) -> u8
+    ensures { RunsWords (option_map (λ t. t.now) program.entry) (option_map (λ t. t.now) query.entry) budget (O.bytes_of files.now) (R.remaining input.old) (told (W.contents output.old) (W.contents output.new) (E.contents error.old) (E.contents error.new) result) }
+{
+    match (program, query) {
+        (None, _) => run_input(alloc, budget, input, output, error),
+        (Some(_), None) => {
+            say(error, "chr: QUERY is missing\n");
+            REFUSED
+        }
+        (Some(path), Some(query)) => run_file(alloc, files, path, query, budget, output, error),
+    }
+}
+
+/// Writes a text.
+fn show<W: Write, E: Write>(alloc: Global, text: &str, output: &mut W, error: &mut E) -> u8
+    ensures { Shows text.now (told (W.contents output.old) (W.contents output.new) (E.contents error.old) (E.contents error.new) result) }
+{
+    match write_bytes(output, text.as_bytes()) {
+        Ok(()) => 0,
+        Err(_) => {
+            say_refusal(alloc, error, TextError::Write);
+            REFUSED
+        }
+    }
+}
+
+/// What the program `chr` does with the words behind its name: PROGRAM, the path of a file, then QUERY, the text of a query, and
+/// `--budget N`. With neither PROGRAM nor QUERY the first line of the input is the query, and the rest is the program. The text of the run
+/// goes out, of 100,000 transitions where there is no N, or that of `--help`. The answer is the exit status: 0 done, 2 refused, 3 failed,
+/// 4 a fault, 5 the budget used up. Where it is 2, a line on `error` says why.
+pub fn command<O: Opens, R: Read, W: Write, E: Write>(
+    alloc: Global,
+    words: &[String],
+    files: &O,
+    input: &mut R,
+    output: &mut W,
+    error: &mut E,
+) -> u8
+    ensures { IsCommand (map string_bytes words.now) (O.bytes_of files.now) (R.remaining input.old) (told (W.contents output.old) (W.contents output.new) (E.contents error.old) (E.contents error.new) result) }
+{
+    match asked(alloc, words) {
+        Ok(
+            Request::Run {
+                program,
+                query,
+                budget,
+            },
+        ) => run_words(alloc, program, query, budget, files, input, output, error),
+        Ok(Request::Help(text)) => show(alloc, text.as_str(), output, error),
+        Ok(Request::Refused(text)) => {
+            say(error, text.as_str());
+            REFUSED
+        }
+        Err(_) => {
+            say_refusal(alloc, error, TextError::Run(RunError::Memory));
+            REFUSED
+        }
     }
 }

@@ -1,22 +1,25 @@
 //! Runs, and their texts.
-ghost use Rattle.std.specs.Prelude.{◌≡◌, ◌≤◌, IfErr, IfNone, IfOk, IfSome, OnOk, true};
+ghost use Rattle.std.specs.Prelude.{◌≡◌, ◌≤◌, IfErr, IfOk, OnOk, true};
+ghost use Rattle.chr_semantics.specs.Accepted.{IsAccepted, IsAcceptedProgram};
 ghost use Rattle.chr_semantics.specs.State.{start};
 ghost use Rattle.chr_semantics.specs.Step.{after};
 ghost use Rattle.chr_semantics.specs.Text.{text};
 ghost use Rattle.chr_machine.specs.Fragment.{is_thin_program, is_thin_query};
 ghost use Rattle.chr_machine.specs.Loaded.{names_of, rules_of};
-ghost use Rattle.chr_machine.specs.Rules.{query_view};
+ghost use Rattle.chr_rules.specs.Standing.{checked_view};
+ghost use Rattle.chr_rules.specs.View.{query_view};
 ghost use Rattle.chr_machine.specs.State.{status_view};
-ghost use Rattle.chr_run.specs.Run.{IsInto, RefusedRun, WithinLimits};
-ghost use Rattle.chr_run.specs.Texts.{IsAccepted, IsTextRun, NoneAccepted};
+ghost use Rattle.chr_run.specs.Run.{IsInto, PastLimits, WithinLimits};
+ghost use Rattle.chr_run.specs.Texts.{IsAcceptedQuery, IsProgramError, IsQueryError, IsTextError, IsTextRun, is_performed};
 
 use crate::outcome::text_of;
 use crate::output::write_bytes;
-use chr_machine::{Machine, Program, Query, Status, Stepped};
+use chr_machine::{Machine, Status, is_thin_program, is_thin_query};
+use chr_read::{ReadError, read_program, read_query};
+use chr_rules::{Program, Query, RuleError};
 use chr_term::Memory;
 use std::alloc::{AllocError, Allocator};
 use std::io::Write;
-use thin_reader::{Texts, read};
 
 /// Why a run was refused.
 #[derive(Clone, Copy, PartialEq, Eq, Debug, Drop)]
@@ -32,8 +35,17 @@ pub enum RunError {
 /// Why the text of a run did not go out whole.
 #[derive(Clone, Copy, PartialEq, Eq, Debug, Drop)]
 pub enum TextError {
+    /// The run is refused.
     Run(RunError),
-    /// A text is not thin, or is not accepted, or its transitions are not there yet.
+    /// The text of the program is not read.
+    Program(ReadError),
+    /// There is a mistake in the program.
+    Rules(RuleError),
+    /// The text of the query is not read.
+    Query(ReadError),
+    /// There is a mistake in the query.
+    Goals(RuleError),
+    /// The texts are accepted, but some of their transitions are not there yet.
     NotYet,
     /// The writer failed, or took no byte of some that were left.
     Write,
@@ -64,7 +76,7 @@ fn text_after<A: Allocator + Copy>(
 /// Whether a run may have this budget and these workers.
 fn check_limits(n: u64, workers: u32) -> Result<(), RunError>
     ensures ok { OnOk result (WithinLimits n workers) }
-    ensures err { IfErr result (λ e. RefusedRun n workers e) }
+    ensures err { IfErr result (λ e. PastLimits n workers e) }
 {
     if n > LIMIT {
         return Err(RunError::BudgetTooLarge);
@@ -101,26 +113,77 @@ pub fn run_into<A: Allocator + Copy, W: Write>(
     }
 }
 
-/// What a program and a query are read as, or none where the machine does not perform it today.
+/// A program, and a query over it.
+#[derive(Drop)]
+struct Texts<A: Allocator> {
+    program: Program<A>,
+    query: Query<A>,
+}
+
+/// The program of a text.
+fn accepted_program<A: Allocator + Copy>(alloc: A, text: &[u8]) -> Result<Program<A>, TextError>
+    ensures ok { IfOk result (λ program. IsAcceptedProgram text.now (checked_view program)) }
+    ensures err { IfErr result (IsProgramError text.now) }
+{
+    let syntax = match read_program(alloc, text) {
+        Ok(syntax) => syntax,
+        Err(error) => return Err(TextError::Program(error)),
+    };
+    match Program::build(alloc, syntax) {
+        Ok(program) => Ok(program),
+        Err(error) => Err(TextError::Rules(error)),
+    }
+}
+
+/// The query of a text, over the program.
+fn accepted_query<A: Allocator + Copy>(
+    alloc: A,
+    program: &mut Program<A>,
+    text: &[u8],
+) -> Result<Query<A>, TextError>
+    ensures ok { IfOk result (λ query. IsAcceptedQuery (checked_view program.old) text.now (names_of program.new) (query_view query)) }
+    ensures rules { rules_of program.new ≡ rules_of program.old }
+    ensures err { IfErr result (IsQueryError (checked_view program.old) text.now) }
+{
+    let syntax = match read_query(alloc, text) {
+        Ok(syntax) => syntax,
+        Err(error) => return Err(TextError::Query(error)),
+    };
+    match program.goals_of_query(syntax) {
+        Ok(query) => Ok(query),
+        Err(error) => Err(TextError::Goals(error)),
+    }
+}
+
+/// The program and the query of two texts.
 fn accepted<A: Allocator + Copy>(
     alloc: A,
     program: &[u8],
     query: &[u8],
-) -> Result<Option<Texts<A>>, Memory>
-    ensures some { IfOk result (λ read. IfSome read (λ t. IsAccepted program.now query.now (names_of t.program) (rules_of t.program) (query_view t.query))) }
-    ensures none { IfOk result (λ read. IfNone read (NoneAccepted program.now query.now)) }
+) -> Result<Texts<A>, TextError>
+    ensures ok { IfOk result (λ t. IsAccepted program.now query.now (names_of t.program) (rules_of t.program) (query_view t.query)) }
+    ensures err { IfErr result (IsTextError program.now query.now) }
 {
-    let Some(texts) = read(alloc, program, query)? else {
-        return Ok(None);
+    let mut program = match accepted_program(alloc, program) {
+        Ok(program) => program,
+        Err(error) => return Err(error),
     };
-    if !(texts.program.is_thin() && texts.query.is_thin()) {
-        return Ok(None);
+    match accepted_query(alloc, &mut program, query) {
+        Ok(query) => Ok(Texts { program, query }),
+        Err(error) => Err(error),
     }
-    Ok(Some(texts))
+}
+
+/// Whether the machine performs them today.
+fn is_performed<A: Allocator>(program: &Program<A>, query: &Query<A>) -> bool
+    ensures { result ≡ is_performed (rules_of program.now) (query_view query.now) }
+{
+    is_thin_program(program) && is_thin_query(query)
 }
 
 /// Reads a program and a query, runs the first n transitions and writes the text of the run. The limits are looked at first, then the
-/// texts. After Write what went out is a first part of that text; after another refusal, want of memory too, nothing went out.
+/// program, then the query. After Write what went out is a first part of that text; after another refusal, want of memory too, nothing
+/// went out.
 pub fn run_text<A: Allocator + Copy, W: Write>(
     alloc: A,
     program: &[u8],
@@ -134,12 +197,13 @@ pub fn run_text<A: Allocator + Copy, W: Write>(
     if let Err(error) = check_limits(n, workers) {
         return Err(TextError::Run(error));
     }
-    match accepted(alloc, program, query) {
-        Ok(Some(texts)) => {
-            let query = texts.query;
-            run_into(alloc, &texts.program, query, n, workers, writer)
-        }
-        Ok(None) => Err(TextError::NotYet),
-        Err(AllocError) => Err(TextError::Run(RunError::Memory)),
+    let texts = match accepted(alloc, program, query) {
+        Ok(texts) => texts,
+        Err(error) => return Err(error),
+    };
+    if !is_performed(&texts.program, &texts.query) {
+        return Err(TextError::NotYet);
     }
+    let query = texts.query;
+    run_into(alloc, &texts.program, query, n, workers, writer)
 }

@@ -16,6 +16,7 @@ pub mod Grammar
 pub mod Reading
 pub mod Meaning
 pub mod Checked
+pub mod Accepted
 pub mod Print
 pub mod Text
 pub mod Touch

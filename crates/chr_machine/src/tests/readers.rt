@@ -2,164 +2,43 @@
 use super::*;
 use std::alloc::Global;
 
-/// A rule of heads `p(t)`, of these terms, with nothing to do.
-fn over(alloc: Global, kept: usize, terms: Vec<Term>) -> Result<Rule, Memory> {
-    let mut heads = Vec::new(alloc);
-    for term in terms {
-        heads.push((P, one(alloc, term)?))?;
-    }
-    Ok(Rule {
-        label: String::from_str(alloc, "r")?,
-        kept,
-        heads,
-        passive: Vec::new(alloc),
-        body: Vec::new(alloc),
-        vars: 0,
-    })
-}
-
-/// `p(0) <=> true. p(X) \ p(Y) <=> true.`, where the kept head may be passive.
-fn two_rules(alloc: Global, rt: &impl Abort, passive: bool) -> Result<Program, Memory> {
-    let first = over(alloc, 0, vec![in alloc; Term::Int(0)]?)?;
-    let mut second = over(alloc, 1, vec![in alloc; Term::Var(0), Term::Var(1)]?)?;
-    second.vars = 2;
-    second.passive.push(passive)?;
-    program_of(alloc, rt, vec![in alloc; first, second]?)
-}
-
-fn assert_place<A: Allocator>(
-    rt: &impl Abort,
-    program: &Program<A>,
-    number: u32,
-    wanted: Option<(usize, usize)>,
-) {
-    let found = match program.occurrence(P, number) {
-        Some(found) => Some((found.rule, found.place)),
-        None => None,
-    };
-    assert_eq!(rt; found, wanted, "occurrence {number}");
-}
-
-fn assert_places<A: Allocator>(
-    rt: &impl Abort,
-    program: &Program<A>,
-    sym: Sym,
-    wanted: &[(usize, usize)],
-) {
-    let places = program.occurrences(sym);
-    assert_eq!(rt; places.len(), wanted.len());
-    for k in 0..wanted.len() {
-        let (rule, place) = wanted[k];
-        assert!(rt; places[k] == Occurrence { rule, place }, "occurrence {k}");
-    }
-}
-
-/// The numbers of the occurrences in the worked text of `gcd`.
-#[test]
-fn occurrences_in_order(rt: HostRuntime) -> Result<(), Fail> {
-    let program = two_rules(rt.alloc(), &rt, false)?;
-    assert_places(&rt, &program, P, &[(0, 0), (1, 1), (1, 0)]);
-    assert_place(&rt, &program, 0, None);
-    assert_place(&rt, &program, 2, Some((1, 1)));
-    assert_place(&rt, &program, 4, None);
-    Ok(())
-}
-
-/// A passive head has none, as in `passive_duplicate`.
-#[test]
-fn passive_heads(rt: HostRuntime) -> Result<(), Fail> {
-    let program = two_rules(rt.alloc(), &rt, true)?;
-    assert_places(&rt, &program, P, &[(0, 0), (1, 1)]);
-    Ok(())
-}
-
-fn assert_names<A: Allocator>(rt: &impl Abort, program: &Program<A>) {
-    let names = program.names();
-    assert_eq!(rt; names.len(), 10);
-    assert_eq!(rt; names.find("q", 1), Some(Q));
-}
-
-fn assert_ground_rule<A: Allocator>(rt: &impl Abort, program: &Program<A>) {
-    assert_eq!(rt; program.rules(), 1);
-    let rule = program.rule(0);
-    assert!(rt; rule.label.as_str() == "r" && rule.kept == 0 && rule.vars == 0);
-    assert!(rt; rule.heads.len() == 1 && rule.body.len() == 1);
-}
-
-fn assert_ground_program<A: Allocator>(rt: &impl Abort, program: &Program<A>) {
-    assert_names(rt, program);
-    assert_ground_rule(rt, program);
-    assert_places(rt, program, P, &[(0, 0)]);
-    assert_places(rt, program, Q, &[]);
-    assert_places(rt, program, Sym(1000), &[]);
-}
-
-#[test]
-fn program_calls(rt: HostRuntime) -> Result<(), Fail> {
-    let program = ground_program(rt.alloc(), &rt)?;
-    assert_ground_program(&rt, &program);
-    let query = ground_query(rt.alloc())?;
-    let machine = started(rt.alloc(), &rt, &program, query)?;
-    assert_ground_program(&rt, machine.program());
-    Ok(())
-}
-
-/// Rules that are each outside the fragment in one way: a kept head, none, two, a variable in the head or the body, a built-in, and a
-/// variable that stands nowhere.
-fn not_thin(alloc: Global) -> Result<Vec<Rule>, Memory> {
-    let mut rules = Vec::new(alloc);
-    rules.push(over(alloc, 1, vec![in alloc; Term::Int(1)]?)?)?;
-    rules.push(over(alloc, 0, Vec::new(alloc))?)?;
-    rules.push(over(alloc, 0, vec![in alloc; Term::Int(1), Term::Int(2)]?)?)?;
-    rules.push(over(alloc, 0, vec![in alloc; Term::Var(0)]?)?)?;
-    let goals = [
-        Goal::Chr(Q, one(alloc, Term::Var(0))?),
-        Goal::Told(Op::Equal, Term::Int(1), Term::Int(1)),
-        Goal::Fail,
-    ];
-    for goal in goals {
-        let mut rule = over(alloc, 0, vec![in alloc; Term::Int(1)]?)?;
-        rule.body.push(goal)?;
-        rules.push(rule)?;
-    }
-    let mut rule = over(alloc, 0, vec![in alloc; Term::Int(1)]?)?;
-    rule.vars = 1;
-    rules.push(rule)?;
-    Ok(rules)
-}
-
-fn is_thin(alloc: Global, rt: &impl Abort, rules: Vec<Rule>) -> Result<bool, Memory> {
-    let program = program_of(alloc, rt, rules)?;
-    Ok(program.is_thin())
-}
+/// Rules that are each outside the fragment in one way: a kept head, two heads, a variable in the head or the body, a guard, a built-in.
+const NOT_THIN: [&str; 7] = [
+    "p(1) ==> true.",
+    "p(1), p(2) <=> true.",
+    "p(X) <=> true.",
+    "p(1) <=> q(X).",
+    "p(1) <=> integer(1) | true.",
+    "p(1) <=> 1 = 1.",
+    "p(1) <=> fail.",
+];
 
 #[test]
 fn programs_that_are_not_thin(rt: HostRuntime) -> Result<(), Fail> {
     let alloc = rt.alloc();
-    for rule in not_thin(alloc)? {
-        let good = rule_of(alloc, "good", (P, 1), &[(Q, 2)])?;
-        assert!(&rt; !is_thin(alloc, &rt, vec![in alloc; good, rule]?)?);
+    for rule in NOT_THIN {
+        let text = format!(in alloc; "{GROUND_PROGRAM}{rule}")?;
+        assert!(&rt;
+            !is_thin_program(&program_of(alloc, &rt, text.as_str())),
+            "{rule}"
+        );
     }
-    assert!(&rt; is_thin(alloc, &rt, ground_rules(alloc)?)?);
-    assert!(&rt; is_thin(alloc, &rt, Vec::new(alloc))?);
+    assert!(&rt; is_thin_program(&program_of(alloc, &rt, GROUND_PROGRAM)));
+    assert!(&rt; is_thin_program(&program_of(alloc, &rt, "")));
     Ok(())
-}
-
-/// Whether the query of `p(1)` and the goal is thin.
-fn is_thin_with(alloc: Global, goal: Goal) -> Result<bool, Memory> {
-    let mut query = query_of(alloc, &[(P, 1)])?;
-    query.goals.push(goal)?;
-    Ok(query.is_thin())
 }
 
 #[test]
-fn queries(rt: HostRuntime) -> Result<(), Fail> {
-    let alloc = rt.alloc();
-    assert!(&rt; is_thin_with(alloc, Goal::Chr(Q, one(alloc, Term::Var(0))?))?);
-    assert!(&rt; !is_thin_with(alloc, Goal::Fail)?);
-    let told = Goal::Told(Op::Less, Term::Int(1), Term::Int(2));
-    assert!(&rt; !is_thin_with(alloc, told)?);
-    Ok(())
+fn queries(rt: HostRuntime) {
+    for (text, thin) in [
+        ("true.", true),
+        ("p(1), q(X).", true),
+        ("p(1), fail.", false),
+        ("p(1), 1 < 2.", false),
+    ] {
+        let (_, query) = both_of(rt.alloc(), &rt, NO_RULES, text);
+        assert_eq!(&rt; is_thin_query(&query), thin, "{text}");
+    }
 }
 
 fn add_to(alloc: Global, store: &mut Store, only: Term) -> Result<Id, Memory> {
@@ -247,44 +126,26 @@ fn is_active_first<A: Allocator>(stack: &[Elem<A>]) -> bool {
 
 #[test]
 fn the_top_is_last(rt: HostRuntime) -> Result<(), Fail> {
-    let program = ground_program(rt.alloc(), &rt)?;
-    let mut machine = started(rt.alloc(), &rt, &program, ground_query(rt.alloc())?)?;
+    let (program, query) = both_of(rt.alloc(), &rt, GROUND_PROGRAM, GROUND_QUERY);
+    let mut machine = started(rt.alloc(), &rt, &program, query)?;
     assert_eq!(&rt; step(&mut machine)?, Stepped::Moved);
     assert!(&rt; is_active_first(machine.stack()));
     Ok(())
 }
 
-/// `p(X)`.
-fn query_of_variable(alloc: Global) -> Result<Query, Memory> {
-    let mut names = Vec::new(alloc);
-    names.push(String::from_str(alloc, "X")?)?;
-    let mut goals = Vec::new(alloc);
-    goals.push(Goal::Chr(P, one(alloc, Term::Var(0))?))?;
-    Ok(Query {
-        goals,
-        var_names: VarNames::new(names),
-    })
-}
-
 /// The first lines of `waking_order`.
 #[test]
 fn variables_by_name(rt: HostRuntime) -> Result<(), Fail> {
-    let program = program_of(rt.alloc(), &rt, Vec::new(rt.alloc()))?;
-    let query = query_of_variable(rt.alloc())?;
+    let (program, query) = both_of(rt.alloc(), &rt, NO_RULES, "p(X).");
     let mut machine = started(rt.alloc(), &rt, &program, query)?;
     assert_eq!(&rt; run_alone(&mut machine, 100)?, Stepped::Ended);
     assert_eq!(&rt; machine.var_names().len(), 1);
+    assert_eq!(&rt; machine.program().rules(), 0);
     assert_lines(&rt, &machine, &["1 activate p(X)#1", "2 drop p(X)#1:1"]);
     Ok(())
 }
 
-/// `a @ p(2) <=> true. b @ p(1) <=> true.`
-fn second_fits(alloc: Global, rt: &impl Abort) -> Result<Program, Memory> {
-    let mut rules = Vec::new(alloc);
-    rules.push(rule_of(alloc, "a", (P, 2), &[])?)?;
-    rules.push(rule_of(alloc, "b", (P, 1), &[])?)?;
-    program_of(alloc, rt, rules)
-}
+const SECOND_FITS: &str = ":- chr_constraint p/1. a @ p(2) <=> true. b @ p(1) <=> true.";
 
 const SECOND_LINES: [&str; 3] = [
     "1 activate p(1)#1",
@@ -294,8 +155,7 @@ const SECOND_LINES: [&str; 3] = [
 
 #[test]
 fn the_second_rule_fires(rt: HostRuntime) -> Result<(), Fail> {
-    let program = second_fits(rt.alloc(), &rt)?;
-    let query = query_of(rt.alloc(), &[(P, 1)])?;
+    let (program, query) = both_of(rt.alloc(), &rt, SECOND_FITS, "p(1).");
     let mut machine = started(rt.alloc(), &rt, &program, query)?;
     assert_eq!(&rt; run_alone(&mut machine, 100)?, Stepped::Ended);
     assert_lines(&rt, &machine, &SECOND_LINES);

@@ -1,6 +1,5 @@
 //! Each growth of a call refused in turn: what stands after the refusal, and that the call then goes on.
 use super::*;
-use chr_term::{same, same_all};
 use refusing_alloc::Refusing;
 use std::alloc::Global;
 
@@ -9,28 +8,6 @@ const AMPLE: u64 = 1_000_000;
 
 /// More than a call that is refused in turn asks for.
 const MOST: u64 = 200;
-
-fn same_goal<A: Allocator, B: Allocator>(left: &Goal<A>, right: &Goal<B>) -> bool {
-    match (left, right) {
-        (Goal::Chr(f, xs), Goal::Chr(g, ys)) => f.0 == g.0
-            && same_all(xs.as_slice(), ys.as_slice()),
-        (Goal::Told(f, s, t), Goal::Told(g, u, v)) => *f == *g && same(s, u) && same(t, v),
-        (Goal::Fail, Goal::Fail) => true,
-        _ => false,
-    }
-}
-
-fn same_goals<A: Allocator, B: Allocator>(left: &[Goal<A>], right: &[Goal<B>]) -> bool {
-    if left.len() != right.len() {
-        return false;
-    }
-    for k in 0..left.len() {
-        if !same_goal(&left[k], &right[k]) {
-            return false;
-        }
-    }
-    true
-}
 
 /// On the stack, given identities and entries of the history, before the first transition of `ground_rule` and after each.
 const GROUND_SIZES: [(usize, usize, usize); 8] = [
@@ -69,79 +46,10 @@ fn steps_of<A: Allocator>(machine: &Machine<A>) -> usize {
     machine.steps() as usize
 }
 
-/// Whether `of_rules` goes through with so many growths.
-fn program_made(meter: &Refusing<Global>, rt: &impl Abort, left: u64) -> Result<bool, Memory> {
-    meter.allow(AMPLE);
-    let names = own_names(meter, rt)?;
-    let rules = ground_rules(meter)?;
-    assert!(rt; heads_fit(rules.as_slice()));
-    meter.allow(left);
-    match Program::of_rules(meter, names, rules) {
-        Ok(program) => {
-            assert_eq!(rt; program.occurrences(P).len(), 1);
-            Ok(true)
-        }
-        Err(_) => Ok(false),
-    }
-}
-
-#[test]
-fn of_rules_refused(rt: HostRuntime) -> Result<(), Fail> {
-    let meter = Refusing::new(rt.alloc(), 0);
-    let mut refused = 0;
-    for left in 0..MOST {
-        if program_made(&meter, &rt, left)? {
-            break;
-        }
-        refused = left + 1;
-    }
-    assert!(&rt; refused > 1 && refused < MOST, "{refused}");
-    Ok(())
-}
-
-/// A goal of each kind.
-fn each_goal<A: Allocator + Copy>(alloc: A) -> Result<Vec<Goal<A>, A>, Memory> {
-    let mut goals = goals_of(alloc, &[(P, 1), (Q, 2)])?;
-    let left = Term::Node(P, one(alloc, Term::Int(3))?);
-    let right = Term::Node(Q, one(alloc, Term::Var(0))?);
-    goals.push(Goal::Told(Op::Is, left, right))?;
-    goals.push(Goal::Fail)?;
-    Ok(goals)
-}
-
-/// Whether `copy_goals` goes through with so many growths.
-fn goals_copied(meter: &Refusing<Global>, rt: &impl Abort, left: u64) -> Result<bool, Memory> {
-    meter.allow(AMPLE);
-    let goals = each_goal(meter)?;
-    meter.allow(left);
-    match copy_goals(meter, goals.as_slice()) {
-        Ok(copied) => {
-            assert!(rt; same_goals(copied.as_slice(), goals.as_slice()));
-            Ok(true)
-        }
-        Err(_) => Ok(false),
-    }
-}
-
-#[test]
-fn copy_goals_refused(rt: HostRuntime) -> Result<(), Fail> {
-    let meter = Refusing::new(rt.alloc(), 0);
-    let mut refused = 0;
-    for left in 0..MOST {
-        if goals_copied(&meter, &rt, left)? {
-            break;
-        }
-        refused = left + 1;
-    }
-    assert!(&rt; refused > 4 && refused < MOST, "{refused}");
-    Ok(())
-}
-
 /// Whether `Machine::start` goes through with so many growths.
 fn machine_made(meter: &Refusing<Global>, rt: &impl Abort, left: u64) -> Result<bool, Memory> {
     meter.allow(AMPLE);
-    let program = ground_program(meter, rt)?;
-    let query = ground_query(meter)?;
+    let (program, query) = both_of(meter, rt, GROUND_PROGRAM, GROUND_QUERY);
     meter.allow(left);
     match started(meter, rt, &program, query) {
         Ok(machine) => {
@@ -203,8 +111,7 @@ fn step_made(
     left: u64,
 ) -> Result<bool, Memory> {
     meter.allow(AMPLE);
-    let program = ground_program(meter, rt)?;
-    let query = ground_query(meter)?;
+    let (program, query) = both_of(meter, rt, GROUND_PROGRAM, GROUND_QUERY);
     let mut machine = started(meter, rt, &program, query)?;
     is_stepped(meter, rt, &mut machine, done, left)
 }
@@ -244,8 +151,7 @@ fn is_run(
 /// The same with a new machine.
 fn run_made(meter: &Refusing<Global>, rt: &impl Abort, left: u64) -> Result<bool, Memory> {
     meter.allow(AMPLE);
-    let program = ground_program(meter, rt)?;
-    let query = ground_query(meter)?;
+    let (program, query) = both_of(meter, rt, GROUND_PROGRAM, GROUND_QUERY);
     let mut machine = started(meter, rt, &program, query)?;
     is_run(meter, rt, &mut machine, left)
 }

@@ -4,7 +4,7 @@ use Rattle.std.proofs.lemmas.Grind.{common_steps}
 use Rattle.chr_semantics.specs.Program.{Atom}
 use Rattle.chr_semantics.specs.Text.{known_text}
 use Rattle.chr_machine.specs.Loaded.{names_of}
-use Rattle.chr_machine.specs.Rules.{atom_view}
+use Rattle.chr_rules.specs.View.{atom_view}
 use Rattle.chr_machine.proofs.Resolved.{resolved_none}
 use Rattle.chr_machine.proofs.state.Execution.known_line.Goals as goal
 

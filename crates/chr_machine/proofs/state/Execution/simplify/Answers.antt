@@ -1,5 +1,5 @@
 use Rattle.std.proofs.Common.{◌∙◌, ap, map}
-use Rattle.chr_machine.specs.Rules.{atom_view, goal_view, rule_view}
+use Rattle.chr_rules.specs.View.{atom_view, goal_view, rule_view}
 use Rattle.chr_machine.proofs.Simplified.{simplified}
 use Rattle.chr_machine.proofs.state.Execution.simplify.Goals as goal
 

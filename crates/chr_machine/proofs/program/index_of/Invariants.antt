@@ -1,7 +1,0 @@
-use Rattle.std.proofs.Common.{take}
-use Rattle.chr_machine.specs.Index.{AreListed}
-use Rattle.chr_machine.specs.Rules.{rules_view}
-use Rattle.chr_machine.proofs.program.index_of.Given as goal
-
-abbrev pub invariant-loop-number : goal.invariant-loop-number
-invariant-loop-number g l = AreListed l.index.items (rules_view (take l.number l.rules))

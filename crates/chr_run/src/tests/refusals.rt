@@ -1,0 +1,81 @@
+//! Each growth of a run refused in turn.
+use super::*;
+use chr_machine::{is_thin_program, is_thin_query};
+use chr_read::{read_program, read_query};
+use chr_rules::Program;
+
+/// More growths than a run of these tests asks for.
+const MOST: u64 = 10_000;
+
+/// Where memory is wanted: by the program's text, its rules, the query's text, its goals, the run.
+fn place_of(error: TextError) -> Option<usize> {
+    let wants = [
+        TextError::Program(unread(ReadFault::Memory, 0, 0)),
+        TextError::Rules(mistaken(RuleFault::Memory, 0, 0)),
+        TextError::Query(unread(ReadFault::Memory, 0, 0)),
+        TextError::Goals(mistaken(RuleFault::Memory, 0, 0)),
+        TextError::Run(RunError::Memory),
+    ];
+    wants.iter().position(|want| *want == error)
+}
+
+/// Nothing goes out before the run has all its memory, and what comes first in the texts wants it first.
+#[test]
+fn want_of_memory(rt: HostRuntime) {
+    let meter = Refusing::new(rt.alloc(), 0);
+    let mut refused = [0u64; 5];
+    let mut sink = Sink::open(rt.alloc());
+    let mut last = 0;
+    for left in 0..MOST {
+        meter.allow(left);
+        let Err(error) = run_case(&meter, &GROUND_RULE, &mut sink) else {
+            break;
+        };
+        let Some(place) = place_of(error) else {
+            panic!(rt; "{left}");
+        };
+        assert!(rt; sink.text.is_empty(), "{left}");
+        assert!(rt; last <= place && place < 5, "{left}");
+        refused[place] = refused[place].saturating_add(1);
+        last = place;
+    }
+    for count in refused {
+        assert!(rt; count > 1 && count < MOST);
+    }
+    assert_eq!(rt; sink.text.as_slice(), GROUND_TEXT.as_bytes());
+}
+
+/// Runs by `run_into` what was read with all the memory that it wants.
+fn run_read(
+    meter: &Refusing<Global>,
+    rt: &impl Abort,
+    left: u64,
+    sink: &mut Sink,
+) -> Option<Result<Status, TextError>> {
+    meter.allow(u64::MAX);
+    let syntax = read_program(meter, GROUND_PROGRAM.as_bytes()).ok()?;
+    let mut program = Program::build(meter, syntax).ok()?;
+    let syntax = read_query(meter, GROUND_QUERY.as_bytes()).ok()?;
+    let query = program.goals_of_query(syntax).ok()?;
+    assert!(rt; is_thin_program(&program));
+    assert!(rt; is_thin_query(&query));
+    meter.allow(left);
+    Some(run_into(meter, &program, query, 100, 0, sink))
+}
+
+#[test]
+fn run_into_refused(rt: HostRuntime) {
+    let meter = Refusing::new(rt.alloc(), 0);
+    let mut refused = 0;
+    let mut sink = Sink::open(rt.alloc());
+    for left in 0..MOST {
+        let Some(Err(error)) = run_read(&meter, &rt, left, &mut sink) else {
+            break;
+        };
+        assert_eq!(rt; error, TextError::Run(RunError::Memory), "{left}");
+        assert!(rt; sink.text.is_empty(), "{left}");
+        refused = left + 1;
+    }
+    assert!(rt; refused > 10 && refused < MOST, "{refused}");
+    assert_eq!(rt; sink.text.as_slice(), GROUND_TEXT.as_bytes());
+}

@@ -1,0 +1,332 @@
+//! `command`: what its words, its files and its input ask for, its streams and its exit status.
+ghost use Rattle.std.specs.Prelude.{None};
+
+use super::*;
+use chr_words::Opens;
+
+/// One file, `there`, that is read by so many calls, each of at most `step` bytes.
+#[derive(Drop)]
+pub struct Files<'t> {
+    pub text: &'t [u8],
+    pub step: usize,
+    pub calls: u64,
+}
+
+impl<'t> Opens for Files<'t> {
+    type File = Source<'t>;
+
+    ghost bytes_of = { λ _ _. None };
+
+    fn open(&self, path: &str) -> std::io::Result<Source<'t>> {
+        if path != "there" {
+            return Err(Error::from(ErrorKind::NotFound));
+        }
+        Ok(Source {
+            text: self.text,
+            step: self.step,
+            calls: self.calls,
+        })
+    }
+}
+
+/// What `chr` answers and writes.
+#[derive(Drop)]
+pub struct Answer {
+    pub status: u8,
+    pub output: Vec<u8>,
+    pub error: Vec<u8>,
+}
+
+fn owned(alloc: Global, words: &[&str]) -> Result<Vec<String>, Memory> {
+    let mut all = Vec::new(alloc);
+    for word in words {
+        all.push(String::from_str(alloc, *word)?)?;
+    }
+    Ok(all)
+}
+
+/// What it answers to words and an input.
+fn answer_of(
+    alloc: Global,
+    words: &[&str],
+    files: &Files,
+    input: &mut impl Read,
+) -> Result<Answer, Memory> {
+    let words = owned(alloc, words)?;
+    let mut output = Sink::open(alloc);
+    let mut error = Sink::open(alloc);
+    let status = command(
+        alloc,
+        words.as_slice(),
+        files,
+        input,
+        &mut output,
+        &mut error,
+    );
+    Ok(Answer {
+        status,
+        output: output.text,
+        error: error.text,
+    })
+}
+
+/// What it answers to words where the file has this text, and the input none.
+pub fn answer_to_file(alloc: Global, words: &[&str], text: &[u8]) -> Result<Answer, Memory> {
+    let files = Files {
+        text,
+        step: usize::MAX,
+        calls: u64::MAX,
+    };
+    answer_of(alloc, words, &files, &mut Endless)
+}
+
+/// What it answers with no words to an input that is read so.
+pub fn answer_to_input(alloc: Global, source: &mut Source) -> Result<Answer, Memory> {
+    let files = Files {
+        text: &[],
+        step: 0,
+        calls: 0,
+    };
+    answer_of(alloc, &[], &files, source)
+}
+
+/// The whole text in one call.
+pub fn whole(text: &[u8]) -> Source<'_> {
+    Source {
+        text,
+        step: usize::MAX,
+        calls: u64::MAX,
+    }
+}
+
+pub fn assert_runs(rt: &impl Abort, answer: &Answer, status: u8, text: &str) {
+    assert_eq!(rt; answer.status, status);
+    assert_eq!(rt; answer.output.as_slice(), text.as_bytes());
+    assert!(rt; answer.error.is_empty());
+}
+
+/// It refuses with this line, and nothing goes out.
+pub fn assert_refuses(rt: &impl Abort, answer: &Answer, line: &str) {
+    assert_eq!(rt; answer.error.as_slice(), line.as_bytes());
+    assert_eq!(rt; answer.status, 2);
+    assert!(rt; answer.output.is_empty());
+}
+
+const NOTHING_TEXT: &str = "end done\nstack 0\nstore 0\nbindings 0\nhistory 0\n";
+
+const GROUND_INPUT: &str = "p(1), p(2).\n:- chr_constraint p/1, q/1.\nr @ p(1) <=> q(2).\n";
+
+/// `ground_rule` and `nothing_to_do`, read a byte at a time, a few bytes, and at once.
+#[test]
+fn runs_of_the_input(rt: HostRuntime) -> Result<(), Fail> {
+    for (input, text) in [
+        (GROUND_INPUT, GROUND_TEXT),
+        ("true.\n", NOTHING_TEXT),
+        ("true.", NOTHING_TEXT),
+    ] {
+        for step in [1, 7, usize::MAX] {
+            let mut source = Source {
+                text: input.as_bytes(),
+                step,
+                calls: u64::MAX,
+            };
+            let answer = answer_to_input(rt.alloc(), &mut source)?;
+            assert_runs(&rt, &answer, 0, text);
+        }
+    }
+    Ok(())
+}
+
+/// The same from a file. The input is not read.
+#[test]
+fn runs_of_a_file(rt: HostRuntime) -> Result<(), Fail> {
+    for (program, query, text) in [
+        (GROUND_PROGRAM, GROUND_QUERY, GROUND_TEXT),
+        ("", "true.", NOTHING_TEXT),
+    ] {
+        for step in [1, 7, usize::MAX] {
+            let files = Files {
+                text: program.as_bytes(),
+                step,
+                calls: u64::MAX,
+            };
+            let answer = answer_of(rt.alloc(), &["there", query], &files, &mut Endless)?;
+            assert_runs(&rt, &answer, 0, text);
+        }
+    }
+    Ok(())
+}
+
+const ONE_TEXT: &str =
+    "1 activate p(1)#1\nend budget\nstack 2\np(1)#1:1\np(2)\nstore 1\np(1)#1\nbindings 0\nhistory 0\n";
+
+/// The budget may stand anywhere, and in a run of the input too.
+#[test]
+fn a_budget(rt: HostRuntime) -> Result<(), Fail> {
+    let file = GROUND_PROGRAM.as_bytes();
+    for words in [
+        ["--budget", "1", "there", GROUND_QUERY],
+        ["there", "--budget", "1", GROUND_QUERY],
+        ["there", GROUND_QUERY, "--budget", "1"],
+    ] {
+        let answer = answer_to_file(rt.alloc(), &words, file)?;
+        assert_runs(&rt, &answer, 5, ONE_TEXT);
+    }
+    let files = Files {
+        text: &[],
+        step: 0,
+        calls: 0,
+    };
+    let mut input = whole(GROUND_INPUT.as_bytes());
+    let answer = answer_of(rt.alloc(), &["--budget=1"], &files, &mut input)?;
+    assert_runs(&rt, &answer, 5, ONE_TEXT);
+    let greatest = ["there", GROUND_QUERY, "--budget=1000000"];
+    let answer = answer_to_file(rt.alloc(), &greatest, file)?;
+    assert_runs(&rt, &answer, 0, GROUND_TEXT);
+    Ok(())
+}
+
+/// `p.` with no transition, as in `nothing_to_do`.
+#[test]
+fn no_budget(rt: HostRuntime) -> Result<(), Fail> {
+    let program = b":- chr_constraint p/0.".as_slice();
+    let answer = answer_to_file(rt.alloc(), &["--budget=0", "there", "p."], program)?;
+    let text = "end budget\nstack 1\np\nstore 0\nbindings 0\nhistory 0\n";
+    assert_runs(&rt, &answer, 5, text);
+    Ok(())
+}
+
+/// With no `--budget` it is 100,000.
+#[test]
+fn the_budget_is_used_up(rt: HostRuntime) -> Result<(), Fail> {
+    let program = b":- chr_constraint p/0.\np <=> p.\n".as_slice();
+    let answer = answer_to_file(rt.alloc(), &["there", "p."], program)?;
+    assert_eq!(rt; answer.status, 5);
+    assert!(rt; answer.error.is_empty());
+    let output = answer.output.as_slice();
+    let start = "1 activate p#1\n2 simplify p#1:1 #1 1\n3 activate p#2\n";
+    assert!(rt; output.starts_with(start.as_bytes()));
+    assert!(rt; output.ends_with(b"#1 49999\n#1 50000\n".as_slice()));
+    // The lines of the trace and of the history, and `end`, `stack` with `p`, `store`, `bindings` and `history`.
+    let lines = output.iter().filter(|c| **c == b'\n').count();
+    assert_eq!(rt; lines, 150_006);
+    Ok(())
+}
+
+/// An input that fails before its end, at each place, is not read.
+#[test]
+fn inputs_that_fail(rt: HostRuntime) -> Result<(), Fail> {
+    for calls in 0..=GROUND_INPUT.len() {
+        let mut source = Source {
+            text: GROUND_INPUT.as_bytes(),
+            step: 1,
+            calls: calls as u64,
+        };
+        let answer = answer_to_input(rt.alloc(), &mut source)?;
+        assert_refuses(&rt, &answer, "chr: cannot read\n");
+    }
+    Ok(())
+}
+
+/// Neither is a file, nor one that is not there.
+#[test]
+fn files_that_fail(rt: HostRuntime) -> Result<(), Fail> {
+    for calls in 0..=GROUND_PROGRAM.len() {
+        let files = Files {
+            text: GROUND_PROGRAM.as_bytes(),
+            step: 1,
+            calls: calls as u64,
+        };
+        let answer = answer_of(rt.alloc(), &["there", GROUND_QUERY], &files, &mut Endless)?;
+        assert_refuses(&rt, &answer, "chr: cannot read there\n");
+    }
+    let answer = answer_to_file(rt.alloc(), &["else/where", "true."], b"".as_slice())?;
+    assert_refuses(&rt, &answer, "chr: cannot read else/where\n");
+    Ok(())
+}
+
+/// An input that has no end is not read either.
+#[test]
+fn an_endless_input(rt: HostRuntime) -> Result<(), Fail> {
+    let files = Files {
+        text: &[],
+        step: 0,
+        calls: 0,
+    };
+    let answer = answer_of(rt.alloc(), &[], &files, &mut Endless)?;
+    assert_refuses(&rt, &answer, "chr: cannot read\n");
+    Ok(())
+}
+
+const HELP: &str = "Runs a query over a program of Constraint Handling Rules
+
+Usage: chr [OPTIONS] [PROGRAM] [QUERY]
+
+Arguments:
+  [PROGRAM]  The file of the program
+  [QUERY]    The text of the query
+
+Options:
+      --budget <N>  The greatest number of transitions, 100000 where not given
+  -h, --help        Print help
+";
+
+#[test]
+fn help(rt: HostRuntime) -> Result<(), Fail> {
+    for words in [["--help"], ["-h"]] {
+        let answer = answer_to_file(rt.alloc(), &words, b"".as_slice())?;
+        assert_runs(&rt, &answer, 0, HELP);
+    }
+    Ok(())
+}
+
+/// The words are looked at before anything is read.
+#[test]
+fn words_that_are_refused(rt: HostRuntime) -> Result<(), Fail> {
+    let answer = answer_to_file(rt.alloc(), &["else/where"], b"".as_slice())?;
+    assert_refuses(&rt, &answer, "chr: QUERY is missing\n");
+    let answer = answer_to_file(rt.alloc(), &["else/where", "--budget=x"], b"".as_slice())?;
+    let line =
+        "error: invalid value 'x' for '--budget <N>': invalid digit found in string\n\nFor more information, try '--help'.\n";
+    assert_refuses(&rt, &answer, line);
+    let answer = answer_to_file(rt.alloc(), &["--totals"], b"".as_slice())?;
+    let line =
+        "error: unexpected argument '--totals' found\n\n  tip: to pass '--totals' as a value, use '-- --totals'\n\nUsage: chr [OPTIONS] [PROGRAM] [QUERY]\n\nFor more information, try '--help'.\n";
+    assert_refuses(&rt, &answer, line);
+    Ok(())
+}
+
+/// A first part of the text goes out, and a failed write to the error output changes nothing.
+fn cannot_write(alloc: Global, rt: &impl Abort, words: &[&str], text: &str) -> Result<(), Fail> {
+    let words = owned(alloc, words)?;
+    let files = Files {
+        text: GROUND_PROGRAM.as_bytes(),
+        step: usize::MAX,
+        calls: u64::MAX,
+    };
+    let line = "chr: cannot write\n";
+    for calls in [u64::MAX, 4, 0] {
+        let mut output = Sink::new(alloc, 20, 3);
+        let mut error = Sink::new(alloc, 1, calls);
+        let status = command(
+            alloc,
+            words.as_slice(),
+            &files,
+            &mut Endless,
+            &mut output,
+            &mut error,
+        );
+        assert_eq!(rt; status, 2);
+        assert_eq!(rt; output.text.len(), 60);
+        assert!(rt; text.as_bytes().starts_with(output.text.as_slice()));
+        assert_eq!(rt; error.text.len(), line.len().min(calls as usize));
+        assert!(rt; line.as_bytes().starts_with(error.text.as_slice()));
+    }
+    Ok(())
+}
+
+#[test]
+fn outputs_that_fail(rt: HostRuntime) -> Result<(), Fail> {
+    cannot_write(rt.alloc(), &rt, &["there", GROUND_QUERY], GROUND_TEXT)?;
+    cannot_write(rt.alloc(), &rt, &["--help"], HELP)
+}

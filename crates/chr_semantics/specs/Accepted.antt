@@ -1,0 +1,23 @@
+-- Which texts are accepted, and what they stand for.
+use Rattle.std.specs.Prelude.{◌≡◌, ℕ, List, Ok}
+use Rattle.chr_semantics.specs.Names.{Names}
+use Rattle.chr_semantics.specs.Program as semantics
+use Rattle.chr_semantics.specs.Syntax as syntax
+use Rattle.chr_semantics.specs.Grammar.{IsProgram, IsQuery}
+use Rattle.chr_semantics.specs.Reading.{IsRead}
+use Rattle.chr_semantics.specs.Checked.{Checked, checked, checked_query}
+
+-- the text spells a program with no mistake, which is this one
+pub record IsAcceptedProgram (text : List ℕ) (c : Checked) : Type 0 where
+  pub spelled : syntax.Program
+  pub read : IsRead IsProgram text spelled
+  pub is_checked : checked spelled ≡ Ok c
+
+-- and the other spells a query over it with no mistake, which is this one; the names are those of both
+pub record IsAccepted (program query : List ℕ) (names : Names) (rules : semantics.Program) (q : semantics.Query) : Type 0 where
+  pub of : Checked
+  pub is_program : IsAcceptedProgram program of
+  pub spelled : syntax.Query
+  pub read : IsRead IsQuery query spelled
+  pub is_checked : checked_query of spelled ≡ Ok (names, q)
+  pub rules_are : of.rules ≡ rules

@@ -1,9 +1,0 @@
-pub mod Syntax
-pub mod Views
-pub mod Machine
-pub mod States
-pub mod Checked
-pub mod Sizes
-pub mod Spelling
-pub mod Read
-pub mod Meant

@@ -1,4 +1,0 @@
--- The lemmas.
-pub mod Capped
-pub mod Comments
-pub mod Cuts

@@ -1,3 +1,0 @@
--- What the contracts cite.
-pub mod Tokens
-pub mod View
