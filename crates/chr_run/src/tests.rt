@@ -296,7 +296,7 @@ fn texts_in_order(rt: HostRuntime) {
 
 /// The limits are looked at before the texts, the budget first.
 #[test]
-fn limits(rt: HostRuntime) {
+fn limits_and_workers(rt: HostRuntime) {
     for (program, query) in [(GROUND_PROGRAM, GROUND_QUERY), ("!", "!")] {
         for (budget, workers, error) in [
             (1_000_001, 0, RunError::BudgetTooLarge),

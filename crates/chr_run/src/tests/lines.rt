@@ -73,6 +73,20 @@ fn read_errors(rt: HostRuntime) -> Result<(), Fail> {
     bytes_refused(rt.alloc(), &rt, deep.as_slice(), line)
 }
 
+/// 256 brackets may be open, as the second part of `read_errors` has it.
+#[test]
+fn as_deep_as_may_be(rt: HostRuntime) -> Result<(), Fail> {
+    let mut input = times(rt.alloc(), "t(", 256)?;
+    input.extend_from_slice(b"a".as_slice())?;
+    input.extend_from_slice(times(rt.alloc(), ")", 256)?.as_slice())?;
+    input.extend_from_slice(b".\n".as_slice())?;
+    input.extend_from_slice(DECLARED.as_bytes())?;
+    let answer = answer_to_input(rt.alloc(), &mut whole(input.as_slice()))?;
+    assert_eq!(rt; answer.status, 0);
+    assert!(rt; answer.error.is_empty());
+    Ok(())
+}
+
 #[test]
 fn program_read_errors(rt: HostRuntime) -> Result<(), Fail> {
     for (program, line) in [
@@ -151,6 +165,9 @@ fn rule_errors(rt: HostRuntime) -> Result<(), Fail> {
 
 #[test]
 fn rule_limits(rt: HostRuntime) -> Result<(), Fail> {
+    let wide = b":- chr_constraint p/17.".as_slice();
+    let line = "chr: program line 1 rule 0: ArityTooLarge\n";
+    program_refused(rt.alloc(), &rt, wide, line)?;
     let mut rules = times(rt.alloc(), ":- chr_constraint p/0.\n", 1)?;
     rules.extend_from_slice(times(rt.alloc(), "p <=> true.\n", 1_025)?.as_slice())?;
     let line = "chr: program line 1026 rule 1025: TooManyRules\n";
