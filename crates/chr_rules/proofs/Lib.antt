@@ -11,3 +11,4 @@ pub mod Mistakes
 pub mod Ruled
 pub mod Placed
 pub mod Few
+pub mod Grown

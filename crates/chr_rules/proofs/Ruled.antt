@@ -1,16 +1,23 @@
 -- What is wrong with a rule, and what it stands for, part by part.
-use Rattle.std.proofs.Common.{◌≡◌, ◌∙◌, ◌<◌, ◌≤◌, ◌++◌, ℕ, List, [], ◌∷◌, Bool, if◌then◌else◌, Some, None, length, nat_lt, ap, sym, option_map}
+use Rattle.std.proofs.Common.{◌≡◌, ◌∙◌, ◌<◌, ◌≤◌, ◌++◌, ℕ, List, [], ◌∷◌, Bool, if◌then◌else◌, Option, Some, None, Result, length, nat_lt, ap, refl, sym, option_map}
+use Rattle.std.specs.Prelude.{IfErr}
+use Rattle.std.specs.Result.{IsErrAnd}
 use Rattle.chr_semantics.specs.Names.{Names}
 use Rattle.chr_semantics.specs.Program as semantics
 use Rattle.chr_semantics.specs.Program.{Goal, Head, Program, Test}
 use Rattle.chr_semantics.specs.Syntax as syntax
 use Rattle.chr_semantics.specs.Meaning.{Scope, all_heads, fresh, goal_from, head_from, in_turn, kept_count, label_of, rule_from, test_from}
 use Rattle.chr_semantics.specs.Checked.{Mistake, first_of, mistake_in_rule, too_many_variables}
-use Rattle.chr_rules.specs.Checks.{fault_of, wrong_items, wrong_rule}
+use Rattle.chr_rules.specs.Checks.{IsFault, fault_of, wrong_items, wrong_rule}
 use Rattle.chr_rules.specs.declared.error.RuleFault.{RuleFault}
-use Rattle.chr_rules.specs.declared.error.RuleFault.TheVariants.{TooManyVariables}
+use Rattle.chr_rules.specs.declared.error.RuleFault.TheVariants.{Memory, TooManyVariables}
+use Rattle.chr_rules.proofs.Each.{err_answers}
 use Rattle.chr_rules.proofs.Mistakes.{fault_of_part, first_after, first_within, no_fault}
 use Rattle.chr_rules.proofs.Within.{more_than, not_more_than}
+
+-- want of memory is answered whatever is wrong with the rule
+pub memory_wanted : {T : Type 0} (r : Result T RuleFault) (m : Option Mistake) → IsErrAnd r (λ fault. fault ≡ Memory) → IfErr r (λ fault. IsFault fault m)
+memory_wanted r m h = err_answers r Memory (λ fault. IsFault fault m) h (λ n. absurd (n refl))
 
 -- the variables of the heads
 abbrev pub head_variables : Names → syntax.Rule → List (List ℕ)

@@ -8,3 +8,4 @@ pub mod Checks
 pub mod Building
 pub mod Standing
 pub mod Weight
+pub mod Grown

@@ -6,6 +6,7 @@ ghost use Rattle.chr_term.specs.View.{view};
 ghost use Rattle.chr_bind.specs.Guards.{test_view};
 ghost use Rattle.chr_tokens.specs.View.{relation_view};
 ghost use Rattle.chr_read.specs.View.{head_view as syntax_head, head_views, item_view, item_views, view as syntax_view, views};
+ghost use Rattle.chr_rules.specs.Grown.{Grows};
 ghost use Rattle.chr_rules.specs.Heads.{heads_of, IsFlagged};
 ghost use Rattle.chr_rules.specs.View.{atom_view, goal_view, goals_of, tests_of};
 
@@ -27,7 +28,8 @@ pub(crate) fn goals<'s, A: Allocator + Copy>(
     variables: &mut Variables<'s, A>,
     items: &'s [Item<A>],
 ) -> Result<Vec<Goal<A>, A>, Memory>
-    ensures { IfOk result (λ goals. (scope names.new variables.new, map goal_view goals.items) ≡ in_turn goal_from (scope names.old variables.old, []) (item_views items.now)) }
+    ensures goals { IfOk result (λ goals. (scope names.new variables.new, map goal_view goals.items) ≡ in_turn goal_from (scope names.old variables.old, []) (item_views items.now)) }
+    ensures grows { Grows names.old names.new }
 {
     let mut goals = Vec::new(alloc);
     for item in items {
@@ -44,7 +46,8 @@ fn add_goal<'s, A: Allocator + Copy>(
     goals: &mut Vec<Goal<A>, A>,
     item: &'s Item<A>,
 ) -> Result<(), Memory>
-    ensures { OnOk result ((scope names.new variables.new, map goal_view goals.new.items) ≡ with_turn goal_from (scope names.old variables.old, map goal_view goals.old.items) (item_view item.now)) }
+    ensures goal { OnOk result ((scope names.new variables.new, map goal_view goals.new.items) ≡ with_turn goal_from (scope names.old variables.old, map goal_view goals.old.items) (item_view item.now)) }
+    ensures grows { Grows names.old names.new }
 {
     if let Some(made) = goal(alloc, names, variables, item)? {
         goals.push(made)?;
@@ -59,7 +62,8 @@ fn goal<'s, A: Allocator + Copy>(
     variables: &mut Variables<'s, A>,
     item: &'s Item<A>,
 ) -> Result<Option<Goal<A>>, Memory>
-    ensures { IfOk result (λ goal. (scope names.new variables.new, goals_of goal) ≡ goal_from (scope names.old variables.old) (item_view item.now)) }
+    ensures goal { IfOk result (λ goal. (scope names.new variables.new, goals_of goal) ≡ goal_from (scope names.old variables.old) (item_view item.now)) }
+    ensures grows { Grows names.old names.new }
 {
     match item {
         Item::Related(relation, left, right) => {
@@ -81,7 +85,8 @@ fn called<'s, A: Allocator + Copy>(
     name: &str,
     args: &'s [Expr<A>],
 ) -> Result<Option<Goal<A>>, Memory>
-    ensures { IfOk result (λ goal. (scope names.new variables.new, goals_of goal) ≡ goal_of (scope names.old variables.old) name.now (exprs_of (views args.now))) }
+    ensures goal { IfOk result (λ goal. (scope names.new variables.new, goals_of goal) ≡ goal_of (scope names.old variables.old) name.now (exprs_of (views args.now))) }
+    ensures grows { Grows names.old names.new }
 {
     let arity = args.len();
     if is_test(name, arity) {
@@ -102,7 +107,8 @@ fn sides<'s, A: Allocator + Copy>(
     left: &'s Expr<A>,
     right: &'s Expr<A>,
 ) -> Result<(Term<A>, Term<A>), Memory>
-    ensures { IfOk result (λ sides. (scope names.new variables.new, (view sides.0, view sides.1)) ≡ sides_from (scope names.old variables.old) (syntax_view left.now) (syntax_view right.now)) }
+    ensures sides { IfOk result (λ sides. (scope names.new variables.new, (view sides.0, view sides.1)) ≡ sides_from (scope names.old variables.old) (syntax_view left.now) (syntax_view right.now)) }
+    ensures grows { Grows names.old names.new }
 {
     let left = tree(alloc, names, variables, left)?;
     let right = tree(alloc, names, variables, right)?;

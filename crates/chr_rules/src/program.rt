@@ -1,11 +1,13 @@
 //! Programs: their checks, their rules, and the occurrences of each symbol.
-ghost use Rattle.std.specs.Prelude.{◌≡◌, ◌<◌, ◌^◌, IfErr, IfOk, IfSome, Ok, OnSome, Some, length, option_map, slice_get};
+ghost use Rattle.std.specs.Prelude.{◌≡◌, ◌≢◌, ◌<◌, ◌^◌, IfErr, IfOk, IfSome, Ok, OnSome, Some, length, option_map, slice_get};
 ghost use Rattle.chr_semantics.specs.Checked.{checked, checked_query};
 ghost use Rattle.chr_semantics.specs.Program.{occurrence, occurrences};
 ghost use Rattle.chr_read.specs.View.{program_view, query_view as syntax_query};
 ghost use Rattle.chr_rules.specs.Checks.{IsError};
+ghost use Rattle.chr_rules.specs.Grown.{Grows};
 ghost use Rattle.chr_rules.specs.Index.{AreListed, head_count, pair_of, pair_view, pairs_of, pairs_view};
 ghost use Rattle.chr_rules.specs.View.{query_view, rule_view, rules_view};
+ghost use Rattle.chr_rules.specs.declared.error.RuleFault.TheVariants.{Memory as WantOfMemory};
 
 use crate::building::{declare_all, rules};
 use crate::error::RuleError;
@@ -53,12 +55,15 @@ impl<A: Allocator + Copy> Program<A> {
         })
     }
 
-    /// What a query over this program stands for, or what is wrong with it first. The names grow, also where memory is refused.
+    /// What a query over this program stands for, or what is wrong with it first. The names grow: new ones go behind those that were there.
+    /// Where the query has a mistake, the names are as before. Where memory is refused, some of the query's new names may stand behind already.
     pub fn goals_of_query(&mut self, syntax: QuerySyntax<A>) -> Result<Query<A>, RuleError>
         ensures accepted { IfOk result (λ query. checked_query (checked_view self.old) (syntax_query syntax) ≡ Ok ((checked_view self.new).names, query_view query)) }
         ensures refused { IfErr result (λ e. IsError e (checked_query (checked_view self.old) (syntax_query syntax))) }
         ensures declared { (checked_view self.new).declared ≡ (checked_view self.old).declared }
         ensures rules { (checked_view self.new).rules ≡ (checked_view self.old).rules }
+        ensures mistaken { IfErr result (λ e. e.kind ≢ WantOfMemory → (checked_view self.new).names ≡ (checked_view self.old).names) }
+        ensures grows { Grows (checked_view self.old).names (checked_view self.new).names }
     {
         query(self.alloc, &mut self.names, self.declared, &syntax)
     }

@@ -1,11 +1,13 @@
 //! Queries.
-ghost use Rattle.std.specs.Prelude.{◌≡◌, IfErr, IfOk, Ok, option_map};
+ghost use Rattle.std.specs.Prelude.{◌≡◌, ◌≢◌, IfErr, IfOk, Ok, option_map};
 ghost use Rattle.chr_semantics.specs.Checked.{checked_query, mistake_in_query, query_from};
 ghost use Rattle.chr_semantics.specs.Program.{Program};
 ghost use Rattle.chr_read.specs.View.{item_views, query_view as syntax_query};
 ghost use Rattle.chr_rules.specs.Building.{checked_of};
 ghost use Rattle.chr_rules.specs.Checks.{fault_of, IsError};
+ghost use Rattle.chr_rules.specs.Grown.{Grows};
 ghost use Rattle.chr_rules.specs.View.{query_view};
+ghost use Rattle.chr_rules.specs.declared.error.RuleFault.TheVariants.{Memory as WantOfMemory};
 
 use crate::building::error;
 use crate::checks::{Check, in_items};
@@ -18,6 +20,7 @@ use chr_term::{Memory, Names};
 use std::alloc::Allocator;
 
 /// A query over a program with these names, of which so many are the first seven or declared.
+/// The names grow, unless the query has a mistake, which is found before a name is added.
 pub(crate) fn query<A: Allocator + Copy>(
     alloc: A,
     names: &mut Names<A>,
@@ -26,6 +29,8 @@ pub(crate) fn query<A: Allocator + Copy>(
 ) -> Result<Query<A>, RuleError>
     ensures accepted { IfOk result (λ query. (rules : Program) → checked_query (checked_of names.old declared rules) (syntax_query syntax.now) ≡ Ok (names.new, query_view query)) }
     ensures refused { IfErr result (λ e. (rules : Program) → IsError e (checked_query (checked_of names.old declared rules) (syntax_query syntax.now))) }
+    ensures mistaken { IfErr result (λ e. e.kind ≢ WantOfMemory → names.new ≡ names.old) }
+    ensures grows { Grows names.old names.new }
 {
     let items = syntax.items.as_slice();
     if let Some(fault) = wrong_goals(names, declared, items) {
@@ -40,7 +45,8 @@ fn accepted<A: Allocator + Copy>(
     names: &mut Names<A>,
     items: &[Item<A>],
 ) -> Result<Query<A>, Memory>
-    ensures { IfOk result (λ query. query_from names.old (item_views items.now) ≡ (names.new, query_view query)) }
+    ensures query { IfOk result (λ query. query_from names.old (item_views items.now) ≡ (names.new, query_view query)) }
+    ensures grows { Grows names.old names.new }
 {
     let mut variables = Variables::new(alloc);
     let goals = goals(alloc, names, &mut variables, items)?;

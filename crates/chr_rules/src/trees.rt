@@ -6,6 +6,7 @@ ghost use Rattle.chr_semantics.specs.Syntax.{exprs_of, list as syntax_list, nil}
 ghost use Rattle.chr_term.specs.View.{view};
 ghost use Rattle.chr_read.specs.View.{additive_operands, multiplicative_operands, products, sums, view as syntax_view, views};
 ghost use Rattle.chr_tokens.specs.View.{additive_view, multiplicative_view};
+ghost use Rattle.chr_rules.specs.Grown.{Grows};
 ghost use Rattle.chr_rules.specs.View.{atom_view};
 ghost use Rattle.chr_rules.specs.Turns.{listed, tree_turn};
 
@@ -23,7 +24,8 @@ pub(crate) fn tree<'s, A: Allocator + Copy>(
     variables: &mut Variables<'s, A>,
     expr: &'s Expr<A>,
 ) -> Result<Term<A>, Memory>
-    ensures { IfOk result (λ tree. (scope names.new variables.new, view tree) ≡ tree_from (scope names.old variables.old) (syntax_view expr.now)) }
+    ensures tree { IfOk result (λ tree. (scope names.new variables.new, view tree) ≡ tree_from (scope names.old variables.old) (syntax_view expr.now)) }
+    ensures grows { Grows names.old names.new }
 {
     match expr {
         Expr::Variable(word) => Ok(Term::Var(variables.meet(word.as_str())?)),
@@ -52,7 +54,8 @@ pub(crate) fn atom<'s, A: Allocator + Copy>(
     name: &str,
     args: &'s [Expr<A>],
 ) -> Result<(Sym, Vec<Term<A>, A>), Memory>
-    ensures { IfOk result (λ atom. (scope names.new variables.new, atom_view atom.0 atom.1.items) ≡ atom_from (scope names.old variables.old) name.now (exprs_of (views args.now))) }
+    ensures atom { IfOk result (λ atom. (scope names.new variables.new, atom_view atom.0 atom.1.items) ≡ atom_from (scope names.old variables.old) name.now (exprs_of (views args.now))) }
+    ensures grows { Grows names.old names.new }
 {
     let sym = symbol(names, name, args.len())?;
     let args = trees(alloc, names, variables, args)?;
@@ -67,6 +70,7 @@ pub(crate) fn symbol<A: Allocator + Copy>(
 ) -> Result<Sym, Memory>
     ensures names { OnOk result (names.new ≡ with_symbol names.old name.now arity) }
     ensures symbol { IfOk result (λ sym. symbol_of names.new name.now arity ≡ Some sym.0) }
+    ensures grows { Grows names.old names.new }
 {
     if names.len() < 4_294_967_295 {
         names.intern(name, arity)
@@ -83,7 +87,8 @@ fn trees<'s, A: Allocator + Copy>(
     variables: &mut Variables<'s, A>,
     exprs: &'s [Expr<A>],
 ) -> Result<Vec<Term<A>, A>, Memory>
-    ensures { IfOk result (λ trees. (scope names.new variables.new, map view trees.items) ≡ in_turn tree_turn (scope names.old variables.old, []) (views exprs.now)) }
+    ensures trees { IfOk result (λ trees. (scope names.new variables.new, map view trees.items) ≡ in_turn tree_turn (scope names.old variables.old, []) (views exprs.now)) }
+    ensures grows { Grows names.old names.new }
 {
     let mut trees = Vec::with_capacity(alloc, exprs.len())?;
     for expr in exprs {
@@ -100,7 +105,8 @@ fn list<'s, A: Allocator + Copy>(
     variables: &mut Variables<'s, A>,
     items: &'s [Expr<A>],
 ) -> Result<Term<A>, Memory>
-    ensures { IfOk result (λ tree. (scope names.new variables.new, view tree) ≡ tree_from (scope names.old variables.old) (syntax_list (views items.now) nil)) }
+    ensures list { IfOk result (λ tree. (scope names.new variables.new, view tree) ≡ tree_from (scope names.old variables.old) (syntax_list (views items.now) nil)) }
+    ensures grows { Grows names.old names.new }
 {
     let trees = trees(alloc, names, variables, items)?;
     listed(alloc, trees, Term::Node(Sym::NIL, Vec::new(alloc)))
@@ -115,7 +121,8 @@ fn list_with_end<'s, A: Allocator + Copy>(
     items: &'s [Expr<A>],
     end: &'s Expr<A>,
 ) -> Result<Term<A>, Memory>
-    ensures { IfOk result (λ tree. (scope names.new variables.new, view tree) ≡ tree_from (scope names.old variables.old) (syntax_list (views items.now) (syntax_view end.now))) }
+    ensures list { IfOk result (λ tree. (scope names.new variables.new, view tree) ≡ tree_from (scope names.old variables.old) (syntax_list (views items.now) (syntax_view end.now))) }
+    ensures grows { Grows names.old names.new }
 {
     let trees = trees(alloc, names, variables, items)?;
     let last = tree(alloc, names, variables, end)?;
@@ -162,7 +169,8 @@ fn sum<'s, A: Allocator + Copy>(
     first: &'s Expr<A>,
     others: &'s [(Additive, Expr<A>)],
 ) -> Result<Term<A>, Memory>
-    ensures { IfOk result (λ tree. (scope names.new variables.new, view tree) ≡ tree_from (scope names.old variables.old) (sums (syntax_view first.now) (additive_operands others.now))) }
+    ensures sum { IfOk result (λ tree. (scope names.new variables.new, view tree) ≡ tree_from (scope names.old variables.old) (sums (syntax_view first.now) (additive_operands others.now))) }
+    ensures grows { Grows names.old names.new }
 {
     let mut whole = tree(alloc, names, variables, first)?;
     for other in others {
@@ -181,7 +189,8 @@ fn product<'s, A: Allocator + Copy>(
     first: &'s Expr<A>,
     others: &'s [(Multiplicative, Expr<A>)],
 ) -> Result<Term<A>, Memory>
-    ensures { IfOk result (λ tree. (scope names.new variables.new, view tree) ≡ tree_from (scope names.old variables.old) (products (syntax_view first.now) (multiplicative_operands others.now))) }
+    ensures product { IfOk result (λ tree. (scope names.new variables.new, view tree) ≡ tree_from (scope names.old variables.old) (products (syntax_view first.now) (multiplicative_operands others.now))) }
+    ensures grows { Grows names.old names.new }
 {
     let mut whole = tree(alloc, names, variables, first)?;
     for other in others {

@@ -8,4 +8,4 @@ pub returns-clause-accepted : goal.returns-clause-accepted
 returns-clause-accepted g c = λ rules.
     ap (λ is. unless (mistake_in_query c.args.names.now c.args.declared (item_views is)) c.args.syntax.now.line 0 (query_from c.args.names.now (item_views is))) (sym c.as_slice-items.ensures.value)
     ∙ ap (λ m. unless m c.args.syntax.now.line 0 (query_from c.args.names.now (item_views c.as_slice-items.result.now))) (no_fault _ c.in_default.ensures)
-    ∙ ap Ok c.in_ok-accepted.ensures
+    ∙ ap Ok c.in_ok-accepted.ensures.query

@@ -2,6 +2,7 @@ use Rattle.std.proofs.Common.{◌≡◌, ◌+◌, ◌*◌, [], drop, map}
 use Rattle.chr_semantics.specs.Meaning.{in_turn, scope}
 use Rattle.chr_term.specs.View.{view}
 use Rattle.chr_read.specs.View.{views}
+use Rattle.chr_rules.specs.Grown.{Grows}
 use Rattle.chr_rules.specs.Turns.{factors_from, summands_from, tree_turn}
 use Rattle.chr_rules.specs.Weight.{operand_weights, weight, weights}
 use Rattle.chr_rules.proofs.trees.+tree.Given as goal
@@ -28,13 +29,19 @@ abbrev pub decreases-product : goal.decreases-product
 decreases-product g l = 4 * operand_weights l.others.now + (4 * weight l.first.now + 2)
 
 abbrev pub invariant-trees-loop-expr : goal.invariant-trees-loop-expr
-invariant-trees-loop-expr g l =
-    in_turn tree_turn (scope l.initial.names l.initial.variables, []) (views l.exprs) ≡ in_turn tree_turn (scope l.names l.variables, map view l.trees.items) (views (drop l.expr-index l.exprs))
+invariant-trees-loop-expr g l = record {
+  same : in_turn tree_turn (scope l.initial.names l.initial.variables, []) (views l.exprs) ≡ in_turn tree_turn (scope l.names l.variables, map view l.trees.items) (views (drop l.expr-index l.exprs));
+  grows : Grows l.fn.names l.names;
+}
 
 abbrev pub invariant-sum-loop-other : goal.invariant-sum-loop-other
-invariant-sum-loop-other g l =
-    summands_from (scope l.initial.names l.initial.variables, view l.initial.whole) l.others ≡ summands_from (scope l.names l.variables, view l.whole) (drop l.other-index l.others)
+invariant-sum-loop-other g l = record {
+  same : summands_from (scope l.initial.names l.initial.variables, view l.initial.whole) l.others ≡ summands_from (scope l.names l.variables, view l.whole) (drop l.other-index l.others);
+  grows : Grows l.fn.names l.names;
+}
 
 abbrev pub invariant-product-loop-other : goal.invariant-product-loop-other
-invariant-product-loop-other g l =
-    factors_from (scope l.initial.names l.initial.variables, view l.initial.whole) l.others ≡ factors_from (scope l.names l.variables, view l.whole) (drop l.other-index l.others)
+invariant-product-loop-other g l = record {
+  same : factors_from (scope l.initial.names l.initial.variables, view l.initial.whole) l.others ≡ factors_from (scope l.names l.variables, view l.whole) (drop l.other-index l.others);
+  grows : Grows l.fn.names l.names;
+}

@@ -1,0 +1,8 @@
+-- Names that grow.
+use Rattle.std.specs.Prelude.{◌≡◌, ◌++◌}
+use Rattle.chr_semantics.specs.Names.{Names}
+
+-- the names with others behind
+pub record Grows (old new : Names) : Type 0 where
+  pub more : Names
+  pub is : new ≡ old ++ more
