@@ -6,37 +6,48 @@
 
 use chr_run::command;
 use chr_words::Disk;
+use std::io::{Error, ErrorKind};
 use std::process::ExitCode;
 use std::{env, io, thread};
 
 /// The bytes of stack of the thread that runs a program: a term may be nested as deep as its text is long, and a text has up to 2^20 bytes.
 const STACK: usize = 0x4000_0000;
 
-/// The exit status where there is no memory for that stack.
+/// The exit status where nothing is run.
 const REFUSED: u8 = 2;
 
+/// What is said where the words are no text, or where there is no memory for them or for the stack.
+fn line(error: &Error) -> &'static str {
+    match error.kind() {
+        ErrorKind::InvalidData => "error: invalid UTF-8 was detected in one or more arguments",
+        _ => "chr: Memory",
+    }
+}
+
 fn main(rt: HostRuntime) -> io::Result<ExitCode> {
-    let words: Vec<String> = env::args(&rt)?.skip(1).collect(rt.alloc())?;
     let rt = &rt;
-    let run = || {
-        command(
-            rt.alloc(),
-            words.as_slice(),
-            &Disk(rt),
-            &mut rt.stdin(),
-            &mut rt.stdout(),
-            &mut rt.stderr(),
-        )
+    let run = || -> io::Result<u8> {
+        let words: Vec<String> = env::args(rt)?.skip(1).collect(rt.alloc())?;
+        let run = || {
+            command(
+                rt.alloc(),
+                words.as_slice(),
+                &Disk(rt),
+                &mut rt.stdin(),
+                &mut rt.stdout(),
+                &mut rt.stderr(),
+            )
+        };
+        thread::scope(thread::scope_env(), rt, |scope| {
+            let large = thread::Builder::new().stack_size(STACK);
+            Ok(large.spawn_scoped(scope, run)?.join(rt))
+        })
     };
-    let status: io::Result<u8> = thread::scope(thread::scope_env(), rt, |scope| {
-        let large = thread::Builder::new().stack_size(STACK);
-        match large.spawn_scoped(scope, run) {
-            Ok(running) => Ok(running.join(rt)),
-            Err(_) => {
-                eprintln!(rt; "chr: Memory")?;
-                Ok(REFUSED)
-            }
+    match run() {
+        Ok(status) => Ok(ExitCode::from(status)),
+        Err(error) => {
+            eprintln!(rt; "{}", line(&error))?;
+            Ok(ExitCode::from(REFUSED))
         }
-    });
-    Ok(ExitCode::from(status?))
+    }
 }
