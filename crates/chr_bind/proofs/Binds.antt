@@ -4,8 +4,8 @@ use Rattle.std.proofs.lemmas.Bool.Decides.{Decides-eqb, eqb_tells}
 use Rattle.std.proofs.lemmas.List.{length-append}
 use Rattle.std.proofs.lemmas.Option.{slice_get_within}
 use Rattle.chr_semantics.specs.Tree.{Tree, var}
-use Rattle.chr_semantics.specs.Subst.{Subst, value_at, apply, occurs, bound, IsSolved}
-use Rattle.chr_semantics.proofs.Replaced.{replaced-solves}
+use Rattle.chr_semantics.specs.Subst.{Subst, value_at, apply, occurs, with_binding, IsSolved}
+use Rattle.chr_semantics.proofs.Instances.{instance-solves}
 use Rattle.chr_semantics.proofs.UnifierEqual.{IsFree, apply-bound, apply_absent, bound_is, bound_solved, here, one}
 use Rattle.std.specs.Borrow.{Bor}
 use Rattle.chr_term.specs.declared.term.Term.{Term}
@@ -16,12 +16,12 @@ use Rattle.chr_bind.specs.declared.chains.Link.TheVariants.{Free, Follows, Bound
 use Rattle.chr_bind.proofs.Changed.{free_count-set, length-set, slice_get-before, slice_get-last, slice_get-set_other, slice_get-set_same}
 use Rattle.chr_bind.proofs.Links.{has_pair, linked_at}
 
-told_onto-last : (s : Subst) (es : Pairs) (e : ℕ × Tree) → told_onto s (es ++ e ∷ []) ≡ bound e.0 (apply (told_onto s es) e.1) (told_onto s es)
+told_onto-last : (s : Subst) (es : Pairs) (e : ℕ × Tree) → told_onto s (es ++ e ∷ []) ≡ with_binding e.0 (apply (told_onto s es) e.1) (told_onto s es)
 told_onto-last s [] e = refl
-told_onto-last s (f ∷ es) e = told_onto-last (bound f.0 (apply s f.1) s) es e
+told_onto-last s (f ∷ es) e = told_onto-last (with_binding f.0 (apply s f.1) s) es e
 
 -- what is told last is bound last
-pub solution-last : (es : Pairs) (e : ℕ × Tree) → solution (es ++ e ∷ []) ≡ bound e.0 (apply (solution es) e.1) (solution es)
+pub solution-last : (es : Pairs) (e : ℕ × Tree) → solution (es ++ e ∷ []) ≡ with_binding e.0 (apply (solution es) e.1) (solution es)
 solution-last es e = told_onto-last [] es e
 
 pub free_link : (o : Option Link) (n : ℕ) → name_of o ≡ Some n → (z : ℕ) × (o ≡ Some (Free n z))
@@ -88,7 +88,7 @@ module _ (links : List Link) (pairs : Pairs) (x n : ℕ) (t : Tree) (h : IsSound
   name_free = sym (ap (apply (solution pairs)) value_here) ∙ h.solved x ∙ value_here
 
   binds_free : IsFree (solution pairs) n (apply (solution pairs) t)
-  binds_free = record { free = name_free; closed_under = replaced-solves (value_at (solution pairs)) (solution pairs) h.solved t; absent = absent }
+  binds_free = record { free = name_free; closed_under = instance-solves (value_at (solution pairs)) (solution pairs) h.solved t; absent = absent }
 
   value_after : (y : ℕ) → value_at (solution (pairs ++ (n, t) ∷ [])) y ≡ apply (one n (apply (solution pairs) t)) (value_at (solution pairs) y)
   value_after y = ap (λ s. value_at s y) (solution-last pairs (n, t)) ∙ bound_is (solution pairs) n (apply (solution pairs) t) name_free y

@@ -4,7 +4,7 @@ use Rattle.std.specs.Ordering.{int_eq}
 use Rattle.std.proofs.lemmas.Bool.Decides.{Decides-eqb, Decides-int_eq, nat_tests, same_from_decides}
 use Rattle.std.proofs.lemmas.Bool.{eq-eqb}
 use Rattle.chr_semantics.specs.Tree.{Tree, var, int, node, Trees, none, more}
-use Rattle.chr_semantics.specs.Subst.{Subst, value_at, apply, replaced_all}
+use Rattle.chr_semantics.specs.Subst.{Subst, value_at, apply, instances}
 use Rattle.chr_semantics.specs.Mgu.{Equations, both, apart, apart_all, apart_under}
 
 pub both-nil : (p : Option Equations) → both p (Some []) ≡ p
@@ -99,20 +99,20 @@ var_var false false s x y e = sym (both-nil (apart (value_at s x) (value_at s y)
 
 -- terms under a substitution are taken apart to the equations under it
 mutual
-  pub apart-replaced : (s : Subst) (a b : Tree) → apart (apply s a) (apply s b) ≡ under s (apart a b)
-  apart-replaced s (var x) (var y) = var_var (x == y) (nat_lt x y) s x y refl
-  apart-replaced s (var x) (int z) = sym (both-nil (apart (value_at s x) (int z)))
-  apart-replaced s (var x) (node g us) = sym (both-nil (apart (value_at s x) (apply s (node g us))))
-  apart-replaced s (int z) (var y) = apart_sym (int z) (value_at s y) ∙ sym (both-nil (apart (value_at s y) (int z)))
-  apart-replaced s (int z) (int w) = under-cond (int_eq z w) s (Some []) (Some []) refl
-  apart-replaced s (int z) (node g us) = refl
-  apart-replaced s (node f ts) (var y) = apart_sym (apply s (node f ts)) (value_at s y) ∙ sym (both-nil (apart (value_at s y) (apply s (node f ts))))
-  apart-replaced s (node f ts) (int w) = refl
-  apart-replaced s (node f ts) (node g us) = under-cond (f == g) s (apart_all (replaced_all (value_at s) ts) (replaced_all (value_at s) us)) (apart_all ts us) (apart_all-replaced s ts us)
+  pub apart-instance : (s : Subst) (a b : Tree) → apart (apply s a) (apply s b) ≡ under s (apart a b)
+  apart-instance s (var x) (var y) = var_var (x == y) (nat_lt x y) s x y refl
+  apart-instance s (var x) (int z) = sym (both-nil (apart (value_at s x) (int z)))
+  apart-instance s (var x) (node g us) = sym (both-nil (apart (value_at s x) (apply s (node g us))))
+  apart-instance s (int z) (var y) = apart_sym (int z) (value_at s y) ∙ sym (both-nil (apart (value_at s y) (int z)))
+  apart-instance s (int z) (int w) = under-cond (int_eq z w) s (Some []) (Some []) refl
+  apart-instance s (int z) (node g us) = refl
+  apart-instance s (node f ts) (var y) = apart_sym (apply s (node f ts)) (value_at s y) ∙ sym (both-nil (apart (value_at s y) (apply s (node f ts))))
+  apart-instance s (node f ts) (int w) = refl
+  apart-instance s (node f ts) (node g us) = under-cond (f == g) s (apart_all (instances (value_at s) ts) (instances (value_at s) us)) (apart_all ts us) (apart_all-instance s ts us)
 
-  pub apart_all-replaced : (s : Subst) (ts us : Trees) → apart_all (replaced_all (value_at s) ts) (replaced_all (value_at s) us) ≡ under s (apart_all ts us)
-  apart_all-replaced s none none = refl
-  apart_all-replaced s none (more u us) = refl
-  apart_all-replaced s (more t ts) none = refl
-  apart_all-replaced s (more t ts) (more u us) =
-      ap (λ p. both p (apart_all (replaced_all (value_at s) ts) (replaced_all (value_at s) us))) (apart-replaced s t u) ∙ ap (both (under s (apart t u))) (apart_all-replaced s ts us) ∙ sym (under-both s (apart t u) (apart_all ts us))
+  pub apart_all-instance : (s : Subst) (ts us : Trees) → apart_all (instances (value_at s) ts) (instances (value_at s) us) ≡ under s (apart_all ts us)
+  apart_all-instance s none none = refl
+  apart_all-instance s none (more u us) = refl
+  apart_all-instance s (more t ts) none = refl
+  apart_all-instance s (more t ts) (more u us) =
+      ap (λ p. both p (apart_all (instances (value_at s) ts) (instances (value_at s) us))) (apart-instance s t u) ∙ ap (both (under s (apart t u))) (apart_all-instance s ts us) ∙ sym (under-both s (apart t u) (apart_all ts us))

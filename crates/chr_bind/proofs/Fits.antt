@@ -5,7 +5,7 @@ use Rattle.std.proofs.lemmas.List.{drop_all}
 use Rattle.std.specs.Borrow.{Bor}
 use Rattle.chr_semantics.specs.Tree.{Tree, Trees, node, same}
 use Rattle.chr_semantics.specs.Subst.{Subst}
-use Rattle.chr_semantics.specs.Match.{fit, fit_all, fit_var, matched}
+use Rattle.chr_semantics.specs.Match.{fit, fit_all, fit_var, match_at}
 use Rattle.chr_semantics.proofs.SameLaw.{same_law}
 use Rattle.chr_term.specs.View.{view, trees_view}
 use Rattle.chr_term.specs.declared.term.Term.{Term}
@@ -21,25 +21,25 @@ fit_known slots m t u false false h e d = refl
 
 -- a variable that is matched is compared
 pub fit_matched : {A : Type 0} (slots : Slots A) (m : Subst) (x : ℕ) (t u : Tree) (b : Bool) → Agrees slots m → slot_tree (slice_get slots x) ≡ Some u → (IsTrue b ↔ (u ≡ t))
-    → MatchBool b ((n : Subst) × (fit_var m x t (matched m x) ≡ Some n) × Agrees slots n) (fit_var m x t (matched m x) ≡ None)
+    → MatchBool b ((n : Subst) × (fit_var m x t (match_at m x) ≡ Some n) × Agrees slots n) (fit_var m x t (match_at m x) ≡ None)
 fit_matched slots m x t u b h e d =
-    let is : matched m x ≡ Some u = sym (h x) ∙ e in
+    let is : match_at m x ≡ Some u = sym (h x) ∙ e in
     rw is (fit_known slots m t u b (same u t) h refl d)
 
 -- one that is not is matched
 pub fit_new : {A : Type 0} (slots : Slots A) (m : Subst) (x : ℕ) (t : Bor (Term A)) → Agrees slots m → x < length slots → slot_tree (slice_get slots x) ≡ None
-    → (n : Subst) × (fit_var m x (view t.now) (matched m x) ≡ Some n) × Agrees (set slots x (Some t)) n
+    → (n : Subst) × (fit_var m x (view t.now) (match_at m x) ≡ Some n) × Agrees (set slots x (Some t)) n
 fit_new slots m x t h within e =
-    let is : matched m x ≡ None = sym (h x) ∙ e in (
+    let is : match_at m x ≡ None = sym (h x) ∙ e in (
       (x, view t.now) ∷ m,
       rw is refl,
       (λ y. elim (eqb_tells y x) [
         | inl p ↦
             let same_var : (x == y) ≡ true = grind (arith, Decides-eqb x y, p.1) in
-            ap slot_tree (ap (slice_get (set slots x (Some t))) p.1 ∙ slice_get-set_same slots x (Some t) within) ∙ sym (ap (λ (b : Bool). cond b (Some (view t.now)) (matched m y)) same_var)
+            ap slot_tree (ap (slice_get (set slots x (Some t))) p.1 ∙ slice_get-set_same slots x (Some t) within) ∙ sym (ap (λ (b : Bool). cond b (Some (view t.now)) (match_at m y)) same_var)
         | inr p ↦
             let other : (x == y) ≡ false = grind (arith, Decides-eqb x y, p.1) in
-            ap slot_tree (slice_get-set_other slots x y (Some t) p.1) ∙ h y ∙ sym (ap (λ (b : Bool). cond b (Some (view t.now)) (matched m y)) other)
+            ap slot_tree (slice_get-set_other slots x y (Some t) p.1) ∙ h y ∙ sym (ap (λ (b : Bool). cond b (Some (view t.now)) (match_at m y)) other)
       ]),
     )
 

@@ -3,7 +3,7 @@ use Rattle.std.proofs.Common.{◌≡◌, ◌↔◌, ℕ, ℤ, Bool, IsTrue, true
 use Rattle.std.specs.Borrow.{Bor}
 use Rattle.chr_semantics.specs.Tree.{Tree, var, int, same}
 use Rattle.chr_semantics.specs.Subst.{Subst, apply, value_at}
-use Rattle.chr_semantics.specs.Match.{matched}
+use Rattle.chr_semantics.specs.Match.{match_at}
 use Rattle.chr_semantics.specs.Mgu.{mgu}
 use Rattle.chr_semantics.proofs.SameLaw.{same_law}
 use Rattle.chr_term.specs.View.{view}
@@ -15,17 +15,17 @@ matched_step : (b : Bool) (u t w : Tree) (o : Option Tree) → (o ≡ Some t →
 matched_step true u t w o f e = cc
 matched_step false u t w o f e = f e
 
-matched_value : (m : Subst) (x : ℕ) (t : Tree) → matched m x ≡ Some t → value_at m x ≡ t
+matched_value : (m : Subst) (x : ℕ) (t : Tree) → match_at m x ≡ Some t → value_at m x ≡ t
 matched_value [] x t e = cc
-matched_value (p ∷ m) x t e = matched_step (p.0 == x) p.1 t (value_at m x) (matched m x) (matched_value m x t) e
+matched_value (p ∷ m) x t e = matched_step (p.0 == x) p.1 t (value_at m x) (match_at m x) (matched_value m x t) e
 
 free_step : (b : Bool) (u v w : Tree) (o : Option Tree) → (o ≡ None → w ≡ v) → cond b (Some u) o ≡ None → cond b u w ≡ v
 free_step true u v w o f e = cc
 free_step false u v w o f e = f e
 
-free_value : (m : Subst) (x : ℕ) → matched m x ≡ None → value_at m x ≡ var x
+free_value : (m : Subst) (x : ℕ) → match_at m x ≡ None → value_at m x ≡ var x
 free_value [] x e = refl
-free_value (p ∷ m) x e = free_step (p.0 == x) p.1 (var x) (value_at m x) (matched m x) (free_value m x) e
+free_value (p ∷ m) x e = free_step (p.0 == x) p.1 (var x) (value_at m x) (match_at m x) (free_value m x) e
 
 -- a variable that is matched is what it is matched to
 pub shown_matched : {A : Type 0} (h : Match A) (m : Subst) (x : ℕ) (p : Tree) (o : Option (Bor (Term A))) (t : Bor (Term A)) → AgreesWith h m → p ≡ var x → option_map (λ (r : Bor (Term A)). view r.now) o ≡ slot_tree (slice_get h.slots x) → o ≡ Some t

@@ -2,29 +2,29 @@
 use Rattle.std.proofs.Common.{◌≡◌, ℕ, zero, suc, ◌+◌, ◌<◌, ◌≤◌, ◌↔◌, List, [], ◌∷◌, length, get_or, drop, take, map, ap, subst, sym, arith, refl, ◌∙◌}
 use Rattle.std.proofs.lemmas.List.{take_all}
 use Rattle.chr_semantics.specs.Tree.{Tree, Trees, none, more, trees_of}
-use Rattle.chr_semantics.specs.Subst.{replaced, replaced_all}
+use Rattle.chr_semantics.specs.Subst.{instance, instances}
 use Rattle.chr_term.specs.View.{view, trees_view}
 use Rattle.chr_term.specs.declared.term.Term.{Term}
 use Rattle.chr_term.proofs.Dropped.{trees_view-drop}
 use Rattle.chr_bind.specs.Terms.{AreBelow, IsBelow, size, size_all}
 
-pub size_item : {A : Type 0} (f : ℕ → Tree) (xs : List (Term A)) (i : ℕ) (x : Term A) → i < length xs → x ≡ get_or xs i x → size (replaced f (view x)) ≤ size_all (replaced_all f (trees_view xs))
+pub size_item : {A : Type 0} (f : ℕ → Tree) (xs : List (Term A)) (i : ℕ) (x : Term A) → i < length xs → x ≡ get_or xs i x → size (instance f (view x)) ≤ size_all (instances f (trees_view xs))
 size_item f [] i x h e = absurd (omega arith)
-size_item f (y ∷ xs) zero x h e = omega (arith, ap (λ t. size (replaced f (view t))) e)
+size_item f (y ∷ xs) zero x h e = omega (arith, ap (λ t. size (instance f (view t))) e)
 size_item f (y ∷ xs) (suc i) x h e = let r = size_item f xs i x (omega arith) e in omega (arith, r)
 
-replaced_all-view : {A : Type 0} (f : ℕ → Tree) (xs : List (Term A)) → replaced_all f (trees_view xs) ≡ trees_of (map (λ t. replaced f (view t)) xs)
-replaced_all-view f [] = refl
-replaced_all-view f (x ∷ xs) = ap (more (replaced f (view x))) (replaced_all-view f xs)
+instances-view : {A : Type 0} (f : ℕ → Tree) (xs : List (Term A)) → instances f (trees_view xs) ≡ trees_of (map (λ t. instance f (view t)) xs)
+instances-view f [] = refl
+instances-view f (x ∷ xs) = ap (more (instance f (view x))) (instances-view f xs)
 
 trees_length : Trees → ℕ
 trees_length none = 0
 trees_length (more t ts) = suc (trees_length ts)
 
-length-replaced : {A : Type 0} (f : ℕ → Tree) (xs : List (Term A)) → trees_length (replaced_all f (trees_view xs)) ≡ length xs
+length-instance : {A : Type 0} (f : ℕ → Tree) (xs : List (Term A)) → trees_length (instances f (trees_view xs)) ≡ length xs
 unfolding trees_length
-length-replaced f [] = refl
-length-replaced f (x ∷ xs) = ap suc (length-replaced f xs)
+length-instance f [] = refl
+length-instance f (x ∷ xs) = ap suc (length-instance f xs)
 
 length-view : {A : Type 0} (xs : List (Term A)) → trees_length (trees_view xs) ≡ length xs
 unfolding trees_length
@@ -32,8 +32,8 @@ length-view [] = refl
 length-view (x ∷ xs) = ap suc (length-view xs)
 
 -- lists that come to the same have one length
-pub length-same : {A B : Type 0} (f : ℕ → Tree) (xs : List (Term A)) (ys : List (Term B)) → replaced_all f (trees_view xs) ≡ trees_view ys → length xs ≡ length ys
-length-same f xs ys e = omega (arith, length-replaced f xs, length-view ys, ap trees_length e)
+pub length-same : {A B : Type 0} (f : ℕ → Tree) (xs : List (Term A)) (ys : List (Term B)) → instances f (trees_view xs) ≡ trees_view ys → length xs ≡ length ys
+length-same f xs ys e = omega (arith, length-instance f xs, length-view ys, ap trees_length e)
 
 rests_decide : (P : Type 0) (t u : Tree) (ts us : Trees) → (P ↔ (more t ts ≡ more u us)) → t ≡ u → (P ↔ (ts ≡ us))
 rests_decide P t u ts us h e = ((λ p. let same : more t ts ≡ more u us = h.0 p in cc), (λ same. h.1 cc))
@@ -43,17 +43,17 @@ heads_agree P t u ts us h p = let same : more t ts ≡ more u us = h.0 p in cc
 
 module _ {A B : Type 0} (f : ℕ → Tree) (P : Type 0) (xs : List (Term A)) (ys : List (Term B)) (i : ℕ) (x : Term A) (y : Term B) where
   -- where the terms at the index come to the same, the rests decide
-  pub same_from_next : (P ↔ (replaced_all f (trees_view (drop i xs)) ≡ trees_view (drop i ys))) → i < length xs → i < length ys → x ≡ get_or xs i x → y ≡ get_or ys i y → replaced f (view x) ≡ view y
-      → (P ↔ (replaced_all f (trees_view (drop (i + 1) xs)) ≡ trees_view (drop (i + 1) ys)))
-  same_from_next h ltx lty atx aty = rests_decide P (replaced f (view x)) (view y) _ _ (rw (trees_view-drop xs i x ltx atx, trees_view-drop ys i y lty aty) at h)
+  pub same_from_next : (P ↔ (instances f (trees_view (drop i xs)) ≡ trees_view (drop i ys))) → i < length xs → i < length ys → x ≡ get_or xs i x → y ≡ get_or ys i y → instance f (view x) ≡ view y
+      → (P ↔ (instances f (trees_view (drop (i + 1) xs)) ≡ trees_view (drop (i + 1) ys)))
+  same_from_next h ltx lty atx aty = rests_decide P (instance f (view x)) (view y) _ _ (rw (trees_view-drop xs i x ltx atx, trees_view-drop ys i y lty aty) at h)
 
   -- where the lists come to the same, so do the terms at the index
-  pub same_at : (P ↔ (replaced_all f (trees_view (drop i xs)) ≡ trees_view (drop i ys))) → i < length xs → i < length ys → x ≡ get_or xs i x → y ≡ get_or ys i y → P → replaced f (view x) ≡ view y
-  same_at h ltx lty atx aty = heads_agree P (replaced f (view x)) (view y) _ _ (rw (trees_view-drop xs i x ltx atx, trees_view-drop ys i y lty aty) at h)
+  pub same_at : (P ↔ (instances f (trees_view (drop i xs)) ≡ trees_view (drop i ys))) → i < length xs → i < length ys → x ≡ get_or xs i x → y ≡ get_or ys i y → P → instance f (view x) ≡ view y
+  same_at h ltx lty atx aty = heads_agree P (instance f (view x)) (view y) _ _ (rw (trees_view-drop xs i x ltx atx, trees_view-drop ys i y lty aty) at h)
 
 -- a list that was built as the image of all terms
-pub built_whole : {A B : Type 0} (f : ℕ → Tree) (items : List (Term A)) (xs : List (Term B)) (n : ℕ) → map view items ≡ map (λ t. replaced f (view t)) (take n xs) → length xs ≤ n → trees_view items ≡ replaced_all f (trees_view xs)
-built_whole f items xs n h le = ap trees_of h ∙ ap (λ l. trees_of (map (λ t. replaced f (view t)) l)) (take_all n xs le) ∙ sym (replaced_all-view f xs)
+pub built_whole : {A B : Type 0} (f : ℕ → Tree) (items : List (Term A)) (xs : List (Term B)) (n : ℕ) → map view items ≡ map (λ t. instance f (view t)) (take n xs) → length xs ≤ n → trees_view items ≡ instances f (trees_view xs)
+built_whole f items xs n h le = ap trees_of h ∙ ap (λ l. trees_of (map (λ t. instance f (view t)) l)) (take_all n xs le) ∙ sym (instances-view f xs)
 
 pub size_item_plain : {A : Type 0} (xs : List (Term A)) (i : ℕ) (x : Term A) → i < length xs → x ≡ get_or xs i x → size (view x) ≤ size_all (trees_view xs)
 size_item_plain [] i x h e = absurd (omega arith)

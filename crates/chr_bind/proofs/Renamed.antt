@@ -5,9 +5,9 @@ use Rattle.std.proofs.lemmas.List.{take_more}
 use Rattle.std.proofs.lemmas.Option.{slice_get-get_or}
 use Rattle.std.specs.List.{AllByRecursion, IsDistinct}
 use Rattle.chr_semantics.specs.Tree.{Tree, Trees, var, int, node, none, more}
-use Rattle.chr_semantics.specs.Subst.{Solves, Subst, apply, replaced, replaced_all, value_at}
+use Rattle.chr_semantics.specs.Subst.{Solves, Subst, apply, instance, instances, value_at}
 use Rattle.chr_semantics.specs.Mgu.{mgu}
-use Rattle.chr_semantics.proofs.Replaced.{replaced-replaced}
+use Rattle.chr_semantics.proofs.Instances.{instance-instance}
 use Rattle.chr_semantics.proofs.UnifierEqual.{mgu_makes_equal}
 use Rattle.chr_semantics.proofs.UnifierNone.{mgu_none}
 use Rattle.chr_term.specs.View.{trees_view, view}
@@ -39,23 +39,23 @@ place_of-get (y ∷ ys) zero h hi = ap (λ (b : Bool). cond b 0 (suc (place_of y
 place_of-get (y ∷ ys) (suc i) h hi = place_at (y == get_or ys i 0) y ys i (place_of ys (get_or ys i 0)) refl h (omega arith) (place_of-get ys i (once_tail y ys h) (omega arith))
 
 mutual
-  replaced_below : (n : ℕ) (f g : ℕ → Tree) (t : Tree) → ((i : ℕ) → i < n → f i ≡ g i) → IsBelow n t → replaced f t ≡ replaced g t
-  replaced_below n f g (var x) h b = h x b
-  replaced_below n f g (int z) h b = refl
-  replaced_below n f g (node k ts) h b = ap (node k) (replaced_all_below n f g ts h b)
+  instance_below : (n : ℕ) (f g : ℕ → Tree) (t : Tree) → ((i : ℕ) → i < n → f i ≡ g i) → IsBelow n t → instance f t ≡ instance g t
+  instance_below n f g (var x) h b = h x b
+  instance_below n f g (int z) h b = refl
+  instance_below n f g (node k ts) h b = ap (node k) (instances_below n f g ts h b)
 
-  replaced_all_below : (n : ℕ) (f g : ℕ → Tree) (ts : Trees) → ((i : ℕ) → i < n → f i ≡ g i) → AreBelow n ts → replaced_all f ts ≡ replaced_all g ts
-  replaced_all_below n f g none h b = refl
-  replaced_all_below n f g (more t ts) h b = cc (replaced_below n f g t h b.0, replaced_all_below n f g ts h b.1)
+  instances_below : (n : ℕ) (f g : ℕ → Tree) (ts : Trees) → ((i : ℕ) → i < n → f i ≡ g i) → AreBelow n ts → instances f ts ≡ instances g ts
+  instances_below n f g none h b = refl
+  instances_below n f g (more t ts) h b = cc (instance_below n f g t h b.0, instances_below n f g ts h b.1)
 
 -- a unifier of the terms, taken back to the new numbers
-forth : (names : List ℕ) (f : ℕ → Tree) (r t : Tree) → IsRenamed names r t → replaced (λ i. f (get_or names i 0)) r ≡ replaced f t
-forth names f r t h = sym (replaced-replaced f (back names) r) ∙ ap (replaced f) h.same
+forth : (names : List ℕ) (f : ℕ → Tree) (r t : Tree) → IsRenamed names r t → instance (λ i. f (get_or names i 0)) r ≡ instance f t
+forth names f r t h = sym (instance-instance f (back names) r) ∙ ap (instance f) h.same
 
 -- a unifier of the new terms, taken to the old numbers
-home : (names : List ℕ) (g : ℕ → Tree) (r t : Tree) → Once names → IsRenamed names r t → replaced (λ x. g (place_of names x)) t ≡ replaced g r
+home : (names : List ℕ) (g : ℕ → Tree) (r t : Tree) → Once names → IsRenamed names r t → instance (λ x. g (place_of names x)) t ≡ instance g r
 home names g r t once h =
-    sym (forth names (λ x. g (place_of names x)) r t h) ∙ replaced_below (length names) (λ i. g (place_of names (get_or names i 0))) g r (λ i k. ap g (place_of-get names i once k)) h.below
+    sym (forth names (λ x. g (place_of names x)) r t h) ∙ instance_below (length names) (λ i. g (place_of names (get_or names i 0))) g r (λ i k. ap g (place_of-get names i once k)) h.below
 
 no_bindings : (f : ℕ → Tree) → Solves f []
 no_bindings f x = refl
@@ -115,7 +115,7 @@ longer (x ∷ old) rest = let r = longer old rest in omega (arith, r)
 -- further names change nothing of what was numbered
 extended : (old new : List ℕ) (rs ts : Trees) → Extends old new → AreRenamed old rs ts → AreRenamed new rs ts
 extended old new rs ts e h = subst (λ n. AreRenamed n rs ts) (sym e.1)
-    (record { same = sym (replaced_all_below (length old) (back old) (back (old ++ e.0)) rs (extended_at old e.0) h.below) ∙ h.same; below = below_more_all (length old) (length (old ++ e.0)) rs (longer old e.0) h.below })
+    (record { same = sym (instances_below (length old) (back old) (back (old ++ e.0)) rs (extended_at old e.0) h.below) ∙ h.same; below = below_more_all (length old) (length (old ++ e.0)) rs (longer old e.0) h.below })
 
 pub extends_further : (a b c : List ℕ) → Extends a b → Extends b c → Extends a c
 extends_further a b c e f = (e.0 ++ f.0, f.1 ∙ ap (λ l. l ++ f.0) e.1 ∙ append_assoc a e.0 f.0)
@@ -130,10 +130,10 @@ unfolding pushed
 view_pushed [] x = refl
 view_pushed (y ∷ xs) x = ap (more (view y)) (view_pushed xs x)
 
-replaced_pushed : (f : ℕ → Tree) (ts : Trees) (t : Tree) → replaced_all f (pushed ts t) ≡ pushed (replaced_all f ts) (replaced f t)
+instances_pushed : (f : ℕ → Tree) (ts : Trees) (t : Tree) → instances f (pushed ts t) ≡ pushed (instances f ts) (instance f t)
 unfolding pushed
-replaced_pushed f none t = refl
-replaced_pushed f (more u us) t = ap (more (replaced f u)) (replaced_pushed f us t)
+instances_pushed f none t = refl
+instances_pushed f (more u us) t = ap (more (instance f u)) (instances_pushed f us t)
 
 below_pushed : (n : ℕ) (ts : Trees) (t : Tree) → AreBelow n ts → IsBelow n t → AreBelow n (pushed ts t)
 unfolding pushed
@@ -141,7 +141,7 @@ below_pushed n none t h b = (b, tt)
 below_pushed n (more u us) t h b = (h.0, below_pushed n us t h.1 b)
 
 pushed_renamed : (names : List ℕ) (rs ts : Trees) (r t : Tree) → AreRenamed names rs ts → IsRenamed names r t → AreRenamed names (pushed rs r) (pushed ts t)
-pushed_renamed names rs ts r t h k = record { same = replaced_pushed (back names) rs r ∙ cc (h.same, k.same); below = below_pushed (length names) rs r h.below k.below }
+pushed_renamed names rs ts r t h k = record { same = instances_pushed (back names) rs r ∙ cc (h.same, k.same); below = below_pushed (length names) rs r h.below k.below }
 
 -- one more term of a list, with the names that it added
 pub renamed_more : {A : Type 0} (old new : List ℕ) (items xs : List (Term A)) (r x : Term A) (i : ℕ) → Extends old new → AreRenamed old (trees_view items) (trees_view (take i xs)) → IsRenamed new (view r) (view x) → i < length xs → x ≡ get_or xs i x
@@ -152,7 +152,7 @@ renamed_more old new items xs r x i e h k lt at =
 
 pub extended_term : (old new : List ℕ) (r t : Tree) → Extends old new → IsRenamed old r t → IsRenamed new r t
 extended_term old new r t e h = subst (λ n. IsRenamed n r t) (sym e.1)
-    (record { same = sym (replaced_below (length old) (back old) (back (old ++ e.0)) r (extended_at old e.0) h.below) ∙ h.same; below = below_more (length old) (length (old ++ e.0)) r (longer old e.0) h.below })
+    (record { same = sym (instance_below (length old) (back old) (back (old ++ e.0)) r (extended_at old e.0) h.below) ∙ h.same; below = below_more (length old) (length (old ++ e.0)) r (longer old e.0) h.below })
 
 some_unifier : (r q : Tree) (o : Option Subst) → apply [] r ≡ apply [] q → mgu [] r q ≡ o → true ≡ is_some o
 some_unifier r q None e m = absurd (mgu_none [] r q m (value_at []) (no_bindings (value_at [])) e)

@@ -3,9 +3,9 @@ use Rattle.std.proofs.Common.{◌≡◌, ℕ, zero, suc, ◌+◌, Bool, true, fa
 use Rattle.std.proofs.lemmas.List.{length-append}
 use mathlib.Core.Path.{fun_ext}
 use Rattle.chr_semantics.specs.Tree.{Tree, var, Trees}
-use Rattle.chr_semantics.specs.Subst.{Solves, Subst, value_at, apply, replaced_all, occurs, bound, IsSolved}
-use Rattle.chr_semantics.specs.Mgu.{Equations, both, apart, apart_under, mgu, solved, solved_from, vars}
-use Rattle.chr_semantics.proofs.Replaced.{replaced-solves, replaced_all-replaced_all}
+use Rattle.chr_semantics.specs.Subst.{Solves, Subst, value_at, apply, instances, occurs, with_binding, IsSolved}
+use Rattle.chr_semantics.specs.Mgu.{Equations, both, apart, apart_under, mgu, elimination, elimination_from, vars}
+use Rattle.chr_semantics.proofs.Instances.{instance-solves, instances-instances}
 use Rattle.chr_semantics.proofs.UnifierEqual.{bound_is, from_apart, mgu_makes_equal, one}
 use Rattle.chr_semantics.proofs.UnifierNone.{mgu_none}
 use Rattle.chr_term.specs.View.{view, trees_view}
@@ -18,110 +18,110 @@ use Rattle.chr_bind.specs.declared.bindings.Unified.{Unified}
 use Rattle.chr_bind.specs.declared.bindings.Unified.TheVariants.{Bound, Clash, Same}
 use Rattle.chr_bind.specs.declared.chains.Link.{Link}
 use Rattle.chr_bind.proofs.Binds.{pairs_in-last, solution-last}
-use Rattle.chr_bind.proofs.Equations.{apart_all-replaced, apart_self, under, under-both}
+use Rattle.chr_bind.proofs.Equations.{apart_all-instance, apart_self, under, under-both}
 
 -- an elimination, with the equations that are left under it
 eliminated : (n : ℕ) (s : Subst) (x : ℕ) (u : Tree) (b : Bool) (o : Option Equations) → b ≡ false
-    → (let w : Option Subst = elim b [ true ↦ None | false ↦ elim o [ None ↦ None | Some fs ↦ solved n (bound x u s) fs ] ] in w ≡ solved_from n (bound x u s) o)
+    → (let w : Option Subst = elim b [ true ↦ None | false ↦ elim o [ None ↦ None | Some fs ↦ elimination n (with_binding x u s) fs ] ] in w ≡ elimination_from n (with_binding x u s) o)
 eliminated n s x u true o e = cc
 eliminated n s x u false None e = refl
 eliminated n s x u false (Some fs) e = refl
 
-pub elimination : (n : ℕ) (s : Subst) (x : ℕ) (u : Tree) (es : Option Equations) → occurs x u ≡ false → solved_from (suc n) s (both (Some ((x, u) ∷ [])) es) ≡ solved_from n (bound x u s) (under (one x u) es)
-elimination n s x u None e = refl
-elimination n s x u (Some es) e = eliminated n s x u (occurs x u) (apart_under (one x u) es) e
+pub elimination-next : (n : ℕ) (s : Subst) (x : ℕ) (u : Tree) (es : Option Equations) → occurs x u ≡ false → elimination_from (suc n) s (both (Some ((x, u) ∷ [])) es) ≡ elimination_from n (with_binding x u s) (under (one x u) es)
+elimination-next n s x u None e = refl
+elimination-next n s x u (Some es) e = eliminated n s x u (occurs x u) (apart_under (one x u) es) e
 
 inside : (n : ℕ) (s : Subst) (x : ℕ) (u : Tree) (b : Bool) (o : Option Equations) → b ≡ true
-    → (let w : Option Subst = elim b [ true ↦ None | false ↦ elim o [ None ↦ None | Some fs ↦ solved n (bound x u s) fs ] ] in w ≡ None)
+    → (let w : Option Subst = elim b [ true ↦ None | false ↦ elim o [ None ↦ None | Some fs ↦ elimination n (with_binding x u s) fs ] ] in w ≡ None)
 inside n s x u true o e = refl
 inside n s x u false o e = cc
 
 -- a variable inside its other side leaves nothing
-pub occurs_inside : (n : ℕ) (s : Subst) (x : ℕ) (u : Tree) (es : Option Equations) → occurs x u ≡ true → solved_from n s (both (Some ((x, u) ∷ [])) es) ≡ None
+pub occurs_inside : (n : ℕ) (s : Subst) (x : ℕ) (u : Tree) (es : Option Equations) → occurs x u ≡ true → elimination_from n s (both (Some ((x, u) ∷ [])) es) ≡ None
 occurs_inside n s x u None e = refl
 occurs_inside zero s x u (Some es) e = refl
 occurs_inside (suc n) s x u (Some es) e = inside n s x u (occurs x u) (apart_under (one x u) es) e
 
-replaced_all-bound : (s : Subst) (x : ℕ) (u : Tree) → value_at s x ≡ var x → (ts : Trees) → replaced_all (value_at (bound x u s)) ts ≡ replaced_all (value_at (one x u)) (replaced_all (value_at s) ts)
-replaced_all-bound s x u h ts = ap (λ (g : ℕ → Tree). replaced_all g ts) (fun_ext (bound_is s x u h)) ∙ sym (replaced_all-replaced_all (value_at (one x u)) (value_at s) ts)
+instances-bound : (s : Subst) (x : ℕ) (u : Tree) → value_at s x ≡ var x → (ts : Trees) → instances (value_at (with_binding x u s)) ts ≡ instances (value_at (one x u)) (instances (value_at s) ts)
+instances-bound s x u h ts = ap (λ (g : ℕ → Tree). instances g ts) (fun_ext (bound_is s x u h)) ∙ sym (instances-instances (value_at (one x u)) (value_at s) ts)
 
 -- what is left after a binding is what was left, under it
-pub rest_after : {A : Type 0} (s : Subst) (x : ℕ) (u : Tree) (ps : List (Lists A)) → value_at s x ≡ var x → rest_apart (bound x u s) ps ≡ under (one x u) (rest_apart s ps)
+pub rest_after : {A : Type 0} (s : Subst) (x : ℕ) (u : Tree) (ps : List (Lists A)) → value_at s x ≡ var x → rest_apart (with_binding x u s) ps ≡ under (one x u) (rest_apart s ps)
 rest_after s x u [] h = refl
 rest_after s x u (p ∷ ps) h =
     let ts = trees_view p.0.now in
     let us = trees_view p.1.now in
-    let lists : lists_apart (bound x u s) p.0.now p.1.now ≡ under (one x u) (lists_apart s p.0.now p.1.now) =
-    rw (replaced_all-bound s x u h ts, replaced_all-bound s x u h us) (apart_all-replaced (one x u) (replaced_all (value_at s) ts) (replaced_all (value_at s) us))
+    let lists : lists_apart (with_binding x u s) p.0.now p.1.now ≡ under (one x u) (lists_apart s p.0.now p.1.now) =
+    rw (instances-bound s x u h ts, instances-bound s x u h us) (apart_all-instance (one x u) (instances (value_at s) ts) (instances (value_at s) us))
     in
-    ap (λ es. both es (lists_apart (bound x u s) p.0.now p.1.now)) (rest_after s x u ps h) ∙ ap (both (under (one x u) (rest_apart s ps))) lists ∙ sym (under-both (one x u) (rest_apart s ps) (lists_apart s p.0.now p.1.now))
+    ap (λ es. both es (lists_apart (with_binding x u s) p.0.now p.1.now)) (rest_after s x u ps h) ∙ ap (both (under (one x u) (rest_apart s ps))) lists ∙ sym (under-both (one x u) (rest_apart s ps) (lists_apart s p.0.now p.1.now))
 
 -- more eliminations than are needed change nothing
-more_step : (n k : ℕ) (s : Subst) (x : ℕ) (u : Tree) (r : Subst) (b : Bool) (o : Option Equations) → ((fs : Equations) → solved n (bound x u s) fs ≡ Some r → solved (n + k) (bound x u s) fs ≡ Some r)
-    → (let w : Option Subst = elim b [ true ↦ None | false ↦ elim o [ None ↦ None | Some fs ↦ solved n (bound x u s) fs ] ] in w ≡ Some r)
-    → (let w : Option Subst = elim b [ true ↦ None | false ↦ elim o [ None ↦ None | Some fs ↦ solved (n + k) (bound x u s) fs ] ] in w ≡ Some r)
+more_step : (n k : ℕ) (s : Subst) (x : ℕ) (u : Tree) (r : Subst) (b : Bool) (o : Option Equations) → ((fs : Equations) → elimination n (with_binding x u s) fs ≡ Some r → elimination (n + k) (with_binding x u s) fs ≡ Some r)
+    → (let w : Option Subst = elim b [ true ↦ None | false ↦ elim o [ None ↦ None | Some fs ↦ elimination n (with_binding x u s) fs ] ] in w ≡ Some r)
+    → (let w : Option Subst = elim b [ true ↦ None | false ↦ elim o [ None ↦ None | Some fs ↦ elimination (n + k) (with_binding x u s) fs ] ] in w ≡ Some r)
 more_step n k s x u r true o f e = cc
 more_step n k s x u r false None f e = cc
 more_step n k s x u r false (Some fs) f e = f fs e
 
-more_fuel : (n k : ℕ) (s : Subst) (es : Equations) (r : Subst) → solved n s es ≡ Some r → solved (n + k) s es ≡ Some r
+more_fuel : (n k : ℕ) (s : Subst) (es : Equations) (r : Subst) → elimination n s es ≡ Some r → elimination (n + k) s es ≡ Some r
 more_fuel n k s [] r e = e
 more_fuel zero k s (e ∷ es) r is = cc
 more_fuel (suc n) k s (e ∷ es) r is =
     let sum : suc n + k ≡ suc (n + k) = omega arith in
-    rw sum (more_step n k s e.0 e.1 r (occurs e.0 e.1) (apart_under (one e.0 e.1) es) (λ fs w. more_fuel n k (bound e.0 e.1 s) fs r w) is)
+    rw sum (more_step n k s e.0 e.1 r (occurs e.0 e.1) (apart_under (one e.0 e.1) es) (λ fs w. more_fuel n k (with_binding e.0 e.1 s) fs r w) is)
 
-more_fuel_from : (n k : ℕ) (s : Subst) (o : Option Equations) (r : Subst) → solved_from n s o ≡ Some r → solved_from (n + k) s o ≡ Some r
+more_fuel_from : (n k : ℕ) (s : Subst) (o : Option Equations) (r : Subst) → elimination_from n s o ≡ Some r → elimination_from (n + k) s o ≡ Some r
 more_fuel_from n k s None r e = cc
 more_fuel_from n k s (Some es) r e = more_fuel n k s es r e
 
-unifies : (n : ℕ) (s : Subst) (a b : Tree) (r : Subst) → IsSolved s → solved_from n s (apart (apply s a) (apply s b)) ≡ Some r → Solves (value_at r) s × (apply r a ≡ apply r b)
+unifies : (n : ℕ) (s : Subst) (a b : Tree) (r : Subst) → IsSolved s → elimination_from n s (apart (apply s a) (apply s b)) ≡ Some r → Solves (value_at r) s × (apply r a ≡ apply r b)
 unifies n s a b r h e =
-    let again = replaced-solves (value_at s) s h in
+    let again = instance-solves (value_at s) s h in
     let m = from_apart n s (apply s a) (apply s b) (apart (apply s a) (apply s b)) r e refl h (again a) (again b) in
-    (m.1, sym (replaced-solves (value_at r) s m.1 a) ∙ m.2 ∙ replaced-solves (value_at r) s m.1 b)
+    (m.1, sym (instance-solves (value_at r) s m.1 a) ∙ m.2 ∙ instance-solves (value_at r) s m.1 b)
 
-at_fuel : (n k : ℕ) (s : Subst) (a b : Tree) (r : Subst) (o : Option Subst) → IsSolved s → mgu s a b ≡ o → ((m : ℕ) → solved_from (m + k) s (apart (apply s a) (apply s b)) ≡ Some r) → o ≡ Some r
+at_fuel : (n k : ℕ) (s : Subst) (a b : Tree) (r : Subst) (o : Option Subst) → IsSolved s → mgu s a b ≡ o → ((m : ℕ) → elimination_from (m + k) s (apart (apply s a) (apply s b)) ≡ Some r) → o ≡ Some r
 unfolding mgu
 at_fuel n k s a b r (Some q) h is e = sym (more_fuel_from _ k s (apart (apply s a) (apply s b)) q is) ∙ e _
 at_fuel n k s a b r None h is e = let u = unifies (0 + k) s a b r h (e 0) in absurd (mgu_none s a b is (value_at r) u.0 u.1)
 
 -- with any greater bound on the eliminations that are made, the unifier is what they come to
-pub reaches_unifier : (k : ℕ) (s : Subst) (a b : Tree) (r : Subst) → IsSolved s → ((m : ℕ) → solved_from (m + k) s (apart (apply s a) (apply s b)) ≡ Some r) → mgu s a b ≡ Some r
+pub reaches_unifier : (k : ℕ) (s : Subst) (a b : Tree) (r : Subst) → IsSolved s → ((m : ℕ) → elimination_from (m + k) s (apart (apply s a) (apply s b)) ≡ Some r) → mgu s a b ≡ Some r
 reaches_unifier k s a b r h e = at_fuel 0 k s a b r (mgu s a b) h refl e
 
-none_at_fuel : (k : ℕ) (s : Subst) (a b : Tree) (o : Option Subst) → mgu s a b ≡ o → ((m : ℕ) → solved_from (m + k) s (apart (apply s a) (apply s b)) ≡ None) → o ≡ None
+none_at_fuel : (k : ℕ) (s : Subst) (a b : Tree) (o : Option Subst) → mgu s a b ≡ o → ((m : ℕ) → elimination_from (m + k) s (apart (apply s a) (apply s b)) ≡ None) → o ≡ None
 unfolding mgu
 none_at_fuel k s a b (Some q) is e = let w = sym (more_fuel_from _ k s (apart (apply s a) (apply s b)) q is) ∙ e _ in cc
 none_at_fuel k s a b None is e = refl
 
 -- and where they come to nothing, there is none
-pub reaches_none : (k : ℕ) (s : Subst) (a b : Tree) → ((m : ℕ) → solved_from (m + k) s (apart (apply s a) (apply s b)) ≡ None) → mgu s a b ≡ None
+pub reaches_none : (k : ℕ) (s : Subst) (a b : Tree) → ((m : ℕ) → elimination_from (m + k) s (apart (apply s a) (apply s b)) ≡ None) → mgu s a b ≡ None
 reaches_none k s a b e = none_at_fuel k s a b (mgu s a b) refl e
 
 -- one more binding: what is left of the agenda comes to the same under it
-pub told_once_more : {A : Type 0} (k : ℕ) (first : Subst) (all : Option Equations) (s : Subst) (left : Option Equations) (rest : List (Lists A)) (x : ℕ) (u : Tree) → ((m : ℕ) → solved_from (m + k) first all ≡ solved_from m s left)
-    → left ≡ both (Some ((x, u) ∷ [])) (rest_apart s rest) → occurs x u ≡ false → value_at s x ≡ var x → (m : ℕ) → solved_from (m + (k + 1)) first all ≡ solved_from m (bound x u s) (rest_apart (bound x u s) rest)
+pub told_once_more : {A : Type 0} (k : ℕ) (first : Subst) (all : Option Equations) (s : Subst) (left : Option Equations) (rest : List (Lists A)) (x : ℕ) (u : Tree) → ((m : ℕ) → elimination_from (m + k) first all ≡ elimination_from m s left)
+    → left ≡ both (Some ((x, u) ∷ [])) (rest_apart s rest) → occurs x u ≡ false → value_at s x ≡ var x → (m : ℕ) → elimination_from (m + (k + 1)) first all ≡ elimination_from m (with_binding x u s) (rest_apart (with_binding x u s) rest)
 told_once_more k first all s left rest x u h is absent free m =
     let sum : m + (k + 1) ≡ suc m + k = omega arith in
-    ap (λ f. solved_from f first all) sum ∙ h (suc m) ∙ ap (solved_from (suc m) s) is ∙ elimination m s x u (rest_apart s rest) absent ∙ ap (solved_from m (bound x u s)) (sym (rest_after s x u rest free))
+    ap (λ f. elimination_from f first all) sum ∙ h (suc m) ∙ ap (elimination_from (suc m) s) is ∙ elimination-next m s x u (rest_apart s rest) absent ∙ ap (elimination_from m (with_binding x u s)) (sym (rest_after s x u rest free))
 
 -- a binding that can't be made leaves nothing
-pub told_inside : (k : ℕ) (first : Subst) (all : Option Equations) (s : Subst) (left rest : Option Equations) (x : ℕ) (u : Tree) → ((m : ℕ) → solved_from (m + k) first all ≡ solved_from m s left) → left ≡ both (Some ((x, u) ∷ [])) rest → occurs x u ≡ true
-    → (m : ℕ) → solved_from (m + k) first all ≡ None
-told_inside k first all s left rest x u h is absent m = h m ∙ ap (solved_from m s) is ∙ occurs_inside m s x u rest absent
+pub told_inside : (k : ℕ) (first : Subst) (all : Option Equations) (s : Subst) (left rest : Option Equations) (x : ℕ) (u : Tree) → ((m : ℕ) → elimination_from (m + k) first all ≡ elimination_from m s left) → left ≡ both (Some ((x, u) ∷ [])) rest → occurs x u ≡ true
+    → (m : ℕ) → elimination_from (m + k) first all ≡ None
+told_inside k first all s left rest x u h is absent m = h m ∙ ap (elimination_from m s) is ∙ occurs_inside m s x u rest absent
 
 -- the solution with one more binding
 pub solution_once_more : {A : Type 0} (made : List (ℕ × Term A)) (told new : List (ℕ × Bor (Term A))) (x : ℕ) (t : Bor (Term A)) → new ≡ told ++ (x, t) ∷ []
-    → solution (pairs_in made new) ≡ bound x (apply (solution (pairs_in made told)) (view t.now)) (solution (pairs_in made told))
+    → solution (pairs_in made new) ≡ with_binding x (apply (solution (pairs_in made told)) (view t.now)) (solution (pairs_in made told))
 solution_once_more made told new x t e = ap (λ w. solution (pairs_in made w)) e ∙ ap solution (pairs_in-last made told (x, t)) ∙ solution-last (pairs_in made told) (x, view t.now)
 
 -- with one binding before the others
-pub told_before : {E : Type 0} (s next : Subst) (es rest : Option Equations) (old first new : ℕ) (r : Subst) (result : Result Bool E) → first ≡ old + 1 → ((m : ℕ) → solved_from (m + 1) s es ≡ solved_from m next rest)
+pub told_before : {E : Type 0} (s next : Subst) (es rest : Option Equations) (old first new : ℕ) (r : Subst) (result : Result Bool E) → first ≡ old + 1 → ((m : ℕ) → elimination_from (m + 1) s es ≡ elimination_from m next rest)
     → IfOk result (IsTold next rest first new r) → IfOk result (IsTold s es old new r)
 told_before s next es rest old first new r (Ok true) e h (n, l, f) =
-    (n + 1, (omega (arith, e, l)), (λ m. let sum : m + (n + 1) ≡ (m + n) + 1 = omega arith in ap (λ w. solved_from w s es) sum ∙ h (m + n) ∙ f m))
-told_before s next es rest old first new r (Ok false) e h (k, f) = (k + 1, (λ m. let sum : m + (k + 1) ≡ (m + k) + 1 = omega arith in ap (λ w. solved_from w s es) sum ∙ h (m + k) ∙ f m))
+    (n + 1, (omega (arith, e, l)), (λ m. let sum : m + (n + 1) ≡ (m + n) + 1 = omega arith in ap (λ w. elimination_from w s es) sum ∙ h (m + n) ∙ f m))
+told_before s next es rest old first new r (Ok false) e h (k, f) = (k + 1, (λ m. let sum : m + (k + 1) ≡ (m + k) + 1 = omega arith in ap (λ w. elimination_from w s es) sum ∙ h (m + k) ∙ f m))
 told_before s next es rest old first new r (Err x) e h t = t
 
 -- telling came to the unifier, with owned terms
@@ -141,7 +141,7 @@ told_none made nothing told a b e t =
     let f = subst (λ ps. IsTold (solution ps) (apart (apply (solution ps) a) (apply (solution ps) b)) (length nothing) (length told) (solution (pairs_in made told)) false) before t in
     reaches_none f.0 (solution (owned_pairs made)) a b f.1
 
-length-eliminated : (x : ℕ) (u : Tree) (s : Subst) → length (bound x u s) ≡ length s + 1
+length-eliminated : (x : ℕ) (u : Tree) (s : Subst) → length (with_binding x u s) ≡ length s + 1
 length-eliminated x u [] = refl
 length-eliminated x u (p ∷ s) = let r = length-eliminated x u s in omega (arith, r)
 
@@ -151,14 +151,14 @@ no_length (x ∷ xs) e = absurd (omega arith)
 
 length-told_onto : (s : Subst) (es : Pairs) → length (told_onto s es) ≡ length s + length es
 length-told_onto s [] = omega arith
-length-told_onto s (e ∷ es) = omega (arith, length-told_onto (bound e.0 (apply s e.1) s) es, length-eliminated e.0 (apply s e.1) s)
+length-told_onto s (e ∷ es) = omega (arith, length-told_onto (with_binding e.0 (apply s e.1) s) es, length-eliminated e.0 (apply s e.1) s)
 
 length-solution : (es : Pairs) → length (solution es) ≡ length es
 length-solution es = omega (arith, length-told_onto [] es)
 
 same_unifier : (s : Subst) (a b : Tree) → apply s a ≡ apply s b → mgu s a b ≡ Some s
 unfolding mgu
-same_unifier s a b e = ap (λ t. solved_from (length (vars (apply s a) ++ vars (apply s b))) s (apart t (apply s b))) e ∙ ap (solved_from (length (vars (apply s a) ++ vars (apply s b))) s) (apart_self (apply s b))
+same_unifier s a b e = ap (λ t. elimination_from (length (vars (apply s a) ++ vars (apply s b))) s (apart t (apply s b))) e ∙ ap (elimination_from (length (vars (apply s a) ++ vars (apply s b))) s) (apart_self (apply s b))
 
 -- Where nothing was told, both stood for one term; where something was, they did not.
 pub unified_as : (pairs more : Pairs) (a b : Tree) (n : ℕ) (answer : Unified) → IsSolved (solution pairs) → mgu (solution pairs) a b ≡ Some (solution (pairs ++ more)) → length more ≡ n → IsAnswer n answer → IsUnified a b (solution pairs) (solution (pairs ++ more)) answer

@@ -1,10 +1,10 @@
 -- A symbol over other than two arguments has no value.
 use Rattle.std.proofs.Common.{◌≡◌, ◌≢◌, ℕ, Err, List, [], ◌∷◌, length, refl}
-use Rattle.chr_semantics.specs.Value.{not_number, operated, values}
+use Rattle.chr_semantics.specs.Value.{not_number, node_value, values}
 use Rattle.chr_term.specs.View.{trees_view}
 use Rattle.chr_term.specs.declared.term.Term.{Term}
 
-pub operated_other : {A : Type 0} (f : ℕ) (ts : List (Term A)) → length ts ≢ 2 → operated f (values (trees_view ts)) ≡ Err not_number
+pub operated_other : {A : Type 0} (f : ℕ) (ts : List (Term A)) → length ts ≢ 2 → node_value f (values (trees_view ts)) ≡ Err not_number
 operated_other f [] h = refl
 operated_other f (t ∷ []) h = refl
 operated_other f (t ∷ u ∷ []) h = absurd (h refl)

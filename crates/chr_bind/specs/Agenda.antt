@@ -2,8 +2,8 @@
 use Rattle.std.specs.Prelude.{◌≡◌, ℕ, ◌+◌, Bool, true, false, List, [], ◌∷◌, Option, Some, None, length, slice_get}
 use Rattle.std.specs.Borrow.{Bor}
 use Rattle.chr_semantics.specs.Tree.{Tree}
-use Rattle.chr_semantics.specs.Subst.{Subst, value_at, apply, occurs, replaced_all}
-use Rattle.chr_semantics.specs.Mgu.{Equations, both, apart, apart_all, solved_from}
+use Rattle.chr_semantics.specs.Subst.{Subst, value_at, apply, occurs, instances}
+use Rattle.chr_semantics.specs.Mgu.{Equations, both, apart, apart_all, elimination_from}
 use Rattle.chr_term.specs.View.{view, trees_view}
 use Rattle.chr_term.specs.declared.term.Term.{Term}
 use Rattle.chr_bind.specs.Terms.{IsBelow, AreBelow, size, size_all}
@@ -20,7 +20,7 @@ Lists A = Bor (List (Term A)) × Bor (List (Term A))
 
 -- two lists of terms under s, taken apart
 abbrev pub lists_apart : {A : Type 0} → Subst → List (Term A) → List (Term A) → Option Equations
-lists_apart s ts us = apart_all (replaced_all (value_at s) (trees_view ts)) (replaced_all (value_at s) (trees_view us))
+lists_apart s ts us = apart_all (instances (value_at s) (trees_view ts)) (instances (value_at s) (trees_view us))
 
 -- the lists of an agenda, the last ones first
 abbrev pub rest_apart : {A : Type 0} → Subst → List (Lists A) → Option Equations
@@ -28,7 +28,7 @@ rest_apart s [] = Some []
 rest_apart s (p ∷ ps) = both (rest_apart s ps) (lists_apart s p.0.now p.1.now)
 
 abbrev pub lists_size : {A : Type 0} → Subst → List (Term A) → ℕ
-lists_size s ts = size_all (replaced_all (value_at s) (trees_view ts)) + 1
+lists_size s ts = size_all (instances (value_at s) (trees_view ts)) + 1
 
 abbrev pub agenda_size : {A : Type 0} → Subst → List (Lists A) → ℕ
 agenda_size s [] = 0
@@ -71,8 +71,8 @@ IsAllDone rest (difference.Bind b) = Unit {0}
 -- Telling bindings for equations under s, which were `old` before and are `new` now, came to the solution r, or to nothing; so it does with
 -- any greater bound on the eliminations.
 abbrev pub IsTold : Subst → Option Equations → ℕ → ℕ → Subst → Bool → Type 0
-IsTold s es old new r true = (n : ℕ) × (new ≡ old + n) × ((m : ℕ) → solved_from (m + n) s es ≡ Some r)
-IsTold s es old new r false = (k : ℕ) × ((m : ℕ) → solved_from (m + k) s es ≡ None)
+IsTold s es old new r true = (n : ℕ) × (new ≡ old + n) × ((m : ℕ) → elimination_from (m + n) s es ≡ Some r)
+IsTold s es old new r false = (k : ℕ) × ((m : ℕ) → elimination_from (m + k) s es ≡ None)
 
 -- a variable was bound that is not in its term, or nothing was done
 abbrev pub IsBound : {A : Type 0} → List Link → List Link → Pairs → Binding A → Bool → Type 0

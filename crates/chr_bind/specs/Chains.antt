@@ -2,7 +2,7 @@
 use Rattle.std.specs.Prelude.{◌≡◌, ℕ, ◌+◌, ◌<◌, List, [], ◌∷◌, ◌++◌, map, length, Option, Some, None, slice_get, set, ◌⊎◌}
 use Rattle.std.specs.Borrow.{Bor}
 use Rattle.chr_semantics.specs.Tree.{Tree, var}
-use Rattle.chr_semantics.specs.Subst.{Subst, value_at, apply, bound, IsSolved}
+use Rattle.chr_semantics.specs.Subst.{Subst, value_at, apply, with_binding, IsSolved}
 use Rattle.chr_term.specs.View.{view}
 use Rattle.chr_term.specs.declared.term.Term.{Term}
 use Rattle.chr_bind.specs.Terms.{IsBelow, IsNoVar}
@@ -36,7 +36,7 @@ pairs_of c = pairs_in c.made.now c.told.now
 -- each pair binds its variable to its term under the bindings before it
 abbrev pub told_onto : Subst → Pairs → Subst
 told_onto s [] = s
-told_onto s (e ∷ es) = told_onto (bound e.0 (apply s e.1) s) es
+told_onto s (e ∷ es) = told_onto (with_binding e.0 (apply s e.1) s) es
 
 -- the substitution that the pairs stand for
 abbrev pub solution : Pairs → Subst

@@ -3,7 +3,7 @@ use Rattle.std.specs.Prelude.{◌≡◌, ℕ, Bool, false, List, Option, Some, N
 use Rattle.std.specs.Borrow.{Bor}
 use Rattle.chr_semantics.specs.Tree.{Tree, Trees}
 use Rattle.chr_semantics.specs.Subst.{Subst}
-use Rattle.chr_semantics.specs.Match.{matched, fit, fit_all}
+use Rattle.chr_semantics.specs.Match.{match_at, fit, fit_all}
 use Rattle.chr_term.specs.View.{view}
 use Rattle.chr_term.specs.declared.term.Term.{Term}
 use Rattle.chr_bind.specs.declared.matching.Match.{Match}
@@ -18,7 +18,7 @@ slot_tree (Some (Some t)) = Some (view t.now)
 
 -- each variable is matched to what its slot has
 abbrev pub Agrees : {A : Type 0} → Slots A → Subst → Type 0
-Agrees slots m = (x : ℕ) → slot_tree (slice_get slots x) ≡ matched m x
+Agrees slots m = (x : ℕ) → slot_tree (slice_get slots x) ≡ match_at m x
 
 abbrev pub AgreesWith : {A : Type 0} → Match A → Subst → Type 0
 AgreesWith h m = Agrees h.slots m

@@ -2,7 +2,7 @@
 use Rattle.std.specs.Prelude.{◌≡◌, ℕ, ◌==◌, List, ◌++◌, length, get_or}
 use Rattle.std.specs.List.{IsDistinct}
 use Rattle.chr_semantics.specs.Tree.{Tree, Trees, var}
-use Rattle.chr_semantics.specs.Subst.{replaced, replaced_all}
+use Rattle.chr_semantics.specs.Subst.{instance, instances}
 use Rattle.chr_bind.specs.Terms.{IsBelow, AreBelow}
 
 -- the variable that had a number
@@ -15,11 +15,11 @@ IsNames names = IsDistinct (λ x y. x == y) names
 
 -- r is t with its variables numbered by their place among the names
 pub record IsRenamed (names : List ℕ) (r t : Tree) : Type 0 where
-  pub same : replaced (back names) r ≡ t
+  pub same : instance (back names) r ≡ t
   pub below : IsBelow (length names) r
 
 pub record AreRenamed (names : List ℕ) (rs ts : Trees) : Type 0 where
-  pub same : replaced_all (back names) rs ≡ ts
+  pub same : instances (back names) rs ≡ ts
   pub below : AreBelow (length names) rs
 
 -- what was numbered keeps its number

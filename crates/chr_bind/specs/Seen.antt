@@ -1,7 +1,7 @@
 -- What the root of a term is under the bindings.
 use Rattle.std.specs.Prelude.{◌≡◌, Some, length, slice_get}
 use Rattle.chr_semantics.specs.Tree.{Tree, var, int, node}
-use Rattle.chr_semantics.specs.Subst.{value_at, apply, replaced_all}
+use Rattle.chr_semantics.specs.Subst.{value_at, apply, instances}
 use Rattle.chr_term.specs.View.{trees_view}
 use Rattle.chr_bind.specs.Terms.{IsBelow, AreBelow}
 use Rattle.chr_bind.specs.Chains.{name_of, subst_of}
@@ -13,7 +13,7 @@ use Rattle.chr_bind.specs.declared.chains.Seen.TheVariants.{Free, Int, Node}
 abbrev pub IsSeen : {A : Type 0} → Chains A → Tree → Seen A → Type 0
 IsSeen c t (Free r n) = (apply (subst_of c) t ≡ var n) × (IsBelow (length c.links.now) t → name_of (slice_get c.links.now r) ≡ Some n)
 IsSeen c t (Int z) = apply (subst_of c) t ≡ int z
-IsSeen c t (Node f args) = (apply (subst_of c) t ≡ node f.0 (replaced_all (value_at (subst_of c)) (trees_view args.now))) × (IsBelow (length c.links.now) t → AreBelow (length c.links.now) (trees_view args.now))
+IsSeen c t (Node f args) = (apply (subst_of c) t ≡ node f.0 (instances (value_at (subst_of c)) (trees_view args.now))) × (IsBelow (length c.links.now) t → AreBelow (length c.links.now) (trees_view args.now))
 
 -- the root of a term as it is written, which is no variable
 abbrev pub IsShown : {A : Type 0} → Tree → Seen A → Type 0

@@ -1,6 +1,6 @@
 //! Values of arithmetic terms.
 ghost use Rattle.std.specs.Prelude.{◌≡◌, ◌≢◌, ◌∷◌, [], pos, IsTrue, ◌↔◌, ◌≤◌, MatchOption, Ok, length};
-ghost use Rattle.chr_semantics.specs.Value.{computed, modulo as modulo_of, operated as operated_of, value as value_of, values};
+ghost use Rattle.chr_semantics.specs.Value.{operator_value, modulo as modulo_of, node_value as operated_of, value as value_of, values};
 ghost use Rattle.chr_term.specs.View.{trees_view, view};
 ghost use Rattle.chr_bind.specs.Values.{ranged, value_view};
 
@@ -91,7 +91,7 @@ pub(crate) fn is_operator(sym: Sym) -> bool
 
 /// What an operator gives for two numbers.
 pub(crate) fn computed(sym: Sym, left: i128, right: i128) -> Result<i128, Fault>
-    ensures { value_view result ≡ computed sym.0 left right }
+    ensures { value_view result ≡ operator_value sym.0 left right }
 {
     if sym.0 == Sym::PLUS.0 {
         in_range(left.checked_add(right))

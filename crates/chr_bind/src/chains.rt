@@ -1,7 +1,7 @@
 //! Bindings that are followed: terms stay as they were told, and nothing is replaced in them.
 ghost use Rattle.std.specs.Prelude.{◌≡◌, ◌<◌, ◌↔◌, IfOk, IsTrue, Some, ℕ, length, option_map, slice_get};
 ghost use Rattle.chr_semantics.specs.Tree.{Tree, is_ground_tree, is_ground_trees, var as variable};
-ghost use Rattle.chr_semantics.specs.Subst.{apply, occurs, occurs_any, replaced_all, value_at};
+ghost use Rattle.chr_semantics.specs.Subst.{apply, occurs, occurs_any, instances, value_at};
 ghost use Rattle.chr_term.specs.View.{trees_view, view};
 ghost use Rattle.chr_bind.specs.Chains.{AreSound, IsEnd, pairs_of, subst_of};
 ghost use Rattle.chr_bind.specs.Seen.{IsSeen, IsShown};
@@ -127,7 +127,7 @@ impl<'l, 't, A: Allocator> Chains<'l, 't, A> {
     where
         A: Copy,
         requires { AreSound self.now }
-        ensures { IfOk result (λ resolved. trees_view resolved.items ≡ replaced_all (value_at (subst_of self.now)) (trees_view terms.now)) }
+        ensures { IfOk result (λ resolved. trees_view resolved.items ≡ instances (value_at (subst_of self.now)) (trees_view terms.now)) }
     {
         let mut items = Vec::with_capacity(alloc, terms.len())?;
         for term in terms {
@@ -152,7 +152,7 @@ impl<'l, 't, A: Allocator> Chains<'l, 't, A> {
     #[cycle(ground)]
     fn are_ground(&self, terms: &'t [Term<A>]) -> bool
         requires { AreSound self.now }
-        ensures { result ≡ is_ground_trees (replaced_all (value_at (subst_of self.now)) (trees_view terms.now)) }
+        ensures { result ≡ is_ground_trees (instances (value_at (subst_of self.now)) (trees_view terms.now)) }
     {
         for term in terms {
             if !self.is_ground(term) {
@@ -180,7 +180,7 @@ impl<'l, 't, A: Allocator> Chains<'l, 't, A> {
     #[cycle(matches)]
     fn resolve_to(&self, terms: &'t [Term<A>], others: &[Term<A>]) -> bool
         requires { AreSound self.now }
-        ensures { IsTrue result ↔ (replaced_all (value_at (subst_of self.now)) (trees_view terms.now) ≡ trees_view others.now) }
+        ensures { IsTrue result ↔ (instances (value_at (subst_of self.now)) (trees_view terms.now) ≡ trees_view others.now) }
     {
         if terms.len() != others.len() {
             return false;
@@ -209,7 +209,7 @@ impl<'l, 't, A: Allocator> Chains<'l, 't, A> {
     #[cycle(occurs)]
     fn occurs_any(&self, var: u64, terms: &'t [Term<A>]) -> bool
         requires { AreSound self.now }
-        ensures { result ≡ occurs_any var (replaced_all (value_at (subst_of self.now)) (trees_view terms.now)) }
+        ensures { result ≡ occurs_any var (instances (value_at (subst_of self.now)) (trees_view terms.now)) }
     {
         for term in terms {
             if self.occurs(var, term) {

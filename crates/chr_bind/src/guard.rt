@@ -1,7 +1,7 @@
 //! Guards over what the variables of a rule are matched to.
 ghost use Rattle.std.specs.Prelude.{◌≡◌, IfOk};
-ghost use Rattle.chr_semantics.specs.Guard.{compared, entailed, holds_of, is_int};
-ghost use Rattle.chr_semantics.specs.Subst.{Subst, apply, replaced_all, value_at};
+ghost use Rattle.chr_semantics.specs.Guard.{comparison_holds, entailed, value_comparison_holds, is_int};
+ghost use Rattle.chr_semantics.specs.Subst.{Subst, apply, instances, value_at};
 ghost use Rattle.chr_semantics.specs.Value.{value as value_of};
 ghost use Rattle.chr_term.specs.View.{trees_view, view};
 ghost use Rattle.chr_bind.specs.Guards.{comparison_view, shown_view, test_view};
@@ -103,7 +103,7 @@ fn instances<A: Allocator + Copy>(
     matching: &Match<'_, A>,
     patterns: &[Term<A>],
 ) -> Result<Vec<Term<A>, A>, Memory>
-    ensures { IfOk result (λ made. (m : Subst) → AgreesWith matching.now m → trees_view made.items ≡ replaced_all (value_at m) (trees_view patterns.now)) }
+    ensures { IfOk result (λ made. (m : Subst) → AgreesWith matching.now m → trees_view made.items ≡ instances (value_at m) (trees_view patterns.now)) }
 {
     let mut items = Vec::with_capacity(alloc, patterns.len())?;
     for pattern in patterns {
@@ -125,7 +125,7 @@ enum Comparison {
 
 /// Whether the comparison holds of two numbers.
 fn is_so(comparison: Comparison, left: i128, right: i128) -> bool
-    ensures { result ≡ compared (comparison_view comparison) left right }
+    ensures { result ≡ comparison_holds (comparison_view comparison) left right }
 {
     match comparison {
         Comparison::Less => left < right,
@@ -145,7 +145,7 @@ fn compares<A: Allocator + Copy>(
     left: &Term<A>,
     right: &Term<A>,
 ) -> Result<bool, Memory>
-    ensures { IfOk result (λ so. (m : Subst) → AgreesWith matching.now m → so ≡ holds_of (comparison_view comparison) (value_of (apply m (view left.now))) (value_of (apply m (view right.now)))) }
+    ensures { IfOk result (λ so. (m : Subst) → AgreesWith matching.now m → so ≡ value_comparison_holds (comparison_view comparison) (value_of (apply m (view left.now))) (value_of (apply m (view right.now)))) }
 {
     let left = under(alloc, matching, left)?;
     let right = under(alloc, matching, right)?;

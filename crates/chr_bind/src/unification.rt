@@ -1,7 +1,7 @@
 //! Unification by an agenda of lists of terms that are still to be made equal, so that no comparison begins anew after a binding.
 ghost use Rattle.std.specs.Prelude.{◌≡◌, ◌≢◌, ◌<◌, ◌≤◌, ◌+◌, ◌++◌, ◌∷◌, [], false, true, ℕ, IfOk, OnErr, OnOk, IsTrue, Ok, Some, None, length, set, slice_get, vec_len, vec_capacity};
 ghost use Rattle.chr_semantics.specs.Subst.{Subst, apply, occurs};
-ghost use Rattle.chr_semantics.specs.Mgu.{apart, both, solved_from};
+ghost use Rattle.chr_semantics.specs.Mgu.{apart, both, elimination_from};
 ghost use Rattle.chr_term.specs.View.{view, trees_view};
 ghost use Rattle.chr_bind.specs.Terms.{IsBelow, AreBelow, size};
 ghost use Rattle.chr_bind.specs.Chains.{AreSound, IsAttached, IsJoined, IsSound, lent_pairs, name_of, owned_pairs, pairs_in, solution, subst_of, undone};

@@ -1,14 +1,15 @@
 -- Runs, a transition at a time.
-use Rattle.std.proofs.Common.{◌≡◌, ◌∙◌, ℕ, zero, suc, ◌+◌, ◌++◌, [], List, ap, sym, refl, arith, add-one, append_assoc, append-nil, add-zero, map, length}
+use Rattle.std.proofs.Common.{◌≡◌, ◌≤◌, ◌∙◌, ◌-◌, ℕ, zero, suc, ◌+◌, false, ◌++◌, [], List, ap, sym, refl, arith, add-one, append_assoc, append-nil, add-zero, map, length}
 use Rattle.chr_semantics.specs.Names.{Names, VarNames}
 use Rattle.chr_semantics.specs.Program as semantics
 use Rattle.std.proofs.lemmas.Simd.{map-map}
 use Rattle.chr_semantics.specs.Match.{Row}
 use Rattle.chr_semantics.specs.Search.{History}
-use Rattle.chr_semantics.specs.State.{State, Element, Status, goal, start, with_stack}
+use Rattle.chr_semantics.specs.State.{State, Element, Status, running, done, failed, faulted, goal, start, with_stack}
 use Rattle.chr_rules.specs.View.{goal_view}
 use Rattle.chr_rules.specs.declared.rule.Goal.{Goal}
-use Rattle.chr_semantics.specs.Step.{step, after}
+use Rattle.chr_semantics.specs.Step.{step, after, count_steps, is_running, step_at, steps}
+use Rattle.chr_semantics.proofs.Counts.{count-add}
 use Rattle.chr_semantics.specs.Trace.{line}
 use Rattle.chr_semantics.specs.Text.{line_texts, trace}
 use Rattle.chr_machine.specs.Loaded.{names_of, rules_of}
@@ -29,11 +30,43 @@ trace-more names vars p s k (suc n) =
     let e : (k + 1) + n ≡ k + suc n = omega arith in
     rw (trace-more names vars p (step p s) (k + 1) n, e, append_assoc)
 
+-- one more transition, from a running state
+steps-more : (p : semantics.Program) (s : State) (n : ℕ) → (after p s n).status ≡ running → steps p s n ≡ n → steps p s (n + 1) ≡ n + 1
+steps-more p s n r e =
+    let more : steps p s (n + 1) ≡ steps p s n + steps p (after p s n) 1 = count-add p (λ t. is_running t.status) s n 1 in
+    let one : steps p (after p s n) 1 ≡ 1 = rw r refl in
+    omega (arith, more, one, e)
+
+-- an ended state is its own step
+step-ended_at : (p : semantics.Program) (s : State) (w : Status) → (w ≡ running → ⊥) → (is_running w ≡ false) × (step_at p s w ≡ s)
+step-ended_at p s running h = absurd (h refl)
+step-ended_at p s done h = (refl, refl)
+step-ended_at p s failed h = (refl, refl)
+step-ended_at p s (faulted f) h = (refl, refl)
+
+-- no step from an ended state is a transition
+steps-ended : (p : semantics.Program) (s : State) (n : ℕ) → (s.status ≡ running → ⊥) → steps p s n ≡ 0
+steps-ended p s zero h = refl
+steps-ended p s (suc n) h =
+    let at_end = step-ended_at p s s.status h in
+    let rest : steps p (step p s) n ≡ 0 = ap (λ t. steps p t n) at_end.1 ∙ steps-ended p s n h in
+    rw at_end.0 (omega (arith, rest))
+
+-- where the run has ended after k transitions, the first n steps have no more
+pub steps-all : (p : semantics.Program) (s t : State) (k n : ℕ) → k ≤ n → steps p s k ≡ k → t ≡ after p s k → (t.status ≡ running → ⊥) → k ≡ steps p s n
+steps-all p s t k n few made at_end ended =
+    let sum : k + (n - k) ≡ n = omega arith in
+    let parts : steps p s (k + (n - k)) ≡ steps p s k + steps p (after p s k) (n - k) = count-add p (λ u. is_running u.status) s k (n - k) in
+    let last : steps p (after p s k) (n - k) ≡ 0 = ap (λ u. steps p u (n - k)) (sym at_end) ∙ steps-ended p t (n - k) ended in
+    let all : steps p s (k + (n - k)) ≡ steps p s n = ap (steps p s) sum in
+    omega (arith, parts, last, made, all)
+
 pub ran-none : {A : Type 0} (m : Execution A) → Ran 0 m m
-ran-none m = record { state = refl; lines = sym (append-nil _); steps = omega arith; same = record { program = refl; var_names = refl } }
+ran-none m = record { made = refl; state = refl; lines = sym (append-nil _); steps = omega arith; same = record { program = refl; var_names = refl } }
 
 pub ran-more : {A : Type 0} (n : ℕ) (a b c : Execution A) → Ran n a b → Moves b c → Ran (n + 1) a c
 ran-more {A} n a b c r m = record {
+  made = steps-more (rules_of a.program.now) (state_of a) n (ap (λ (s : State). s.status) (sym r.state) ∙ m.running) r.made;
   state = m.state ∙ (ap (λ p. step (rules_of p.now) (state_of b)) r.same.program ∙ (ap (step (rules_of a.program.now)) r.state ∙ sym (after-more (rules_of a.program.now) (state_of a) n)));
   lines =
       let e : b.steps + 1 ≡ (a.steps + 1) + n = omega arith in
@@ -51,6 +84,7 @@ ran-more {A} n a b c r m = record {
 
 pub ran-kept : {A : Type 0} (n : ℕ) (a b c : Execution A) → Ran n a b → Kept b c → Ran n a c
 ran-kept n a b c r k = record {
+  made = r.made;
   state = k.state ∙ r.state;
   lines = k.lines ∙ r.lines;
   steps = omega (arith, k.steps, r.steps);

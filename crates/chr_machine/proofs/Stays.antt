@@ -9,9 +9,9 @@ use Rattle.chr_semantics.specs.Program.{Atom, Goal, constraint, tell, evaluate, 
 use Rattle.chr_semantics.specs.Match.{Row, fits}
 use Rattle.chr_semantics.specs.Search.{ids_of, atom_of, has_number, no_firing, firing}
 use Rattle.chr_semantics.specs.State.{Element, goal, known, active, Status, running, done, failed, faulted, State, with_stack, start}
-use Rattle.chr_semantics.specs.Step.{replaced_goal, body_of, in_body, solve, fired, search_at, search_step, step_top, step_at, step}
+use Rattle.chr_semantics.specs.Step.{goal_instance, body_of, in_body, solve, fire_step, search_at, search_step, step_top, step_at, step}
 use Rattle.chr_machine.specs.Fragment.{is_constraint, is_ground_constraint, is_thin_program, is_thin_query, is_thin_element, is_spent, IsThin, IsThinRule}
-use Rattle.chr_machine.proofs.Resolved.{both-left, both-right, replaced_ground_all}
+use Rattle.chr_machine.proofs.Resolved.{both-left, both-right, instances_ground}
 use Rattle.chr_machine.proofs.Thin.{IsThinOccurrence, thin_occurrence, thin_found, search_thin, search_none}
 
 -- what implies another test of each element
@@ -82,14 +82,14 @@ living_given (r ∷ store) n i a l h =
     (λ m. living_given store n i a m (both-right (nat_lt r.0 n) (list_all (λ (r : Row). nat_lt r.0 n) store) h))
 
 -- a ground goal is the same whatever its variables stand for
-ground_goal : (f : ℕ → Tree) (g : Goal) → is_ground_constraint g ≡ true → replaced_goal f g ≡ g
-ground_goal f (constraint a) h = rw (replaced_ground_all f a.args h)
+ground_goal : (f : ℕ → Tree) (g : Goal) → is_ground_constraint g ≡ true → goal_instance f g ≡ g
+ground_goal f (constraint a) h = rw (instances_ground f a.args h)
 ground_goal f (tell t u) h = cc
 ground_goal f (evaluate t u) h = cc
 ground_goal f (compare c t u) h = cc
 ground_goal f fail h = cc
 
-goals_ground : (f : ℕ → Tree) (gs : List Goal) → list_all is_ground_constraint gs ≡ true → map (λ g. goal (replaced_goal f g)) gs ≡ map (λ g. goal g) gs
+goals_ground : (f : ℕ → Tree) (gs : List Goal) → list_all is_ground_constraint gs ≡ true → map (λ g. goal (goal_instance f g)) gs ≡ map (λ g. goal g) gs
 goals_ground f [] h = refl
 goals_ground f (g ∷ gs) h =
     rw (ground_goal f g (both-left (is_ground_constraint g) (list_all is_ground_constraint gs) h), goals_ground f gs (both-right (is_ground_constraint g) (list_all is_ground_constraint gs) h))
@@ -140,7 +140,7 @@ gone i r e = rw e
 removed : (rule : Rule) (i : ℕ) (b : Atom) → rule.kept ≡ 0 → drop rule.kept (ids_of ((i, b) ∷ [])) ≡ i ∷ []
 removed rule i b e = rw e
 
-thin_fired : (p : Program) (s : State) (rest : List Element) (top : Element) (n i : ℕ) (rule : Rule) (b : Atom) → IsThin p s → list_all is_thin_element (top ∷ rest) ≡ true → IsThinRule rule → atom_of s.store i ≡ Some b → IsThin p (fired s rest top n rule 0 ((i, b) ∷ []))
+thin_fired : (p : Program) (s : State) (rest : List Element) (top : Element) (n i : ℕ) (rule : Rule) (b : Atom) → IsThin p s → list_all is_thin_element (top ∷ rest) ≡ true → IsThinRule rule → atom_of s.store i ≡ Some b → IsThin p (fire_step s rest top n rule 0 ((i, b) ∷ []))
 thin_fired p s rest top n i rule b thin h is lives =
     let keep = λ (r : Row). not (has_number (drop rule.kept (ids_of ((i, b) ∷ []))) r.0) in
     let out : (r : Row) → (r.0 == i) ≡ true → keep r ≡ false = λ r e. rw (removed rule i b is.kept) (gone i r e) in
@@ -192,7 +192,7 @@ thin_step p s thin = thin_at p s s.status thin
 
 -- a firing of a thin rule, without the words that say nothing there
 pub fired_thin : (s : State) (rest : List Element) (top : Element) (n i : ℕ) (rule : Rule) (b : Atom) → IsThinRule rule →
-    fired s rest top n rule 0 ((i, b) ∷ []) ≡ with_stack (record s { store = filter (λ (r : Row). not (r.0 == i)) s.store; history = s.history ++ (n, i ∷ []) ∷ [] }) (map (λ g. goal g) rule.body ++ rest)
+    fire_step s rest top n rule 0 ((i, b) ∷ []) ≡ with_stack (record s { store = filter (λ (r : Row). not (r.0 == i)) s.store; history = s.history ++ (n, i ∷ []) ∷ [] }) (map (λ g. goal g) rule.body ++ rest)
 fired_thin s rest top n i rule b is =
     let kept_rows = filter_agree (λ (r : Row). not (has_number (drop rule.kept (ids_of ((i, b) ∷ []))) r.0)) (λ (r : Row). not (r.0 == i)) (λ r. rw (removed rule i b is.kept, or-false (r.0 == i))) s.store in
     let no_new : s.next_var + (rule.vars - rule.head_vars) ≡ s.next_var = omega (arith, is.vars) in

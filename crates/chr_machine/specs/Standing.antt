@@ -4,7 +4,7 @@ use Rattle.std.specs.declared.alloc.AllocError.{AllocError}
 use Rattle.chr_semantics.specs.Names.{Names, VarNames}
 use Rattle.chr_semantics.specs.Program.{Program, Query}
 use Rattle.chr_semantics.specs.State.{State, running, start}
-use Rattle.chr_semantics.specs.Step.{after}
+use Rattle.chr_semantics.specs.Step.{after, steps as step_count}
 use Rattle.chr_semantics.specs.Text.{trace}
 use Rattle.chr_machine.specs.Loaded.{names_of, rules_of}
 use Rattle.chr_machine.specs.State.{state_of, texts}
@@ -40,8 +40,9 @@ pub record Starts (names : Names) (rules : Program) (query : Query) (s : Standin
   pub steps_are : s.steps ≡ 0
   pub lines_are : s.lines ≡ []
 
--- n transitions further, with their lines
+-- n transitions further, each made from a running state, with their lines
 pub record Further (n : ℕ) (old new : Standing) : Type 0 where
+  pub made : step_count old.rules old.state n ≡ n
   pub names_are : new.names ≡ old.names
   pub rules_are : new.rules ≡ old.rules
   pub var_names_are : new.var_names ≡ old.var_names
@@ -58,13 +59,13 @@ Steps Moved old new = (old.state.status ≡ running) × (old.steps < 1000000) ×
 Steps Ended old new = (old.state.status ≢ running) × Same old new
 Steps Spent old new = (old.state.status ≡ running) × (1000000 ≤ old.steps) × Same old new
 
--- what an answer of `run_alone` says after it made k transitions
-abbrev pub Stops : Stepped → ℕ → ℕ → Standing → Type 0
-Stops Moved n k new = (k ≡ n) × (new.state.status ≡ running)
-Stops Ended n k new = (k ≤ n) × (new.state.status ≢ running)
-Stops Spent n k new = (k < n) × (new.state.status ≡ running) × (1000000 ≤ new.steps)
+-- What an answer of `run_alone` says after it made k transitions. Where the run has ended, these are all that the first n steps have.
+abbrev pub Stops : Stepped → ℕ → ℕ → Standing → Standing → Type 0
+Stops Moved n k old new = (k ≡ n) × (new.state.status ≡ running)
+Stops Ended n k old new = (k ≤ n) × (k ≡ step_count old.rules old.state n) × (new.state.status ≢ running)
+Stops Spent n k old new = (k < n) × (new.state.status ≡ running) × (1000000 ≤ new.steps)
 
 pub record Runs (r : Result Stepped AllocError) (n : ℕ) (old new : Standing) : Type 0 where
   pub further : Further (new.steps - old.steps) old new
-  pub stops : IfOk r (λ stepped. Stops stepped n (new.steps - old.steps) new)
+  pub stops : IfOk r (λ stepped. Stops stepped n (new.steps - old.steps) old new)
   pub fewer : OnErr r (new.steps - old.steps < n)

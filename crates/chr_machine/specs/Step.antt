@@ -4,7 +4,7 @@ use Rattle.chr_semantics.specs.Text.{line_texts, trace}
 use Rattle.chr_semantics.specs.State.{Element, State, goal, running, with_stack}
 use Rattle.chr_semantics.specs.Match.{Row}
 use Rattle.chr_semantics.specs.Trace.{line, line_top}
-use Rattle.chr_semantics.specs.Step.{step, step_top, after}
+use Rattle.chr_semantics.specs.Step.{step, step_top, after, steps as step_count}
 use Rattle.chr_machine.specs.Loaded.{names_of, rules_of}
 use Rattle.chr_rules.specs.View.{goal_view}
 use Rattle.chr_machine.specs.Slots.{next_of, rows_of}
@@ -69,15 +69,16 @@ StepIs Moved old new = Moves old new
 StepIs Ended old new = ((state_of old).status ≢ running) × Kept old new
 StepIs Spent old new = ((state_of old).status ≡ running) × (1000000 ≤ old.steps) × Kept old new
 
--- the new execution is n transitions further, and has their lines
+-- the new execution is n transitions further, each made from a running state, and has their lines
 pub record Ran {A : Type 0} (n : ℕ) (old new : Execution A) : Type 0 where
+  pub made : step_count (rules_of old.program.now) (state_of old) n ≡ n
   pub state : state_of new ≡ after (rules_of old.program.now) (state_of old) n
   pub lines : texts new.lines.items ≡ texts old.lines.items ++ trace (names_of old.program.now) old.var_names (rules_of old.program.now) (state_of old) (old.steps + 1) n
   pub steps : new.steps ≡ old.steps + n
   pub same : SameRun old new
 
 -- what the answer of a run of n says, after k transitions
-abbrev pub RunIs : {A : Type 0} → Stepped → ℕ → ℕ → Execution A → Type 0
-RunIs Moved n k m = (k ≡ n) × ((state_of m).status ≡ running)
-RunIs Ended n k m = (k ≤ n) × ((state_of m).status ≢ running)
-RunIs Spent n k m = (k < n) × ((state_of m).status ≡ running) × (1000000 ≤ m.steps)
+abbrev pub RunIs : {A : Type 0} → Stepped → ℕ → ℕ → Execution A → Execution A → Type 0
+RunIs Moved n k old new = (k ≡ n) × ((state_of new).status ≡ running)
+RunIs Ended n k old new = (k ≤ n) × (k ≡ step_count (rules_of old.program.now) (state_of old) n) × ((state_of new).status ≢ running)
+RunIs Spent n k old new = (k < n) × ((state_of new).status ≡ running) × (1000000 ≤ new.steps)

@@ -112,7 +112,7 @@ impl<'p, A: Allocator + Copy> Execution<'p, A> {
         requires small { next_of self.old.store ≤ self.old.steps + 1 }
         requires thin { IsThin (rules_of self.old.program.now) (state_of self.old) }
         ensures ran { Ran (self.new.steps - self.old.steps) self.old self.new }
-        ensures ok { IfOk result (λ stepped. RunIs stepped n (self.new.steps - self.old.steps) self.new) }
+        ensures ok { IfOk result (λ stepped. RunIs stepped n (self.new.steps - self.old.steps) self.old self.new) }
         ensures err { OnErr result (self.new.steps - self.old.steps < n) }
         ensures ready { IsReady self.new }
         ensures limit { self.new.steps ≤ 1000000 }

@@ -5,7 +5,7 @@ use Rattle.chr_semantics.specs.Tokens as token
 use Rattle.chr_semantics.specs.Tokens.{Place, Placed, at, Token, tokens}
 use Rattle.chr_semantics.specs.Syntax.{Program, Query}
 use Rattle.chr_semantics.specs.Grammar.{IsProgram, IsQuery, is_number}
-use Rattle.chr_semantics.specs.Reading.{Kind, IsRead, IsRefused, IsTooDeep, IsUnexpected, Within, bad_char, expected, kind_of, not_utf8, number_too_large, open_comment, too_deep, too_long}
+use Rattle.chr_semantics.specs.Reading.{ReadErrorKind, IsRead, IsRefused, IsTooDeep, IsUnexpected, Within, bad_char, expected, kind_of, not_utf8, number_too_large, open_comment, too_deep, too_long}
 use Rattle.chr_tokens.specs.View.{IsEnded, IsLast, placed_views}
 use Rattle.chr_tokens.specs.declared.token.Placed as code
 use Rattle.chr_read.specs.Machine as m
@@ -48,11 +48,11 @@ pub query_same : (p q : Query) → m.query p ≡ m.query q → p ≡ q
 query_same p q e = cc
 
 -- what a token at fault has to do with: never with the bytes, nor with brackets
-number_kind : (b : Bool) (k : Kind) → if b then expected else number_too_large ≡ k → (k ≡ expected → ⊥) → (k ≡ number_too_large → ⊥) → ⊥
+number_kind : (b : Bool) (k : ReadErrorKind) → if b then expected else number_too_large ≡ k → (k ≡ expected → ⊥) → (k ≡ number_too_large → ⊥) → ⊥
 number_kind true k e h i = h (sym e)
 number_kind false k e h i = i (sym e)
 
-of_token : (t : Token) (k : Kind) → kind_of t ≡ k → (k ≡ bad_char → ⊥) → (k ≡ open_comment → ⊥) → (k ≡ number_too_large → ⊥) → (k ≡ expected → ⊥) → ⊥
+of_token : (t : Token) (k : ReadErrorKind) → kind_of t ≡ k → (k ≡ bad_char → ⊥) → (k ≡ open_comment → ⊥) → (k ≡ number_too_large → ⊥) → (k ≡ expected → ⊥) → ⊥
 of_token (token.fault token.bad_character) k e a b c d = a (sym e)
 of_token (token.fault token.unclosed_comment) k e a b c d = b (sym e)
 of_token (token.fault token.too_large) k e a b c d = c (sym e)
@@ -121,7 +121,7 @@ module _ {S : Type 0} (Spelled : List Placed → S → Type 0) (l : Language) (t
   points d (TooDeep rest) i = deep_points rest.now i
 
   -- the text is refused so
-  refused_at : (k : Kind) (t : Token) (p : Place) → k ≡ kind_of t → IsUnexpected Spelled (tokens (chars bytes)) p t → IsRefused Spelled bytes k p
+  refused_at : (k : ReadErrorKind) (t : Token) (p : Place) → k ≡ kind_of t → IsUnexpected Spelled (tokens (chars bytes)) p t → IsRefused Spelled bytes k p
   refused_at not_utf8 t p e u = absurd (of_token t not_utf8 (sym e) (λ f. cc) (λ f. cc) (λ f. cc) (λ f. cc))
   refused_at too_long t p e u = absurd (of_token t too_long (sym e) (λ f. cc) (λ f. cc) (λ f. cc) (λ f. cc))
   refused_at too_deep t p e u = absurd (of_token t too_deep (sym e) (λ f. cc) (λ f. cc) (λ f. cc) (λ f. cc))
@@ -130,7 +130,7 @@ module _ {S : Type 0} (Spelled : List Placed → S → Type 0) (l : Language) (t
   refused_at number_too_large t p e u = (utf8, short, (t, e, u))
   refused_at expected t p e u = (utf8, short, (t, e, u))
 
-  refused_as : (e : ReadError) (k : Kind) (p : Place) → IsFault k p e → IsRefused Spelled bytes k p → IsRefusal Spelled bytes e
+  refused_as : (e : ReadError) (k : ReadErrorKind) (p : Place) → IsFault k p e → IsRefused Spelled bytes k p → IsRefusal Spelled bytes e
   refused_as e k p f r = subst (IsRefusedAs Spelled bytes (place_of e)) (sym f.0) (subst (IsRefused Spelled bytes k) (sym f.1) r)
 
   expected_refusal : (e : ReadError) (xs : List Placed) → read l ts ≡ m.expected xs → IsFirst kind_of xs e → IsRefusal Spelled bytes e

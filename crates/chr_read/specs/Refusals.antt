@@ -2,7 +2,7 @@
 use Rattle.std.specs.Prelude.{◌≡◌, ◌<◌, ℕ, List, Option, Some, None, Result, Ok, Err, length, ◌∷◌}
 use Rattle.chr_semantics.specs.Tokens as token
 use Rattle.chr_semantics.specs.Tokens.{Placed}
-use Rattle.chr_semantics.specs.Reading.{Kind, IsRefused, bad_char, expected, kind_of, not_utf8, number_too_large, open_comment, too_deep, too_long}
+use Rattle.chr_semantics.specs.Reading.{ReadErrorKind, IsRefused, bad_char, expected, kind_of, not_utf8, number_too_large, open_comment, too_deep, too_long}
 use Rattle.chr_tokens.specs.View.{placed_views}
 use Rattle.chr_tokens.specs.declared.text.Unread.{Unread}
 use Rattle.chr_tokens.specs.declared.text.Unread.TheVariants as Bytes
@@ -13,7 +13,7 @@ use Rattle.chr_read.specs.declared.halt.Halt.{Halt}
 use Rattle.chr_read.specs.declared.halt.Halt.TheVariants.{Memory, Expected, TooDeep}
 
 -- the kind of an error; want of memory is none of the definitions
-abbrev pub kind_view : ReadFault → Option Kind
+abbrev pub kind_view : ReadFault → Option ReadErrorKind
 kind_view Fault.NotUtf8 = Some not_utf8
 kind_view Fault.TooLong = Some too_long
 kind_view Fault.BadChar = Some bad_char
@@ -26,7 +26,7 @@ kind_view Fault.Memory = None
 abbrev pub place_of : ReadError → token.Place
 place_of e = record { line = e.line; column = e.column }
 
-abbrev pub IsRefusedAs : {S : Type 0} → (List Placed → S → Type 0) → List ℕ → token.Place → Option Kind → Type 0
+abbrev pub IsRefusedAs : {S : Type 0} → (List Placed → S → Type 0) → List ℕ → token.Place → Option ReadErrorKind → Type 0
 IsRefusedAs Spells text p None = p ≡ record { line = 0; column = 0 }
 IsRefusedAs Spells text p (Some kind) = IsRefused Spells text kind p
 
@@ -45,11 +45,11 @@ Points Memory = Unit {0}
 Points (Expected rest) = 0 < length rest.now
 Points (TooDeep rest) = 0 < length rest.now
 
-abbrev pub IsFault : Kind → token.Place → ReadError → Type 0
+abbrev pub IsFault : ReadErrorKind → token.Place → ReadError → Type 0
 IsFault k p e = (kind_view e.kind ≡ Some k) × (place_of e ≡ p)
 
 -- the first of the tokens is at fault
-abbrev pub IsFirst : (token.Token → Kind) → List Placed → ReadError → Type 0
+abbrev pub IsFirst : (token.Token → ReadErrorKind) → List Placed → ReadError → Type 0
 IsFirst kind (token.at p t ∷ ts) e = IsFault (kind t) p e
 IsFirst kind _ e = ⊥
 

@@ -5,7 +5,7 @@ use Rattle.std.specs.Prelude.{OnOk, Result, Ok, Err}
 use Rattle.chr_read.specs.View.{views}
 use Rattle.chr_read.specs.declared.syntax.Expr.{Expr as Code}
 use Rattle.chr_semantics.specs.Program.{Goal, constraint, fail}
-use Rattle.chr_semantics.specs.Meaning.{Scope, atom_from, called, count, head_of, test_of, goal_of, is_fail, is_ground_test, is_integer_test, is_true}
+use Rattle.chr_semantics.specs.Meaning.{Scope, atom_from, call_of, count, head_of, test_of, goal_of, is_fail, is_ground_test, is_integer_test, is_true}
 
 abbrev tests : List ℕ → ℕ → Bool
 tests w n = is_true w n || (is_integer_test w n || is_ground_test w n)
@@ -33,7 +33,7 @@ test_of_many s w (e ∷ []) h = absurd (omega (arith, h))
 test_of_many s w (e ∷ f ∷ es) h = refl
 
 -- the head of a name
-pub head_called : (s : Scope) (p : Bool) (e : Expr) (w : List ℕ) (es : Exprs) → called e ≡ Some (w, es) → head_of s p (plain e) ≡ ((atom_from s w es).0, record { atom = (atom_from s w es).1; passive = p } ∷ [])
+pub head_called : (s : Scope) (p : Bool) (e : Expr) (w : List ℕ) (es : Exprs) → call_of e ≡ Some (w, es) → head_of s p (plain e) ≡ ((atom_from s w es).0, record { atom = (atom_from s w es).1; passive = p } ∷ [])
 head_called s p e w es h = ap (λ o. elim o [ None ↦ (s, []) | Some c ↦ (let r = atom_from s c.0 c.1 in (r.0, record { atom = r.1; passive = p } ∷ [])) ]) h
 
 pub on_ok_answers : {T E : Type 0} (P Q : Type 0) (r : Result T E) → (P → Q) → OnOk r P → OnOk r Q

@@ -2,9 +2,10 @@
 use Rattle.std.proofs.Common.{◌≡◌, ◌∙◌, ◌<◌, ◌+◌, ℕ, List, ◌∷◌, Result, Ok, Err, length, get_or, drop, drop-cons, add-one, map, refl, ap, subst, sym}
 use Rattle.std.specs.Prelude.{IfErr}
 use Rattle.std.specs.Result.{IsErrAnd}
-use Rattle.chr_semantics.specs.Checked.{Refusal, each}
+use Rattle.chr_semantics.specs.Checked as semantics
+use Rattle.chr_semantics.specs.Checked.{each}
 use Rattle.chr_rules.specs.Checks.{IsError}
-use Rattle.chr_rules.specs.declared.error.RuleFault.TheVariants.{Memory}
+use Rattle.chr_rules.specs.declared.error.RuleErrorKind.TheVariants.{Memory}
 use Rattle.chr_rules.specs.declared.error.RuleError.{RuleError}
 
 dropped : {X Y : Type 0} (v : Y → X) (ys : List Y) (k : ℕ) (y : Y) → k < length ys → y ≡ get_or ys k y → map v (drop k ys) ≡ v y ∷ map v (drop (k + 1) ys)
@@ -18,16 +19,16 @@ pub each_more : {S X Y E : Type 0} (f : S → X → Result S E) (v : Y → X) (s
 each_more f v s t ys k y h e ok = ap (each f s) (dropped v ys k y h e) ∙ each_ok f s t (v y) (map v (drop (k + 1) ys)) ok
 
 -- want of memory is an answer to all
-pub want_answers : {S : Type 0} (r : Result S Refusal) → IsError (record { kind = Memory; line = 0; rule = 0 }) r
+pub want_answers : {S : Type 0} (r : Result S semantics.RuleError) → IsError (record { kind = Memory; line = 0; rule = 0 }) r
 want_answers (Ok s) = refl
 want_answers (Err r) = λ h. absurd (h refl)
 
-error_first : {S X : Type 0} (f : S → X → Result S Refusal) (s : S) (x : X) (xs : List X) (e : RuleError) (r : Result S Refusal) → f s x ≡ r → IsError e r → IsError e (each f s (x ∷ xs))
+error_first : {S X : Type 0} (f : S → X → Result S semantics.RuleError) (s : S) (x : X) (xs : List X) (e : RuleError) (r : Result S semantics.RuleError) → f s x ≡ r → IsError e r → IsError e (each f s (x ∷ xs))
 error_first f s x xs e (Ok t) h i = subst (λ q. IsError e (elim q [ Ok u ↦ each f u xs | Err b ↦ Err b ])) (sym h) (subst (λ d. IsError d (each f t xs)) (sym i) (want_answers (each f t xs)))
 error_first f s x xs e (Err r) h i = subst (λ q. IsError e (elim q [ Ok u ↦ each f u xs | Err b ↦ Err b ])) (sym h) i
 
 -- an element that is refused
-pub each_refused : {S X Y : Type 0} (f : S → X → Result S Refusal) (v : Y → X) (s : S) (ys : List Y) (k : ℕ) (y : Y) (e : RuleError) → k < length ys → y ≡ get_or ys k y → IsError e (f s (v y)) → IsError e (each f s (map v (drop k ys)))
+pub each_refused : {S X Y : Type 0} (f : S → X → Result S semantics.RuleError) (v : Y → X) (s : S) (ys : List Y) (k : ℕ) (y : Y) (e : RuleError) → k < length ys → y ≡ get_or ys k y → IsError e (f s (v y)) → IsError e (each f s (map v (drop k ys)))
 each_refused f v s ys k y e h at i = rw (dropped v ys k y h at) (error_first f s (v y) (map v (drop (k + 1) ys)) e (f s (v y)) refl i)
 
 -- what holds of the error that comes holds of the answer

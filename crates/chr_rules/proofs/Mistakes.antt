@@ -1,11 +1,12 @@
 -- The first of several mistakes.
 use Rattle.std.proofs.Common.{◌≡◌, ◌∙◌, List, [], ◌∷◌, ◌++◌, Bool, true, false, if◌then◌else◌, Option, Some, None, refl, ap, sym, option_map}
-use Rattle.chr_semantics.specs.Checked.{Mistake, first_of}
+use Rattle.chr_semantics.specs.Checked as semantics
+use Rattle.chr_semantics.specs.Checked.{first_of}
 use Rattle.chr_rules.specs.Checks.{fault_of}
-use Rattle.chr_rules.specs.declared.error.RuleFault.{RuleFault}
+use Rattle.chr_rules.specs.declared.error.RuleErrorKind.{RuleErrorKind}
 
 -- where the first of these is none, those behind decide
-pub first_after : (xs ys : List (Bool × Mistake)) → first_of xs ≡ None → first_of (xs ++ ys) ≡ first_of ys
+pub first_after : (xs ys : List (Bool × semantics.RuleErrorKind)) → first_of xs ≡ None → first_of (xs ++ ys) ≡ first_of ys
 first_after [] ys h = refl
 first_after (x ∷ xs) ys h = by x.0 (first_after xs ys) h
   where
@@ -13,7 +14,7 @@ first_after (x ∷ xs) ys h = by x.0 (first_after xs ys) h
     by true f e = cc
     by false f e = f e
 
-pub first_within : (xs ys : List (Bool × Mistake)) (m : Mistake) → first_of xs ≡ Some m → first_of (xs ++ ys) ≡ Some m
+pub first_within : (xs ys : List (Bool × semantics.RuleErrorKind)) (m : semantics.RuleErrorKind) → first_of xs ≡ Some m → first_of (xs ++ ys) ≡ Some m
 first_within [] ys m h = cc
 first_within (x ∷ xs) ys m h = by x.0 (first_within xs ys m) h
   where
@@ -21,11 +22,11 @@ first_within (x ∷ xs) ys m h = by x.0 (first_within xs ys m) h
     by true f e = e
     by false f e = f e
 
-pub no_fault : (o : Option Mistake) → None ≡ option_map fault_of o → o ≡ None
+pub no_fault : (o : Option semantics.RuleErrorKind) → None ≡ option_map fault_of o → o ≡ None
 no_fault None h = refl
 no_fault (Some m) h = cc
 
 -- a fault that is found in a part is that of the whole
-pub fault_of_part : (o p : Option Mistake) (f : RuleFault) → Some f ≡ option_map fault_of o → ((m : Mistake) → o ≡ Some m → p ≡ Some m) → option_map fault_of p ≡ Some f
+pub fault_of_part : (o p : Option semantics.RuleErrorKind) (f : RuleErrorKind) → Some f ≡ option_map fault_of o → ((m : semantics.RuleErrorKind) → o ≡ Some m → p ≡ Some m) → option_map fault_of p ≡ Some f
 fault_of_part None p f e h = cc
 fault_of_part (Some m) p f e h = ap (option_map fault_of) (h m refl) ∙ sym e

@@ -1,7 +1,8 @@
 -- One element more at the end.
 use Rattle.std.proofs.Common.{◌≡◌, ◌<◌, ◌∙◌, ◌+◌, ℕ, zero, suc, List, [], ◌∷◌, ◌++◌, Bool, Vec, length, refl, ap, arith}
 use Rattle.chr_semantics.specs.Tree.{Tree}
-use Rattle.chr_semantics.specs.Meaning.{node_of, pair_symbol}
+use Rattle.chr_semantics.specs.Meaning.{node_of}
+use Rattle.chr_semantics.specs.Names.{pair_symbol}
 use Rattle.chr_term.specs.declared.term.Sym.{Sym}
 use Rattle.chr_term.specs.declared.term.Term.{Term}
 use Rattle.chr_rules.specs.Turns.{listed}

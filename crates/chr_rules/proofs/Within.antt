@@ -6,7 +6,7 @@ use Rattle.chr_tokens.specs.declared.token.Multiplicative.{Multiplicative}
 use Rattle.chr_semantics.specs.Tokens as t
 use Rattle.chr_semantics.specs.Syntax as s
 use Rattle.chr_semantics.specs.Syntax.{Expr, exprs_of, list}
-use Rattle.chr_semantics.specs.Meaning.{called, count}
+use Rattle.chr_semantics.specs.Meaning.{call_of, count}
 use Rattle.chr_semantics.specs.Checked.{are_free, are_wide, is_free, is_wide}
 use Rattle.chr_tokens.specs.View.{additive_view, multiplicative_view}
 use Rattle.chr_read.specs.View.{additive_operands, multiplicative_operands, products, sums, view, views}
@@ -17,15 +17,15 @@ use Rattle.chr_read.specs.declared.syntax.Expr.{Expr as Code}
 use Rattle.chr_rules.specs.Operands.{operands}
 
 -- a list and a chain are no names
-pub called_list : (es : List Expr) → called (list es s.nil) ≡ None
+pub called_list : (es : List Expr) → call_of (list es s.nil) ≡ None
 called_list [] = refl
 called_list (e ∷ es) = refl
 
-pub called_sums : (e f : Expr) (o : t.Additive) (xs : List (Additive × Expr)) → called (sums (s.sum o e f) xs) ≡ None
+pub called_sums : (e f : Expr) (o : t.Additive) (xs : List (Additive × Expr)) → call_of (sums (s.sum o e f) xs) ≡ None
 called_sums e f o [] = refl
 called_sums e f o (x ∷ xs) = called_sums (s.sum o e f) x.1 _ xs
 
-pub called_products : (e f : Expr) (o : t.Multiplicative) (xs : List (Multiplicative × Expr)) → called (products (s.product o e f) xs) ≡ None
+pub called_products : (e f : Expr) (o : t.Multiplicative) (xs : List (Multiplicative × Expr)) → call_of (products (s.product o e f) xs) ≡ None
 called_products e f o [] = refl
 called_products e f o (x ∷ xs) = called_products (s.product o e f) x.1 _ xs
 
@@ -116,38 +116,38 @@ no_items [] h = refl
 no_items (x ∷ xs) h = absurd (omega (arith, h))
 
 -- a list with an end, or a chain, that has nothing else is its one part, and otherwise no name
-pub called_in_list : {A : Type 0} (e : Code A) (es : Vec (Code A) A) → e ≡ Listed es → called (view e) ≡ None
-called_in_list {A} e es h = ap (λ x. called (view x)) h ∙ ap called (view-List A es) ∙ called_list (views es.items)
+pub called_in_list : {A : Type 0} (e : Code A) (es : Vec (Code A) A) → e ≡ Listed es → call_of (view e) ≡ None
+called_in_list {A} e es h = ap (λ x. call_of (view x)) h ∙ ap call_of (view-List A es) ∙ called_list (views es.items)
 
-pub called_in_end : {A : Type 0} (e : Code A) (es : Vec (Code A) A) (end : Box (Code A) A) → e ≡ ListWithEnd es end → length es.items ≡ 0 → called (view e) ≡ called (view (box_value end))
-called_in_end {A} e es end h none = ap (λ x. called (view x)) h ∙ ap called (view-ListWithEnd A es end) ∙ ap (λ xs. called (list (views xs) (view (box_value end)))) (no_items es.items none)
+pub called_in_end : {A : Type 0} (e : Code A) (es : Vec (Code A) A) (end : Box (Code A) A) → e ≡ ListWithEnd es end → length es.items ≡ 0 → call_of (view e) ≡ call_of (view (box_value end))
+called_in_end {A} e es end h none = ap (λ x. call_of (view x)) h ∙ ap call_of (view-ListWithEnd A es end) ∙ ap (λ xs. call_of (list (views xs) (view (box_value end)))) (no_items es.items none)
 
-called_some : {A : Type 0} (es : List (Code A)) (end : Expr) → 0 < length es → called (list (views es) end) ≡ None
+called_some : {A : Type 0} (es : List (Code A)) (end : Expr) → 0 < length es → call_of (list (views es) end) ≡ None
 called_some [] end h = absurd (omega (arith, h))
 called_some (e ∷ es) end h = refl
 
-pub called_in_list_with_end : {A : Type 0} (e : Code A) (es : Vec (Code A) A) (end : Box (Code A) A) → e ≡ ListWithEnd es end → 0 < length es.items → called (view e) ≡ None
-called_in_list_with_end {A} e es end h some = ap (λ x. called (view x)) h ∙ ap called (view-ListWithEnd A es end) ∙ called_some es.items (view (box_value end)) some
+pub called_in_list_with_end : {A : Type 0} (e : Code A) (es : Vec (Code A) A) (end : Box (Code A) A) → e ≡ ListWithEnd es end → 0 < length es.items → call_of (view e) ≡ None
+called_in_list_with_end {A} e es end h some = ap (λ x. call_of (view x)) h ∙ ap call_of (view-ListWithEnd A es end) ∙ called_some es.items (view (box_value end)) some
 
-pub called_in_operand : {A : Type 0} (e : Code A) (f : Box (Code A) A) (xs : Vec (Additive × Code A) A) → e ≡ Sum f xs → length xs.items ≡ 0 → called (view e) ≡ called (view (box_value f))
-called_in_operand {A} e f xs h none = ap (λ x. called (view x)) h ∙ ap called (view-Sum A f xs) ∙ ap (λ os. called (sums (view (box_value f)) (additive_operands os))) (no_items xs.items none)
+pub called_in_operand : {A : Type 0} (e : Code A) (f : Box (Code A) A) (xs : Vec (Additive × Code A) A) → e ≡ Sum f xs → length xs.items ≡ 0 → call_of (view e) ≡ call_of (view (box_value f))
+called_in_operand {A} e f xs h none = ap (λ x. call_of (view x)) h ∙ ap call_of (view-Sum A f xs) ∙ ap (λ os. call_of (sums (view (box_value f)) (additive_operands os))) (no_items xs.items none)
 
-called_some_sums : {A : Type 0} (e : Expr) (xs : List (Additive × Code A)) → 0 < length xs → called (sums e (additive_operands xs)) ≡ None
+called_some_sums : {A : Type 0} (e : Expr) (xs : List (Additive × Code A)) → 0 < length xs → call_of (sums e (additive_operands xs)) ≡ None
 called_some_sums e [] h = absurd (omega (arith, h))
 called_some_sums e (x ∷ xs) h = called_sums e (view x.1) (additive_view x.0) (additive_operands xs)
 
-pub called_in_sum : {A : Type 0} (e : Code A) (f : Box (Code A) A) (xs : Vec (Additive × Code A) A) → e ≡ Sum f xs → 0 < length xs.items → called (view e) ≡ None
-called_in_sum {A} e f xs h some = ap (λ x. called (view x)) h ∙ ap called (view-Sum A f xs) ∙ called_some_sums (view (box_value f)) xs.items some
+pub called_in_sum : {A : Type 0} (e : Code A) (f : Box (Code A) A) (xs : Vec (Additive × Code A) A) → e ≡ Sum f xs → 0 < length xs.items → call_of (view e) ≡ None
+called_in_sum {A} e f xs h some = ap (λ x. call_of (view x)) h ∙ ap call_of (view-Sum A f xs) ∙ called_some_sums (view (box_value f)) xs.items some
 
-pub called_in_factor : {A : Type 0} (e : Code A) (f : Box (Code A) A) (xs : Vec (Multiplicative × Code A) A) → e ≡ Product f xs → length xs.items ≡ 0 → called (view e) ≡ called (view (box_value f))
-called_in_factor {A} e f xs h none = ap (λ x. called (view x)) h ∙ ap called (view-Product A f xs) ∙ ap (λ os. called (products (view (box_value f)) (multiplicative_operands os))) (no_items xs.items none)
+pub called_in_factor : {A : Type 0} (e : Code A) (f : Box (Code A) A) (xs : Vec (Multiplicative × Code A) A) → e ≡ Product f xs → length xs.items ≡ 0 → call_of (view e) ≡ call_of (view (box_value f))
+called_in_factor {A} e f xs h none = ap (λ x. call_of (view x)) h ∙ ap call_of (view-Product A f xs) ∙ ap (λ os. call_of (products (view (box_value f)) (multiplicative_operands os))) (no_items xs.items none)
 
-called_some_products : {A : Type 0} (e : Expr) (xs : List (Multiplicative × Code A)) → 0 < length xs → called (products e (multiplicative_operands xs)) ≡ None
+called_some_products : {A : Type 0} (e : Expr) (xs : List (Multiplicative × Code A)) → 0 < length xs → call_of (products e (multiplicative_operands xs)) ≡ None
 called_some_products e [] h = absurd (omega (arith, h))
 called_some_products e (x ∷ xs) h = called_products e (view x.1) (multiplicative_view x.0) (multiplicative_operands xs)
 
-pub called_in_product : {A : Type 0} (e : Code A) (f : Box (Code A) A) (xs : Vec (Multiplicative × Code A) A) → e ≡ Product f xs → 0 < length xs.items → called (view e) ≡ None
-called_in_product {A} e f xs h some = ap (λ x. called (view x)) h ∙ ap called (view-Product A f xs) ∙ called_some_products (view (box_value f)) xs.items some
+pub called_in_product : {A : Type 0} (e : Code A) (f : Box (Code A) A) (xs : Vec (Multiplicative × Code A) A) → e ≡ Product f xs → 0 < length xs.items → call_of (view e) ≡ None
+called_in_product {A} e f xs h some = ap (λ x. call_of (view x)) h ∙ ap call_of (view-Product A f xs) ∙ called_some_products (view (box_value f)) xs.items some
 
 -- a value of the code, by what it is
 pub call_is : {A : Type 0} (e : Code A) (w : String A) (es : Vec (Code A) A) → e ≡ Call w es → view e ≡ s.call (string_bytes w) (exprs_of (views es.items))

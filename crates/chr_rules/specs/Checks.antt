@@ -6,11 +6,13 @@ use Rattle.chr_semantics.specs.Program.{Program}
 use Rattle.chr_semantics.specs.Syntax as syntax
 use Rattle.chr_semantics.specs.Syntax.{Item}
 use Rattle.chr_semantics.specs.Meaning.{all_heads, has_backslash, propagates}
-use Rattle.chr_semantics.specs.Checked.{Mistake, undeclared, builtin_in_head, not_a_goal, not_a_test, guard_variable, guard_only, duplicate_name, too_many_heads, arity_too_large, too_many_rules, backslash_in_propagation, too_many_variables, Refusal, is_undeclared, is_built_in, is_no_goal, is_no_test, is_guard_only, is_free, is_wide, on_sides, head_items, has_label}
+use Rattle.chr_semantics.specs.Checked as semantics
+use Rattle.chr_semantics.specs.Checked.{undeclared, builtin_in_head, not_a_goal, not_a_test, guard_variable, guard_only, duplicate_name, too_many_heads, arity_too_large, too_many_rules, backslash_in_propagation, too_many_variables, is_undeclared, is_built_in, is_no_goal, is_no_test, is_guard_only, is_free, is_wide, on_sides, head_items, has_label}
+use Rattle.chr_semantics.specs.declared.limits.TheConstants.{MAX_HEADS, MAX_RULES}
 use Rattle.chr_rules.specs.declared.checks.Check.{Check}
 use Rattle.chr_rules.specs.declared.checks.Check.TheVariants as C
-use Rattle.chr_rules.specs.declared.error.RuleFault.{RuleFault}
-use Rattle.chr_rules.specs.declared.error.RuleFault.TheVariants as fault
+use Rattle.chr_rules.specs.declared.error.RuleErrorKind.{RuleErrorKind}
+use Rattle.chr_rules.specs.declared.error.RuleErrorKind.TheVariants as fault
 use Rattle.chr_rules.specs.declared.error.RuleError.{RuleError}
 
 abbrev pub check_view : {A : Type 0} → Check A → Item → Bool
@@ -23,7 +25,7 @@ check_view C.GuardOnly = is_guard_only
 check_view C.Wide = on_sides is_wide
 
 -- a mistake as it is answered
-abbrev pub fault_of : Mistake → RuleFault
+abbrev pub fault_of : semantics.RuleErrorKind → RuleErrorKind
 fault_of undeclared = fault.Undeclared
 fault_of builtin_in_head = fault.BuiltinInHead
 fault_of not_a_goal = fault.NotAGoal
@@ -37,20 +39,20 @@ fault_of too_many_rules = fault.TooManyRules
 fault_of backslash_in_propagation = fault.BackslashInPropagation
 fault_of too_many_variables = fault.TooManyVariables
 
-abbrev pub error_of : Refusal → RuleError
-error_of r = record { kind = fault_of r.mistake; line = r.line; rule = r.rule }
+abbrev pub error_of : semantics.RuleError → RuleError
+error_of r = record { kind = fault_of r.kind; line = r.line; rule = r.rule }
 
 -- the answer, unless memory was refused
-abbrev pub IsFault : RuleFault → Option Mistake → Type 0
+abbrev pub IsFault : RuleErrorKind → Option semantics.RuleErrorKind → Type 0
 IsFault f m = f ≢ fault.Memory → option_map fault_of m ≡ Some f
 
 -- Memory is answered with no line and no rule. Any other answer is the refusal.
-abbrev pub IsError : {S : Type 0} → RuleError → Result S Refusal → Type 0
+abbrev pub IsError : {S : Type 0} → RuleError → Result S semantics.RuleError → Type 0
 IsError e (Ok s) = e ≡ record { kind = fault.Memory; line = 0; rule = 0 }
 IsError e (Err r) = e ≢ record { kind = fault.Memory; line = 0; rule = 0 } → e ≡ error_of r
 
 -- what is wrong with the items of a rule, before its heads are looked at as such
-abbrev pub wrong_items : Names → ℕ → syntax.Rule → List (Bool × Mistake)
+abbrev pub wrong_items : Names → ℕ → syntax.Rule → List (Bool × semantics.RuleErrorKind)
 wrong_items names declared r =
     (list_any (is_undeclared names declared) (head_items r ++ r.body), undeclared) ∷
     (list_any is_built_in (head_items r), builtin_in_head) ∷
@@ -58,12 +60,12 @@ wrong_items names declared r =
     (list_any is_no_test r.guard, not_a_test) ∷ []
 
 -- what is wrong with a rule whose heads have these variables
-abbrev pub wrong_rule : List (List ℕ) → Program → syntax.Rule → List (Bool × Mistake)
+abbrev pub wrong_rule : List (List ℕ) → Program → syntax.Rule → List (Bool × semantics.RuleErrorKind)
 wrong_rule vars earlier r =
     (list_any (on_sides (is_free vars)) r.guard, guard_variable) ∷
     (list_any is_guard_only r.body, guard_only) ∷
     (has_label r.label earlier, duplicate_name) ∷
-    (nat_lt 8 (length (all_heads r)), too_many_heads) ∷
+    (nat_lt MAX_HEADS (length (all_heads r)), too_many_heads) ∷
     (list_any (on_sides is_wide) (head_items r ++ (r.guard ++ r.body)), arity_too_large) ∷
-    (nat_le 1024 (length earlier), too_many_rules) ∷
+    (nat_le MAX_RULES (length earlier), too_many_rules) ∷
     (propagates r.arrow && has_backslash r, backslash_in_propagation) ∷ []

@@ -1,8 +1,9 @@
 -- How lists of trees come about.
 use Rattle.std.specs.Prelude.{List, [], ◌∷◌}
+use Rattle.chr_semantics.specs.Names.{pair_symbol}
 use Rattle.chr_semantics.specs.Tree.{Tree}
 use Rattle.chr_semantics.specs.Syntax.{Expr}
-use Rattle.chr_semantics.specs.Meaning.{Scope, additive_symbol, multiplicative_symbol, node_of, pair_symbol, tree_from}
+use Rattle.chr_semantics.specs.Meaning.{Scope, additive_symbol, multiplicative_symbol, node_of, tree_from}
 use Rattle.chr_tokens.specs.View.{additive_view, multiplicative_view}
 use Rattle.chr_tokens.specs.declared.token.Additive.{Additive}
 use Rattle.chr_tokens.specs.declared.token.Multiplicative.{Multiplicative}

@@ -7,7 +7,7 @@ ghost use Rattle.chr_rules.specs.Checks.{IsError};
 ghost use Rattle.chr_rules.specs.View.{rules_view};
 
 use crate::builtins::is_builtin;
-use crate::error::{RuleError, RuleFault};
+use crate::error::{RuleError, RuleErrorKind};
 use crate::rule::Rule;
 use crate::rules::{count, rule};
 use crate::trees::symbol;
@@ -67,11 +67,11 @@ fn declare<A: Allocator + Copy>(
 {
     let name = declaration.name.as_str();
     if declaration.arity > 16 {
-        return Err(error(RuleFault::ArityTooLarge, line, 0));
+        return Err(error(RuleErrorKind::ArityTooLarge, line, 0));
     }
     let arity = declaration.arity as usize;
     if is_builtin(name, arity) {
-        return Err(error(RuleFault::BuiltinInHead, line, 0));
+        return Err(error(RuleErrorKind::BuiltinInHead, line, 0));
     }
     symbol(names, name, arity)?;
     Ok(())
@@ -135,11 +135,11 @@ fn add_rule<A: Allocator + Copy>(
 }
 
 /// A fault in this line and rule; want of memory has neither.
-pub(crate) fn error(kind: RuleFault, line: u64, rule: usize) -> RuleError
+pub(crate) fn error(kind: RuleErrorKind, line: u64, rule: usize) -> RuleError
     ensures { IsPlaced kind line rule result }
 {
     match kind {
-        RuleFault::Memory => RuleError {
+        RuleErrorKind::Memory => RuleError {
             kind,
             line: 0,
             rule: 0,

@@ -1,13 +1,13 @@
 //! Why a program or a query is not accepted, and where.
 ghost use Rattle.std.specs.Prelude.{◌≡◌};
-ghost use Rattle.chr_rules.specs.declared.error.RuleFault.TheVariants.{Memory as WantOfMemory};
+ghost use Rattle.chr_rules.specs.declared.error.RuleErrorKind.TheVariants.{Memory as WantOfMemory};
 
 use std::alloc::{AllocError, AllocFailed};
 use thiserror::Error;
 
 /// A mistake in a declaration, a rule or a query. Of several the first in this list is answered.
 #[derive(Clone, Copy, PartialEq, Eq, Debug, Drop, Error)]
-pub enum RuleFault {
+pub enum RuleErrorKind {
     /// A head or a goal is a name that is neither built in nor declared.
     #[error("Undeclared")]
     Undeclared,
@@ -49,19 +49,19 @@ pub enum RuleFault {
     Memory,
 }
 
-impl From<AllocError> for RuleFault {
+impl From<AllocError> for RuleErrorKind {
     ghost from_gives = { λ _ e. e ≡ WantOfMemory };
 
     fn from(_error: AllocError) -> Self {
-        RuleFault::Memory
+        RuleErrorKind::Memory
     }
 }
 
-impl<T: Drop> From<AllocFailed<T>> for RuleFault {
+impl<T: Drop> From<AllocFailed<T>> for RuleErrorKind {
     ghost from_gives = { λ _ e. e ≡ WantOfMemory };
 
     fn from(_error: AllocFailed<T>) -> Self {
-        RuleFault::Memory
+        RuleErrorKind::Memory
     }
 }
 
@@ -70,7 +70,7 @@ impl<T: Drop> From<AllocFailed<T>> for RuleFault {
 #[error("line {line} rule {rule}: {kind}")]
 pub struct RuleError {
     /// What is wrong.
-    pub kind: RuleFault,
+    pub kind: RuleErrorKind,
     /// The line, from 1, where the declarations, the rule or the query begins; 0 for `Memory`.
     pub line: u64,
     /// The number of the rule, from 1; 0 where it is in none.
@@ -82,7 +82,7 @@ impl From<AllocError> for RuleError {
 
     fn from(_error: AllocError) -> Self {
         RuleError {
-            kind: RuleFault::Memory,
+            kind: RuleErrorKind::Memory,
             line: 0,
             rule: 0,
         }
@@ -94,7 +94,7 @@ impl<T: Drop> From<AllocFailed<T>> for RuleError {
 
     fn from(_error: AllocFailed<T>) -> Self {
         RuleError {
-            kind: RuleFault::Memory,
+            kind: RuleErrorKind::Memory,
             line: 0,
             rule: 0,
         }

@@ -1,6 +1,6 @@
 //! Goals, tests and heads.
 ghost use Rattle.std.specs.Prelude.{◌≡◌, ◌++◌, ◌∷◌, [], IfOk, OnOk, map};
-ghost use Rattle.chr_semantics.specs.Meaning.{goal_from, goal_of, head_from, in_turn, scope, sides_from, test_alone, test_from, test_of, tested, told, with_turn};
+ghost use Rattle.chr_semantics.specs.Meaning.{goal_from, goal_of, head_from, in_turn, scope, sides_from, test_alone, test_from, test_of, relation_test, relation_goal, with_turn};
 ghost use Rattle.chr_semantics.specs.Syntax.{exprs_of};
 ghost use Rattle.chr_term.specs.View.{view};
 ghost use Rattle.chr_bind.specs.Guards.{test_view};
@@ -117,7 +117,7 @@ fn sides<'s, A: Allocator + Copy>(
 
 /// The goal that two sides make, if any.
 fn told<A: Allocator>(relation: Relation, left: Term<A>, right: Term<A>) -> Option<Goal<A>>
-    ensures { goals_of result ≡ told (relation_view relation) (view left) (view right) }
+    ensures { goals_of result ≡ relation_goal (relation_view relation) (view left) (view right) }
 {
     let op = match relation {
         Relation::Same => Op::Equal,
@@ -226,7 +226,7 @@ fn tested_alone<'s, A: Allocator + Copy>(
 
 /// The test that two sides make, if any.
 fn tested<A: Allocator>(relation: Relation, left: Term<A>, right: Term<A>) -> Option<Test<A>>
-    ensures { tests_of result ≡ tested (relation_view relation) (view left) (view right) }
+    ensures { tests_of result ≡ relation_test (relation_view relation) (view left) (view right) }
 {
     match relation {
         Relation::Same => Some(Test::Identical(left, right)),

@@ -15,7 +15,7 @@ mod rules;
 mod trees;
 mod variables;
 
-pub use error::{RuleError, RuleFault};
+pub use error::{RuleError, RuleErrorKind};
 pub use index::Occurrence;
 pub use program::Program;
 pub use rule::{Goal, Op, Query, Rule, copy_goals};

@@ -2,7 +2,7 @@
 ghost use Rattle.std.specs.Prelude.{◌≡◌, option_map};
 ghost use Rattle.std.specs.List.{list_any};
 ghost use Rattle.chr_semantics.specs.Checked.{are_free, are_wide, is_free, is_wide};
-ghost use Rattle.chr_semantics.specs.Meaning.{called};
+ghost use Rattle.chr_semantics.specs.Meaning.{call_of};
 ghost use Rattle.chr_semantics.specs.Syntax.{exprs_of};
 ghost use Rattle.chr_read.specs.View.{view, views};
 ghost use Rattle.chr_rules.specs.Operands.{operands};
@@ -15,7 +15,7 @@ use std::alloc::Allocator;
 /// The name and the arguments of an expression that is a name. A chain, or a list with an end, that has nothing else is its one part.
 #[cycle(called)]
 pub(crate) fn as_call<'e, A: Allocator>(expr: &'e Expr<A>) -> Option<(&'e str, &'e [Expr<A>])>
-    ensures { option_map (λ x. (x.0.now, exprs_of (views x.1.now))) result ≡ called (view expr.now) }
+    ensures { option_map (λ x. (x.0.now, exprs_of (views x.1.now))) result ≡ call_of (view expr.now) }
 {
     match expr {
         Expr::Variable(_) => None,

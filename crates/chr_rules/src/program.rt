@@ -7,7 +7,7 @@ ghost use Rattle.chr_rules.specs.Checks.{IsError};
 ghost use Rattle.chr_rules.specs.Grown.{Grows};
 ghost use Rattle.chr_rules.specs.Index.{AreListed, head_count, pair_of, pair_view, pairs_of, pairs_view};
 ghost use Rattle.chr_rules.specs.View.{query_view, rule_view, rules_view};
-ghost use Rattle.chr_rules.specs.declared.error.RuleFault.TheVariants.{Memory as WantOfMemory};
+ghost use Rattle.chr_rules.specs.declared.error.RuleErrorKind.TheVariants.{Memory as WantOfMemory};
 
 use crate::building::{declare_all, rules};
 use crate::error::RuleError;

@@ -1,17 +1,17 @@
 //! Queries.
 ghost use Rattle.std.specs.Prelude.{◌≡◌, ◌≢◌, IfErr, IfOk, Ok, option_map};
-ghost use Rattle.chr_semantics.specs.Checked.{checked_query, mistake_in_query, query_from};
+ghost use Rattle.chr_semantics.specs.Checked.{checked_query, error_in_query, query_from};
 ghost use Rattle.chr_semantics.specs.Program.{Program};
 ghost use Rattle.chr_read.specs.View.{item_views, query_view as syntax_query};
 ghost use Rattle.chr_rules.specs.Building.{checked_of};
 ghost use Rattle.chr_rules.specs.Checks.{fault_of, IsError};
 ghost use Rattle.chr_rules.specs.Grown.{Grows};
 ghost use Rattle.chr_rules.specs.View.{query_view};
-ghost use Rattle.chr_rules.specs.declared.error.RuleFault.TheVariants.{Memory as WantOfMemory};
+ghost use Rattle.chr_rules.specs.declared.error.RuleErrorKind.TheVariants.{Memory as WantOfMemory};
 
 use crate::building::error;
 use crate::checks::{Check, in_items};
-use crate::error::{RuleError, RuleFault};
+use crate::error::{RuleError, RuleErrorKind};
 use crate::goals::goals;
 use crate::rule::Query;
 use crate::variables::Variables;
@@ -61,20 +61,20 @@ fn wrong_goals<A: Allocator + Copy>(
     names: &Names<A>,
     declared: usize,
     items: &[Item<A>],
-) -> Option<RuleFault>
-    ensures { result ≡ option_map fault_of (mistake_in_query names.now declared (item_views items.now)) }
+) -> Option<RuleErrorKind>
+    ensures { result ≡ option_map fault_of (error_in_query names.now declared (item_views items.now)) }
 {
     if in_items(Check::Undeclared(names, declared), items) {
-        return Some(RuleFault::Undeclared);
+        return Some(RuleErrorKind::Undeclared);
     }
     if in_items(Check::NoGoal, items) {
-        return Some(RuleFault::NotAGoal);
+        return Some(RuleErrorKind::NotAGoal);
     }
     if in_items(Check::GuardOnly, items) {
-        return Some(RuleFault::GuardOnly);
+        return Some(RuleErrorKind::GuardOnly);
     }
     if in_items(Check::Wide, items) {
-        return Some(RuleFault::ArityTooLarge);
+        return Some(RuleErrorKind::ArityTooLarge);
     }
     None
 }

@@ -1,7 +1,7 @@
 //! One rule: what is wrong with it, or what it stands for.
 ghost use Rattle.std.specs.Prelude.{◌≡◌, ◌&&◌, ◌+◌, [], IfErr, IfOk, None, bytes_eq, length, option_map, string_bytes};
 ghost use Rattle.std.specs.List.{list_any};
-ghost use Rattle.chr_semantics.specs.Checked.{first_of, has_label, mistake_in_rule};
+ghost use Rattle.chr_semantics.specs.Checked.{first_of, has_label, error_in_rule};
 ghost use Rattle.chr_semantics.specs.Meaning.{all_heads, has_backslash, head_from, in_turn, kept_count, label_of, propagates, rule_from, scope};
 ghost use Rattle.chr_read.specs.View.{arrow_view, rule_view as syntax_rule};
 ghost use Rattle.chr_rules.specs.Checks.{IsFault, fault_of, wrong_items, wrong_rule};
@@ -9,7 +9,7 @@ ghost use Rattle.chr_rules.specs.Heads.{heads_of};
 ghost use Rattle.chr_rules.specs.View.{rule_view, rules_view};
 
 use crate::checks::{Check, in_all_heads, in_heads_and_body, in_items, in_rule};
-use crate::error::RuleFault;
+use crate::error::RuleErrorKind;
 use crate::goals::{Heads, add_heads, goals, no_heads, tests};
 use crate::rule::Rule;
 use crate::variables::Variables;
@@ -24,10 +24,10 @@ pub(crate) fn rule<'s, A: Allocator + Copy>(
     declared: usize,
     earlier: &[Rule<A>],
     written: &'s RuleSyntax<A>,
-) -> Result<Rule<A>, RuleFault>
-    ensures accepted { IfOk result (λ rule. mistake_in_rule names.old declared (rules_view earlier.now) (syntax_rule written.now) ≡ None) }
+) -> Result<Rule<A>, RuleErrorKind>
+    ensures accepted { IfOk result (λ rule. error_in_rule names.old declared (rules_view earlier.now) (syntax_rule written.now) ≡ None) }
     ensures rule { IfOk result (λ rule. (names.new, rule_view rule) ≡ rule_from names.old (length (rules_view earlier.now) + 1) (syntax_rule written.now)) }
-    ensures refused { IfErr result (λ fault. IsFault fault (mistake_in_rule names.old declared (rules_view earlier.now) (syntax_rule written.now))) }
+    ensures refused { IfErr result (λ fault. IsFault fault (error_in_rule names.old declared (rules_view earlier.now) (syntax_rule written.now))) }
 {
     if let Some(fault) = wrong_items(names, declared, written) {
         return Err(fault);
@@ -41,7 +41,7 @@ pub(crate) fn rule<'s, A: Allocator + Copy>(
     let guard = tests(alloc, names, &mut variables, written.guard.as_slice())?;
     let body = goals(alloc, names, &mut variables, written.body.as_slice())?;
     if variables.len() > 64 {
-        return Err(RuleFault::TooManyVariables);
+        return Err(RuleErrorKind::TooManyVariables);
     }
     Ok(Rule {
         label: label(alloc, count(earlier) + 1, &written.label)?,
@@ -87,20 +87,20 @@ fn wrong_items<A: Allocator + Copy>(
     names: &Names<A>,
     declared: usize,
     rule: &RuleSyntax<A>,
-) -> Option<RuleFault>
+) -> Option<RuleErrorKind>
     ensures { result ≡ option_map fault_of (first_of (wrong_items names.now declared (syntax_rule rule.now))) }
 {
     if in_heads_and_body(Check::Undeclared(names, declared), rule) {
-        return Some(RuleFault::Undeclared);
+        return Some(RuleErrorKind::Undeclared);
     }
     if in_all_heads(Check::BuiltIn, rule) {
-        return Some(RuleFault::BuiltinInHead);
+        return Some(RuleErrorKind::BuiltinInHead);
     }
     if in_heads_and_body(Check::NoGoal, rule) {
-        return Some(RuleFault::NotAGoal);
+        return Some(RuleErrorKind::NotAGoal);
     }
     if in_items(Check::NoTest, rule.guard.as_slice()) {
-        return Some(RuleFault::NotATest);
+        return Some(RuleErrorKind::NotATest);
     }
     None
 }
@@ -110,29 +110,29 @@ fn wrong_rule<A: Allocator + Copy>(
     variables: &Variables<'_, A>,
     earlier: &[Rule<A>],
     rule: &RuleSyntax<A>,
-) -> Option<RuleFault>
+) -> Option<RuleErrorKind>
     ensures { result ≡ option_map fault_of (first_of (wrong_rule variables.now (rules_view earlier.now) (syntax_rule rule.now))) }
 {
     if in_items(Check::Free(variables), rule.guard.as_slice()) {
-        return Some(RuleFault::GuardVariable);
+        return Some(RuleErrorKind::GuardVariable);
     }
     if in_items(Check::GuardOnly, rule.body.as_slice()) {
-        return Some(RuleFault::GuardOnly);
+        return Some(RuleErrorKind::GuardOnly);
     }
     if has_label(&rule.label, earlier) {
-        return Some(RuleFault::DuplicateName);
+        return Some(RuleErrorKind::DuplicateName);
     }
     if head_count(rule) > 8 {
-        return Some(RuleFault::TooManyHeads);
+        return Some(RuleErrorKind::TooManyHeads);
     }
     if in_rule(Check::Wide, rule) {
-        return Some(RuleFault::ArityTooLarge);
+        return Some(RuleErrorKind::ArityTooLarge);
     }
     if count(earlier) >= 1024 {
-        return Some(RuleFault::TooManyRules);
+        return Some(RuleErrorKind::TooManyRules);
     }
     if keeps_and_removes(rule) {
-        return Some(RuleFault::BackslashInPropagation);
+        return Some(RuleErrorKind::BackslashInPropagation);
     }
     None
 }

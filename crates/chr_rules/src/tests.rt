@@ -813,25 +813,25 @@ fn query_errors(rt: HostRuntime) -> Result<(), Fail> {
 #[test]
 fn rule_fault_words(rt: HostRuntime) -> Result<(), Fail> {
     for (kind, wanted) in [
-        (RuleFault::Undeclared, "line 3 rule 14: Undeclared"),
-        (RuleFault::BuiltinInHead, "line 3 rule 14: BuiltinInHead"),
-        (RuleFault::NotAGoal, "line 3 rule 14: NotAGoal"),
-        (RuleFault::NotATest, "line 3 rule 14: NotATest"),
-        (RuleFault::GuardVariable, "line 3 rule 14: GuardVariable"),
-        (RuleFault::GuardOnly, "line 3 rule 14: GuardOnly"),
-        (RuleFault::DuplicateName, "line 3 rule 14: DuplicateName"),
-        (RuleFault::TooManyHeads, "line 3 rule 14: TooManyHeads"),
-        (RuleFault::ArityTooLarge, "line 3 rule 14: ArityTooLarge"),
-        (RuleFault::TooManyRules, "line 3 rule 14: TooManyRules"),
+        (RuleErrorKind::Undeclared, "line 3 rule 14: Undeclared"),
+        (RuleErrorKind::BuiltinInHead, "line 3 rule 14: BuiltinInHead"),
+        (RuleErrorKind::NotAGoal, "line 3 rule 14: NotAGoal"),
+        (RuleErrorKind::NotATest, "line 3 rule 14: NotATest"),
+        (RuleErrorKind::GuardVariable, "line 3 rule 14: GuardVariable"),
+        (RuleErrorKind::GuardOnly, "line 3 rule 14: GuardOnly"),
+        (RuleErrorKind::DuplicateName, "line 3 rule 14: DuplicateName"),
+        (RuleErrorKind::TooManyHeads, "line 3 rule 14: TooManyHeads"),
+        (RuleErrorKind::ArityTooLarge, "line 3 rule 14: ArityTooLarge"),
+        (RuleErrorKind::TooManyRules, "line 3 rule 14: TooManyRules"),
         (
-            RuleFault::BackslashInPropagation,
+            RuleErrorKind::BackslashInPropagation,
             "line 3 rule 14: BackslashInPropagation",
         ),
         (
-            RuleFault::TooManyVariables,
+            RuleErrorKind::TooManyVariables,
             "line 3 rule 14: TooManyVariables",
         ),
-        (RuleFault::Memory, "line 3 rule 14: Memory"),
+        (RuleErrorKind::Memory, "line 3 rule 14: Memory"),
     ] {
         let alone = format!(in rt.alloc(); "line 3 rule 14: {kind}")?;
         assert_eq!(&rt; alone.as_str(), wanted);

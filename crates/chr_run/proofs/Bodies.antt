@@ -7,10 +7,10 @@ use Rattle.chr_semantics.specs.Program.{Goal, constraint, tell, evaluate, compar
 use Rattle.chr_semantics.specs.Match.{Row}
 use Rattle.chr_semantics.specs.Subst.{value_at}
 use Rattle.chr_semantics.specs.State.{Element, State, goal, known, active, resolved_atom, rows}
-use Rattle.chr_semantics.specs.Step.{replaced_goal}
+use Rattle.chr_semantics.specs.Step.{goal_instance}
 use Rattle.chr_semantics.specs.Text.{lines_text, part, element_text, binding_text, bindings_from, status_text, entry_text, outcome}
 use Rattle.chr_machine.specs.State.{elem_view, stack_onto, stack_view}
-use Rattle.chr_machine.proofs.Resolved.{resolved_none, replaced_none}
+use Rattle.chr_machine.proofs.Resolved.{resolved_none, instance_of_none}
 use Rattle.chr_run.specs.Stored.{plain_text, rows_text}
 use Rattle.std.proofs.lemmas.List.{length-map}
 use Rattle.chr_run.specs.Body.{body}
@@ -53,11 +53,11 @@ length-onto (e ∷ es) below = omega (arith, length-onto es (elem_view e ∷ bel
 pub length-stack : {A : Type 0} (f : Element → List ℕ) (es : List (Elem A)) → length es ≡ length (map f (stack_view es))
 length-stack f es = omega (arith, length-onto es [], length-map (stack_view es) f)
 
-goal_plain : (g : Goal) → replaced_goal (value_at []) g ≡ g
+goal_plain : (g : Goal) → goal_instance (value_at []) g ≡ g
 goal_plain (constraint a) = ap constraint (resolved_none a)
-goal_plain (tell t u) = rw (replaced_none t, replaced_none u)
-goal_plain (evaluate t u) = rw (replaced_none t, replaced_none u)
-goal_plain (compare c t u) = rw (replaced_none t, replaced_none u)
+goal_plain (tell t u) = rw (instance_of_none t, instance_of_none u)
+goal_plain (evaluate t u) = rw (instance_of_none t, instance_of_none u)
+goal_plain (compare c t u) = rw (instance_of_none t, instance_of_none u)
 goal_plain fail = refl
 
 element_plain : (names : Names) (vars : VarNames) (e : Element) → element_text names vars [] e ≡ plain_text names vars e

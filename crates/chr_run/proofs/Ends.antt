@@ -93,19 +93,19 @@ has_run names p q k old new at far = record {
   steps_are = omega (arith, far.steps_are, at.steps_are);
 }
 
-covers_stopped : (p : Program) (s : State) (k n : ℕ) (r : Stepped) (new : Standing) → new.state ≡ after p s k → new.steps ≡ k → n ≤ 1000000 → Stops r n k new → Covers p s k n
-covers_stopped p s k n Moved new state steps limit h = covers_same p s k n h.0
-covers_stopped p s k n Ended new state steps limit h = covers_ended p s k n h.0 (λ e. h.1 (ap (λ (t : State). t.status) state ∙ e))
-covers_stopped p s k n Spent new state steps limit h = absurd (omega (arith, h.0, h.2, steps, limit))
+covers_stopped : (p : Program) (s : State) (k n : ℕ) (r : Stepped) (old new : Standing) → new.state ≡ after p s k → new.steps ≡ k → n ≤ 1000000 → Stops r n k old new → Covers p s k n
+covers_stopped p s k n Moved old new state steps limit h = covers_same p s k n h.0
+covers_stopped p s k n Ended old new state steps limit h = covers_ended p s k n h.0 (λ e. h.2 (ap (λ (t : State). t.status) state ∙ e))
+covers_stopped p s k n Spent old new state steps limit h = absurd (omega (arith, h.0, h.2, steps, limit))
 
 -- where it stopped for a budget of n, it shows the text and the status of n transitions
 pub record Shows (names : Names) (p : Program) (q : Query) (n : ℕ) (s : Standing) : Type 0 where
   pub text_is : lines_text (s.lines ++ outcome s.names s.var_names s.rules s.state) ≡ text names p q n
   pub status_is : s.state.status ≡ (after p (start q) n).status
 
-pub shows : (names : Names) (p : Program) (q : Query) (k n : ℕ) (r : Stepped) (s : Standing) → HasRun names p q k s → n ≤ 1000000 → Stops r n k s → Shows names p q n s
-shows names p q k n r s ran limit h =
-    let covers = covers_stopped p (start q) k n r s ran.state ran.steps_are limit h in
+pub shows : (names : Names) (p : Program) (q : Query) (k n : ℕ) (r : Stepped) (old s : Standing) → HasRun names p q k s → n ≤ 1000000 → Stops r n k old s → Shows names p q n s
+shows names p q k n r old s ran limit h =
+    let covers = covers_stopped p (start q) k n r old s ran.state ran.steps_are limit h in
     record {
       text_is =
           ap (λ ls. lines_text (ls ++ outcome s.names s.var_names s.rules s.state)) (ran.lines ∙ sym (covers.lines names q.var_names))

@@ -4,8 +4,8 @@ use Rattle.std.specs.Fmt.{decimal}
 use Rattle.std.specs.Io.KnownBytes.{Appends, Keeps}
 use Rattle.chr_read.specs.declared.error.ReadFault.{ReadFault}
 use Rattle.chr_read.specs.declared.error.ReadFault.TheVariants as read
-use Rattle.chr_rules.specs.declared.error.RuleFault.{RuleFault}
-use Rattle.chr_rules.specs.declared.error.RuleFault.TheVariants as rule
+use Rattle.chr_rules.specs.declared.error.RuleErrorKind.{RuleErrorKind}
+use Rattle.chr_rules.specs.declared.error.RuleErrorKind.TheVariants as rule
 use Rattle.chr_machine.specs.declared.state.Status.{Status}
 use Rattle.chr_machine.specs.declared.state.Status.TheVariants.{Running, Done, Failed, Faulted}
 use Rattle.chr_words.specs.Answer.{budget_of}
@@ -54,7 +54,7 @@ read_word read.Expected = codes "Expected"
 read_word read.TooDeep = codes "TooDeep"
 read_word read.Memory = codes "Memory"
 
-abbrev pub rule_word : RuleFault → List ℕ
+abbrev pub rule_word : RuleErrorKind → List ℕ
 rule_word rule.Undeclared = codes "Undeclared"
 rule_word rule.BuiltinInHead = codes "BuiltinInHead"
 rule_word rule.NotAGoal = codes "NotAGoal"

@@ -7,7 +7,7 @@ ghost use Rattle.chr_run.specs.Output.{AppendsPart};
 use crate::output::write_bytes;
 use crate::texts::{RunError, TextError};
 use chr_read::ReadFault;
-use chr_rules::RuleFault;
+use chr_rules::RuleErrorKind;
 use chr_term::Memory;
 use std::alloc::Global;
 use std::io::Write;
@@ -37,23 +37,23 @@ fn read_word(fault: ReadFault) -> &'static str
     }
 }
 
-fn rule_word(fault: RuleFault) -> &'static str
+fn rule_word(fault: RuleErrorKind) -> &'static str
     ensures { result.now ≡ rule_word fault }
 {
     match fault {
-        RuleFault::Undeclared => "Undeclared",
-        RuleFault::BuiltinInHead => "BuiltinInHead",
-        RuleFault::NotAGoal => "NotAGoal",
-        RuleFault::NotATest => "NotATest",
-        RuleFault::GuardVariable => "GuardVariable",
-        RuleFault::GuardOnly => "GuardOnly",
-        RuleFault::DuplicateName => "DuplicateName",
-        RuleFault::TooManyHeads => "TooManyHeads",
-        RuleFault::ArityTooLarge => "ArityTooLarge",
-        RuleFault::TooManyRules => "TooManyRules",
-        RuleFault::BackslashInPropagation => "BackslashInPropagation",
-        RuleFault::TooManyVariables => "TooManyVariables",
-        RuleFault::Memory => "Memory",
+        RuleErrorKind::Undeclared => "Undeclared",
+        RuleErrorKind::BuiltinInHead => "BuiltinInHead",
+        RuleErrorKind::NotAGoal => "NotAGoal",
+        RuleErrorKind::NotATest => "NotATest",
+        RuleErrorKind::GuardVariable => "GuardVariable",
+        RuleErrorKind::GuardOnly => "GuardOnly",
+        RuleErrorKind::DuplicateName => "DuplicateName",
+        RuleErrorKind::TooManyHeads => "TooManyHeads",
+        RuleErrorKind::ArityTooLarge => "ArityTooLarge",
+        RuleErrorKind::TooManyRules => "TooManyRules",
+        RuleErrorKind::BackslashInPropagation => "BackslashInPropagation",
+        RuleErrorKind::TooManyVariables => "TooManyVariables",
+        RuleErrorKind::Memory => "Memory",
     }
 }
 

@@ -1,7 +1,7 @@
 use super::*;
 use chr_machine::Status;
 use chr_read::{ReadError, ReadFault};
-use chr_rules::{RuleError, RuleFault};
+use chr_rules::{RuleError, RuleErrorKind};
 use chr_term::Memory;
 use refusing_alloc::Refusing;
 use std::alloc::{Allocator, Global};
@@ -225,7 +225,7 @@ fn unread(kind: ReadFault, line: u64, column: u64) -> ReadError {
     ReadError { kind, line, column }
 }
 
-fn mistaken(kind: RuleFault, line: u64, rule: usize) -> RuleError {
+fn mistaken(kind: RuleErrorKind, line: u64, rule: usize) -> RuleError {
     RuleError { kind, line, rule }
 }
 
@@ -271,7 +271,7 @@ fn texts_in_order(rt: HostRuntime) {
         (
             mistake,
             "p(",
-            TextError::Rules(mistaken(RuleFault::Undeclared, 2, 1)),
+            TextError::Rules(mistaken(RuleErrorKind::Undeclared, 2, 1)),
         ),
         (
             declared,
@@ -281,12 +281,12 @@ fn texts_in_order(rt: HostRuntime) {
         (
             declared,
             "q(1).",
-            TextError::Goals(mistaken(RuleFault::Undeclared, 1, 0)),
+            TextError::Goals(mistaken(RuleErrorKind::Undeclared, 1, 0)),
         ),
         (
             performed_never,
             "q.",
-            TextError::Goals(mistaken(RuleFault::Undeclared, 1, 0)),
+            TextError::Goals(mistaken(RuleErrorKind::Undeclared, 1, 0)),
         ),
         (performed_never, "p(1).", TextError::NotYet),
     ] {

@@ -7,13 +7,13 @@ use Rattle.std.proofs.lemmas.List.Elements.{filter-append}
 use Rattle.std.specs.List.{list_any}
 use Rattle.std.specs.Prelude.{filter}
 use Rattle.chr_semantics.specs.Footprint.{Ascends, IsSound}
-use Rattle.chr_semantics.specs.Guard.{compared}
+use Rattle.chr_semantics.specs.Guard.{comparison_holds}
 use Rattle.chr_semantics.specs.Match.{Row}
 use Rattle.chr_semantics.specs.Mgu.{mgu}
 use Rattle.chr_semantics.specs.Program.{Atom, Comparison, Goal, Head, Program, compare, constraint, evaluate, fail, tell}
 use Rattle.chr_semantics.specs.Search.{Found, atom_of, firing, has_number, ids_of, no_firing, no_occurrence}
 use Rattle.chr_semantics.specs.State.{Element, State, Status, active, done, failed, faulted, goal, known, resolved_atom, rows, running}
-use Rattle.chr_semantics.specs.Step.{after, decided, evaluated, search_at, search_step, solve, step, step_at, step_top, told}
+use Rattle.chr_semantics.specs.Step.{after, compare_step, evaluate_step, search_at, search_step, solve, step, step_at, step_top, bind_step}
 use Rattle.chr_semantics.specs.Subst.{Subst, apply}
 use Rattle.chr_semantics.specs.Touch.{rule, Mark, goal_touches, symbol, touched_any, touches, touches_at, touches_top}
 use Rattle.chr_semantics.specs.Tree.{Tree, int}
@@ -44,11 +44,11 @@ pub record Stays (s t : State) : Type 0 where
   pub lacks : (keep : ℕ → Bool) (i : ℕ) → has_kept keep i s.store ≡ false → has_kept keep i t.store ≡ false
   pub next : t.next_id ≡ s.next_id
 
-stays_told : (s : State) (rest : List Element) (m : Option Subst) → Stays s (told s rest m)
+stays_told : (s : State) (rest : List Element) (m : Option Subst) → Stays s (bind_step s rest m)
 stays_told s rest None = record { lacks = λ keep i h. h; next = refl }
 stays_told s rest (Some r) = record { lacks = λ keep i h. h; next = refl }
 
-stays_evaluated : (s : State) (rest : List Element) (x : Tree) (v : Result ℤ Fault) → Stays s (evaluated s rest x v)
+stays_evaluated : (s : State) (rest : List Element) (x : Tree) (v : Result ℤ Fault) → Stays s (evaluate_step s rest x v)
 stays_evaluated s rest x (Err e) = record { lacks = λ keep i h. h; next = refl }
 stays_evaluated s rest x (Ok z) = stays_told s rest (mgu s.subst x (int z))
 
@@ -56,10 +56,10 @@ stays_either : (b : Bool) (s t u : State) → Stays s t → Stays s u → Stays 
 stays_either true s t u h k = h
 stays_either false s t u h k = k
 
-stays_decided : (s : State) (rest : List Element) (c : Comparison) (v w : Result ℤ Fault) → Stays s (decided s rest c v w)
+stays_decided : (s : State) (rest : List Element) (c : Comparison) (v w : Result ℤ Fault) → Stays s (compare_step s rest c v w)
 stays_decided s rest c (Err e) w = record { lacks = λ keep i h. h; next = refl }
 stays_decided s rest c (Ok x) (Err e) = record { lacks = λ keep i h. h; next = refl }
-stays_decided s rest c (Ok x) (Ok y) = stays_either (compared c x y) s _ _ (record { lacks = λ keep i h. h; next = refl }) (record { lacks = λ keep i h. h; next = refl })
+stays_decided s rest c (Ok x) (Ok y) = stays_either (comparison_holds c x y) s _ _ (record { lacks = λ keep i h. h; next = refl }) (record { lacks = λ keep i h. h; next = refl })
 
 lacks_filter_at : (b c : Bool) (keep : ℕ → Bool) (i : ℕ) (x : Row) (ys : List Row) → (x.0 == i && keep x.1.sym) ≡ c → c ≡ false → has_kept keep i ys ≡ false → has_kept keep i (cond b (x ∷ ys) ys) ≡ false
 lacks_filter_at true c keep i x ys is e h = rw (is ∙ e) h

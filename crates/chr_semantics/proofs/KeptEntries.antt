@@ -1,11 +1,11 @@
 -- A transition that does not fire a rule leaves the entries of that rule as they were.
 use Rattle.std.proofs.Common.{Bool, Err, List, None, Ok, Option, Result, Some, [], ap, cond, false, refl, true, ℕ, ℤ, ◌++◌, ◌==◌, ◌∷◌, ◌≡◌}
-use Rattle.chr_semantics.specs.Guard.{compared}
+use Rattle.chr_semantics.specs.Guard.{comparison_holds}
 use Rattle.chr_semantics.specs.Mgu.{mgu}
 use Rattle.chr_semantics.specs.Program.{Atom, Comparison, Goal, Program, compare, constraint, evaluate, fail, tell}
 use Rattle.chr_semantics.specs.Search.{Found, History, firing, ids_of, no_firing, no_occurrence}
 use Rattle.chr_semantics.specs.State.{Element, State, Status, active, done, failed, faulted, goal, known, running}
-use Rattle.chr_semantics.specs.Step.{decided, evaluated, search_at, search_step, solve, step, step_at, step_top, told}
+use Rattle.chr_semantics.specs.Step.{compare_step, evaluate_step, search_at, search_step, solve, step, step_at, step_top, bind_step}
 use Rattle.chr_semantics.specs.Subst.{Subst, apply}
 use Rattle.chr_semantics.specs.Touch.{rule, found_touches, touches, touches_at, touches_top}
 use Rattle.chr_semantics.specs.Tree.{Tree, int}
@@ -13,11 +13,11 @@ use Rattle.chr_semantics.specs.Value.{Fault, value}
 use Rattle.chr_semantics.proofs.FirstTuple.{entries}
 
 -- the history
-told_history : (s : State) (rest : List Element) (m : Option Subst) → (told s rest m).history ≡ s.history
+told_history : (s : State) (rest : List Element) (m : Option Subst) → (bind_step s rest m).history ≡ s.history
 told_history s rest None = refl
 told_history s rest (Some r) = refl
 
-evaluated_history : (s : State) (rest : List Element) (x : Tree) (v : Result ℤ Fault) → (evaluated s rest x v).history ≡ s.history
+evaluated_history : (s : State) (rest : List Element) (x : Tree) (v : Result ℤ Fault) → (evaluate_step s rest x v).history ≡ s.history
 evaluated_history s rest x (Err e) = refl
 evaluated_history s rest x (Ok z) = told_history s rest (mgu s.subst x (int z))
 
@@ -25,10 +25,10 @@ either_history : (b : Bool) (t u : State) (h : History) → t.history ≡ h → 
 either_history true t u h e f = e
 either_history false t u h e f = f
 
-decided_history : (s : State) (rest : List Element) (c : Comparison) (v w : Result ℤ Fault) → (decided s rest c v w).history ≡ s.history
+decided_history : (s : State) (rest : List Element) (c : Comparison) (v w : Result ℤ Fault) → (compare_step s rest c v w).history ≡ s.history
 decided_history s rest c (Err e) w = refl
 decided_history s rest c (Ok x) (Err e) = refl
-decided_history s rest c (Ok x) (Ok y) = either_history (compared c x y) _ _ s.history refl refl
+decided_history s rest c (Ok x) (Ok y) = either_history (comparison_holds c x y) _ _ s.history refl refl
 
 pub goal_history : (s : State) (rest : List Element) (g : Goal) → (solve s rest g).history ≡ s.history
 goal_history s rest (constraint a) = refl

@@ -4,14 +4,14 @@ use Rattle.std.proofs.lemmas.Bool.{eq-eqb, not-false, or_parts}
 use Rattle.std.proofs.lemmas.Bool.Decides.{Decides-eqb}
 use Rattle.std.specs.List.{list_any}
 use Rattle.std.specs.Prelude.{filter}
-use Rattle.chr_semantics.specs.Guard.{compared}
+use Rattle.chr_semantics.specs.Guard.{comparison_holds}
 use Rattle.chr_semantics.specs.Match.{Row}
 use Rattle.chr_semantics.specs.Mgu.{mgu}
 use Rattle.chr_semantics.specs.Program.{Atom, Comparison, Goal, Head, Program, compare, constraint, evaluate, fail, tell}
 use Rattle.chr_semantics.specs.Search.{Found, firing, has_number, ids_of, no_firing, no_occurrence}
 use Rattle.chr_semantics.specs.State.{Element, State, Status, active, done, failed, faulted, goal, known, rows, running}
-use Rattle.chr_semantics.specs.Step.{decided, evaluated, search_at, search_step, solve, step, step_at, step_top, told}
-use Rattle.chr_semantics.specs.Subst.{IsSolved, Solves, Subst, apply, replaced_all, value_at}
+use Rattle.chr_semantics.specs.Step.{compare_step, evaluate_step, search_at, search_step, solve, step, step_at, step_top, bind_step}
+use Rattle.chr_semantics.specs.Subst.{IsSolved, Solves, Subst, apply, instances, value_at}
 use Rattle.chr_semantics.specs.Touch.{Mark, binds, found_touches, goal_touches, has_open, symbol, touches, touches_at, touches_top}
 use Rattle.chr_semantics.specs.Tree.{Tree, int, is_ground_trees}
 use Rattle.chr_semantics.specs.Value.{Fault, value}
@@ -30,13 +30,13 @@ kept_rows keep s = filter (of_kept keep) (rows s)
 
 -- built-ins
 abbrev is_open : Subst → Row → Bool
-is_open s r = not (is_ground_trees (replaced_all (value_at s) r.1.args))
+is_open s r = not (is_ground_trees (instances (value_at s) r.1.args))
 
-ground_row : (s : Subst) (x : Row) (b : Bool) → b ≡ true → (b && is_open s x) ≡ false → is_ground_trees (replaced_all (value_at s) x.1.args) ≡ true
-ground_row s x true is h = not-false (is_ground_trees (replaced_all (value_at s) x.1.args)) h
+ground_row : (s : Subst) (x : Row) (b : Bool) → b ≡ true → (b && is_open s x) ≡ false → is_ground_trees (instances (value_at s) x.1.args) ≡ true
+ground_row s x true is h = not-false (is_ground_trees (instances (value_at s) x.1.args)) h
 ground_row s x false is h = absurd (true≢false (sym is))
 
-same_atom_of : (s r : Subst) (x : Row) → replaced_all (value_at r) x.1.args ≡ replaced_all (value_at s) x.1.args → resolved_row r x ≡ resolved_row s x
+same_atom_of : (s r : Subst) (x : Row) → instances (value_at r) x.1.args ≡ instances (value_at s) x.1.args → resolved_row r x ≡ resolved_row s x
 same_atom_of s r x e = ap (λ ts. (x.0, record { sym = x.1.sym; args = ts })) e
 
 bound_at : (b : Bool) (x y : Row) (xs ys : List Row) → (b ≡ true → x ≡ y) → xs ≡ ys → cond b (x ∷ xs) xs ≡ cond b (y ∷ ys) ys
@@ -56,12 +56,12 @@ kept_told_at : (b : Bool) (keep : ℕ → Bool) (s r : Subst) (xs : List Row) �
 kept_told_at true keep s r xs h same free = kept_bound keep s r xs h free
 kept_told_at false keep s r xs h same free = ap (λ (u : Subst). filter (of_kept keep) (map (resolved_row u) xs)) (same refl)
 
-kept_told : (keep : ℕ → Bool) (s : State) (rest : List Element) (t u : Tree) (m : Option Subst) → IsSolved s.subst → mgu s.subst t u ≡ m → ((f : ℕ) → keep f ≡ true → (binds s (told s rest m) && has_open s f) ≡ false) → kept_rows keep (told s rest m) ≡ kept_rows keep s
+kept_told : (keep : ℕ → Bool) (s : State) (rest : List Element) (t u : Tree) (m : Option Subst) → IsSolved s.subst → mgu s.subst t u ≡ m → ((f : ℕ) → keep f ≡ true → (binds s (bind_step s rest m) && has_open s f) ≡ false) → kept_rows keep (bind_step s rest m) ≡ kept_rows keep s
 kept_told keep s rest t u None h is free = refl
 kept_told keep s rest t u (Some r) h is free =
     kept_told_at (nat_lt (length s.subst) (length r)) keep s.subst r s.store (mgu_makes_equal s.subst t u h r is).1 (mgu_same s.subst t u r is) free
 
-kept_evaluated : (keep : ℕ → Bool) (s : State) (rest : List Element) (x : Tree) (v : Result ℤ Fault) → IsSolved s.subst → ((f : ℕ) → keep f ≡ true → (binds s (evaluated s rest x v) && has_open s f) ≡ false) → kept_rows keep (evaluated s rest x v) ≡ kept_rows keep s
+kept_evaluated : (keep : ℕ → Bool) (s : State) (rest : List Element) (x : Tree) (v : Result ℤ Fault) → IsSolved s.subst → ((f : ℕ) → keep f ≡ true → (binds s (evaluate_step s rest x v) && has_open s f) ≡ false) → kept_rows keep (evaluate_step s rest x v) ≡ kept_rows keep s
 kept_evaluated keep s rest x (Err e) h free = refl
 kept_evaluated keep s rest x (Ok z) h free = kept_told keep s rest x (int z) (mgu s.subst x (int z)) h refl free
 
@@ -69,10 +69,10 @@ kept_decided_at : (b : Bool) (keep : ℕ → Bool) (s : State) (t u : State) →
 kept_decided_at true keep s t u h k = ap (filter (of_kept keep)) h
 kept_decided_at false keep s t u h k = ap (filter (of_kept keep)) k
 
-kept_decided : (keep : ℕ → Bool) (s : State) (rest : List Element) (c : Comparison) (v w : Result ℤ Fault) → kept_rows keep (decided s rest c v w) ≡ kept_rows keep s
+kept_decided : (keep : ℕ → Bool) (s : State) (rest : List Element) (c : Comparison) (v w : Result ℤ Fault) → kept_rows keep (compare_step s rest c v w) ≡ kept_rows keep s
 kept_decided keep s rest c (Err e) w = refl
 kept_decided keep s rest c (Ok x) (Err e) = refl
-kept_decided keep s rest c (Ok x) (Ok y) = kept_decided_at (compared c x y) keep s _ _ refl refl
+kept_decided keep s rest c (Ok x) (Ok y) = kept_decided_at (comparison_holds c x y) keep s _ _ refl refl
 
 -- a new constraint
 one_out : (keep : ℕ → Bool) (x : Row) (b : Bool) → keep x.1.sym ≡ b → ((f : ℕ) → keep f ≡ true → (x.1.sym == f) ≡ false) → b ≡ false

@@ -1,6 +1,6 @@
 -- A lemma whose name ends in `_at` goes by cases on a test of the lemma behind it, with the equation of the test as an argument.
 pub mod Lists
-pub mod Replaced
+pub mod Instances
 pub mod Apart
 pub mod UnifierGeneral
 pub mod UnifierEqual

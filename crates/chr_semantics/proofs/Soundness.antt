@@ -3,13 +3,13 @@ use Rattle.std.proofs.Common.{Bool, Err, List, None, Ok, Option, Result, Some, [
 use Rattle.std.proofs.lemmas.Bool.Decides.{Decides-eqb}
 use Rattle.std.specs.Prelude.{filter}
 use Rattle.chr_semantics.specs.Footprint.{Agrees, AgreesAt, Ascends, IsGoalOf, IsSound}
-use Rattle.chr_semantics.specs.Guard.{compared}
+use Rattle.chr_semantics.specs.Guard.{comparison_holds}
 use Rattle.chr_semantics.specs.Match.{Row}
 use Rattle.chr_semantics.specs.Mgu.{mgu}
 use Rattle.chr_semantics.specs.Program.{Query, Atom, Comparison, Goal, Program, compare, constraint, evaluate, fail, tell}
 use Rattle.chr_semantics.specs.Search.{Found, atom_of, firing, has_number, ids_of, no_firing, no_occurrence}
 use Rattle.chr_semantics.specs.State.{Element, State, Status, active, done, failed, faulted, goal, known, running, start}
-use Rattle.chr_semantics.specs.Step.{after, decided, evaluated, search_at, search_step, solve, step, step_at, step_top, told, woken}
+use Rattle.chr_semantics.specs.Step.{after, compare_step, evaluate_step, search_at, search_step, solve, step, step_at, step_top, bind_step, woken_elements}
 use Rattle.chr_semantics.specs.Subst.{Subst, apply}
 use Rattle.chr_semantics.specs.Tree.{Tree, int}
 use Rattle.chr_semantics.specs.Value.{Fault, value}
@@ -74,14 +74,14 @@ agrees_woken store n test (r ∷ rs) h = woken_at (test r) store n r (filter tes
 abbrev RestAgrees : State → List Element → Type 0
 RestAgrees s rest = Agrees s.store s.next_id rest
 
-wakes : (s : State) (rest : List Element) → IsSound s → RestAgrees s rest → RestAgrees s (woken s ++ rest)
-wakes s rest h k = agrees_append s.store s.next_id (woken s) rest (agrees_woken s.store s.next_id _ s.store (all_in 0 s.next_id s.store h.ascends)) k
+wakes : (s : State) (rest : List Element) → IsSound s → RestAgrees s rest → RestAgrees s (woken_elements s ++ rest)
+wakes s rest h k = agrees_append s.store s.next_id (woken_elements s) rest (agrees_woken s.store s.next_id _ s.store (all_in 0 s.next_id s.store h.ascends)) k
 
-sound_told : (s : State) (rest : List Element) (t u : Tree) (m : Option Subst) → IsSound s → RestAgrees s rest → mgu s.subst t u ≡ m → IsSound (told s rest m)
+sound_told : (s : State) (rest : List Element) (t u : Tree) (m : Option Subst) → IsSound s → RestAgrees s rest → mgu s.subst t u ≡ m → IsSound (bind_step s rest m)
 sound_told s rest t u None h k is = record { solved = h.solved; ascends = h.ascends; agrees = h.agrees }
 sound_told s rest t u (Some r) h k is = record { solved = (mgu_makes_equal s.subst t u h.solved r is).0; ascends = h.ascends; agrees = wakes s rest h k }
 
-sound_evaluated : (s : State) (rest : List Element) (x : Tree) (v : Result ℤ Fault) → IsSound s → RestAgrees s rest → IsSound (evaluated s rest x v)
+sound_evaluated : (s : State) (rest : List Element) (x : Tree) (v : Result ℤ Fault) → IsSound s → RestAgrees s rest → IsSound (evaluate_step s rest x v)
 sound_evaluated s rest x (Err e) h k = record { solved = h.solved; ascends = h.ascends; agrees = h.agrees }
 sound_evaluated s rest x (Ok z) h k = sound_told s rest x (int z) (mgu s.subst x (int z)) h k refl
 
@@ -89,11 +89,11 @@ sound_either : (b : Bool) (t u : State) → IsSound t → IsSound u → IsSound 
 sound_either true t u h k = h
 sound_either false t u h k = k
 
-sound_decided : (s : State) (rest : List Element) (c : Comparison) (v w : Result ℤ Fault) → IsSound s → RestAgrees s rest → IsSound (decided s rest c v w)
+sound_decided : (s : State) (rest : List Element) (c : Comparison) (v w : Result ℤ Fault) → IsSound s → RestAgrees s rest → IsSound (compare_step s rest c v w)
 sound_decided s rest c (Err e) w h k = record { solved = h.solved; ascends = h.ascends; agrees = h.agrees }
 sound_decided s rest c (Ok x) (Err e) h k = record { solved = h.solved; ascends = h.ascends; agrees = h.agrees }
 sound_decided s rest c (Ok x) (Ok y) h k =
-    sound_either (compared c x y) _ _ (record { solved = h.solved; ascends = h.ascends; agrees = wakes s rest h k }) (record { solved = h.solved; ascends = h.ascends; agrees = h.agrees })
+    sound_either (comparison_holds c x y) _ _ (record { solved = h.solved; ascends = h.ascends; agrees = wakes s rest h k }) (record { solved = h.solved; ascends = h.ascends; agrees = h.agrees })
 
 sound_goal : (s : State) (rest : List Element) (g : Goal) → IsSound s → RestAgrees s rest → IsSound (solve s rest g)
 sound_goal s rest (constraint a) h k = record {

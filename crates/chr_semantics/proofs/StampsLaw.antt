@@ -4,7 +4,7 @@ use Rattle.std.proofs.lemmas.Bool.{and_from, and_parts, eq-eqb, eqb-true, or_par
 use Rattle.std.proofs.lemmas.Bool.Decides.{Decides-eqb}
 use Rattle.std.specs.Prelude.{IsTrue, ◌↔◌}
 use Rattle.std.specs.List.{list_any, list_all}
-use Rattle.chr_semantics.specs.Footprint.{added, StampsLaw, IsSound}
+use Rattle.chr_semantics.specs.Footprint.{marks_added, StampsLaw, IsSound}
 use Rattle.chr_semantics.specs.Program.{Occurrence, occurrence, Atom, Head, Program}
 use Rattle.chr_semantics.specs.Search.{atom_of}
 use Rattle.chr_semantics.specs.State.{resolved_atom, State, rows}
@@ -24,7 +24,7 @@ touched_more p q n x = count-add p (λ t. touches p t x) q n 1 ∙ omega arith
 -- each count has risen by what an Activate of the symbol f adds
 abbrev pub AddsOne : Program → State → ℕ → ℕ → List Mark → Type 0
 AddsOne p s m f [] = Unit {0}
-AddsOne p s m f (x ∷ xs) = (touched p s m x ≡ added f x) × AddsOne p s m f xs
+AddsOne p s m f (x ∷ xs) = (touched p s m x ≡ marks_added f x) × AddsOne p s m f xs
 
 none_each : (p : Program) (s : State) (m : ℕ) (marks : List Mark) → list_any (touches p s) marks ≡ false → NoneTouched p (step p s) m marks → NoneTouched p s (suc m) marks
 none_each p s m [] h k = tt
@@ -73,7 +73,7 @@ guest_counts p r hs i b (suc n) s h next k found e =
     (λ next' e'. guest_counts p r hs i b n (step p s) (sound_step p s h) next' k found e')
 
 -- the converse
-added_at : (t : Bool) (f : ℕ) (x : Mark) (m : ℕ) → cond t 1 0 + m ≡ added f x → (t ≡ true → x ≡ symbol f)
+added_at : (t : Bool) (f : ℕ) (x : Mark) (m : ℕ) → cond t 1 0 + m ≡ marks_added f x → (t ≡ true → x ≡ symbol f)
 added_at true f (rule r) m e is = absurd (omega (arith, e))
 added_at true f (symbol g) m e is = by_test (f == g) refl e
   where
@@ -106,7 +106,7 @@ counts_skip : (p : Program) (s : State) (m f : ℕ) (marks : List Mark) → list
 counts_skip p s m f [] h k = tt
 counts_skip p s m f (x ∷ xs) h k =
     let r = or_parts (touches p s x) (list_any (touches p s) xs) h in
-    let e : 0 + touched p (step p s) m x ≡ added f x = rw r.0 at k.0 in
+    let e : 0 + touched p (step p s) m x ≡ marks_added f x = rw r.0 at k.0 in
     (omega (arith, e), counts_skip p s m f xs r.1 k.1)
 
 any_at : (t : Bool) (p : Program) (s : State) (m f : ℕ) (marks : List Mark) → list_any (touches p s) marks ≡ t → AddsOne p s (suc m) f marks → (AddsOne p (step p s) m f marks → touched_any p (step p s) m marks ≡ 1) → cond t 1 0 + touched_any p (step p s) m marks ≡ 1
@@ -135,19 +135,19 @@ same_counts p q k m (x ∷ xs) h =
     let none : touched p (after p q k) m x ≡ 0 = h.0 in
     and_from (touched p q k x == touched p q (k + m) x) _ (eq-eqb (touched p q k x) (touched p q (k + m) x) (omega (arith, f, none))) (same_counts p q k m xs h.1)
 
-risen_counts : (p : Program) (q : State) (k m f : ℕ) (marks : List Mark) → AddsOne p (after p q k) m f marks → list_all (λ x. touched p q k x + added f x == touched p q (k + m) x) marks ≡ true
+risen_counts : (p : Program) (q : State) (k m f : ℕ) (marks : List Mark) → AddsOne p (after p q k) m f marks → list_all (λ x. touched p q k x + marks_added f x == touched p q (k + m) x) marks ≡ true
 risen_counts p q k m f [] h = refl
 risen_counts p q k m f (x ∷ xs) h =
     let e : touched p q (k + m) x ≡ touched p q k x + touched p (after p q k) m x = count-add p (λ t. touches p t x) q k m in
-    let rise : touched p (after p q k) m x ≡ added f x = h.0 in
-    and_from (touched p q k x + added f x == touched p q (k + m) x) _ (eq-eqb (touched p q k x + added f x) (touched p q (k + m) x) (omega (arith, e, rise))) (risen_counts p q k m f xs h.1)
+    let rise : touched p (after p q k) m x ≡ marks_added f x = h.0 in
+    and_from (touched p q k x + marks_added f x == touched p q (k + m) x) _ (eq-eqb (touched p q k x + marks_added f x) (touched p q (k + m) x) (omega (arith, e, rise))) (risen_counts p q k m f xs h.1)
 
-AddsOne-from_counts : (p : Program) (q : State) (k m f : ℕ) (marks : List Mark) → list_all (λ x. touched p q k x + added f x == touched p q (k + m) x) marks ≡ true → AddsOne p (after p q k) m f marks
+AddsOne-from_counts : (p : Program) (q : State) (k m f : ℕ) (marks : List Mark) → list_all (λ x. touched p q k x + marks_added f x == touched p q (k + m) x) marks ≡ true → AddsOne p (after p q k) m f marks
 AddsOne-from_counts p q k m f [] h = tt
 AddsOne-from_counts p q k m f (x ∷ xs) h =
-    let r = and_parts (touched p q k x + added f x == touched p q (k + m) x) _ h in
+    let r = and_parts (touched p q k x + marks_added f x == touched p q (k + m) x) _ h in
     let e : touched p q (k + m) x ≡ touched p q k x + touched p (after p q k) m x = count-add p (λ t. touches p t x) q k m in
-    let rise : touched p q k x + added f x ≡ touched p q (k + m) x = eqb-true (touched p q k x + added f x) (touched p q (k + m) x) r.0 in
+    let rise : touched p q k x + marks_added f x ≡ touched p q (k + m) x = eqb-true (touched p q k x + marks_added f x) (touched p q (k + m) x) r.0 in
     (omega (arith, e, rise), AddsOne-from_counts p q k m f xs r.1)
 
 untouched_is : (p : Program) (q : State) (k m : ℕ) (marks : List Mark) → IsTrue (list_all (λ x. touched p q k x == touched p q (k + m) x) marks) ↔ (touched_any p (after p q k) m marks ≡ 0)
@@ -155,7 +155,7 @@ untouched_is p q k m marks =
     (λ h. touched_any_none p m (after p q k) marks (NoneTouched-from_counts p q k m marks h), λ e. same_counts p q k m marks (NoneTouched-from_any p m (after p q k) marks e))
 
 activated_is : (p : Program) (q : State) (k m i j : ℕ) (a : Atom) (o : Occurrence) → IsSound q → (after p q k).next_id ≡ i → atom_of (after p q (k + m)).store i ≡ Some a → occurrence p a.sym j ≡ Some o
-    → IsTrue (list_all (λ x. touched p q k x + added a.sym x == touched p q (k + m) x) (marks_of o.number o.rule.heads)) ↔ (touched_any p (after p q k) m (marks_of o.number o.rule.heads) ≡ 1)
+    → IsTrue (list_all (λ x. touched p q k x + marks_added a.sym x == touched p q (k + m) x) (marks_of o.number o.rule.heads)) ↔ (touched_any p (after p q k) m (marks_of o.number o.rule.heads) ≡ 1)
 activated_is p q k m i j a o h next lives is =
     let s = after p q k in
     let marks = marks_of o.number o.rule.heads in
@@ -169,5 +169,5 @@ pub stamps_law : StampsLaw
 stamps_law = record {
   grows = touched_more;
   untouched = untouched_is;
-  activated = λ p q k m i j a o h next lives is. subst (λ (xs : List Mark). IsTrue (list_all (λ x. touched p q k x + added a.sym x == touched p q (k + m) x) xs) ↔ (touched_any p (after p q k) m xs ≡ 1)) (sym (footprint_is p (after p q (k + m)) i j a o lives is)) (activated_is p q k m i j a o h next lives is);
+  activated = λ p q k m i j a o h next lives is. subst (λ (xs : List Mark). IsTrue (list_all (λ x. touched p q k x + marks_added a.sym x == touched p q (k + m) x) xs) ↔ (touched_any p (after p q k) m xs ≡ 1)) (sym (footprint_is p (after p q (k + m)) i j a o lives is)) (activated_is p q k m i j a o h next lives is);
 }

@@ -4,11 +4,11 @@ use Rattle.std.proofs.lemmas.Bool.{eq-eqb, or_parts}
 use Rattle.std.proofs.lemmas.Bool.Decides.{Decides-eqb}
 use Rattle.std.specs.Ordering.{int_eq}
 use mathlib.Core.Path.{fun_ext}
-use Rattle.chr_semantics.specs.Mgu.{solved, Equations, apart, apart_all, apart_under, both, mgu, of_var, solved_from}
-use Rattle.chr_semantics.specs.Subst.{IsSolved, Solves, Subst, apply, bound, occurs, occurs_any, replaced, replaced_all, value_at}
+use Rattle.chr_semantics.specs.Mgu.{elimination, Equations, apart, apart_all, apart_under, both, mgu, of_var, elimination_from}
+use Rattle.chr_semantics.specs.Subst.{IsSolved, Solves, Subst, apply, with_binding, occurs, occurs_any, instance, instances, value_at}
 use Rattle.chr_semantics.specs.Tree.{Tree, Trees, int, more, node, none, var}
 use Rattle.chr_semantics.proofs.Apart.{Holds, HoldsIn, apart_equal, apart_under_equal}
-use Rattle.chr_semantics.proofs.Replaced.{Solves-one, replaced-replaced, replaced-solves, value_at-others}
+use Rattle.chr_semantics.proofs.Instances.{Solves-one, instance-instance, instance-solves, value_at-others}
 use Rattle.chr_semantics.proofs.UnifierGeneral.{gives_step}
 
 -- one pair
@@ -21,7 +21,7 @@ mutual
   apply_absent x u (int z) h = refl
   apply_absent x u (node g ts) h = ap (node g) (apply_absent_all x u ts h)
 
-  apply_absent_all : (x : ℕ) (u : Tree) (ts : Trees) → occurs_any x ts ≡ false → replaced_all (value_at (one x u)) ts ≡ ts
+  apply_absent_all : (x : ℕ) (u : Tree) (ts : Trees) → occurs_any x ts ≡ false → instances (value_at (one x u)) ts ≡ ts
   apply_absent_all x u none h = refl
   apply_absent_all x u (more t ts) h = let r = or_parts (occurs x t) (occurs_any x ts) h in cc (apply_absent x u t r.0, apply_absent_all x u ts r.1)
 
@@ -67,7 +67,7 @@ mutual
   apart_stays s (node g ts) (int w) h k = tt
   apart_stays s (node g ts) (node i us) h k = tested_stays (g == i) s (apart_all ts us) (apart_all_stays s ts us (cc) (cc))
 
-  apart_all_stays : (s : Subst) (ts us : Trees) → replaced_all (value_at s) ts ≡ ts → replaced_all (value_at s) us ≡ us → UnderIn s (apart_all ts us)
+  apart_all_stays : (s : Subst) (ts us : Trees) → instances (value_at s) ts ≡ ts → instances (value_at s) us ≡ us → UnderIn s (apart_all ts us)
   apart_all_stays s none none h k = tt
   apart_all_stays s none (more u us) h k = tt
   apart_all_stays s (more t ts) none h k = tt
@@ -83,7 +83,7 @@ mutual
   closed s x u (int z) h k = refl
   closed s x u (node g ts) h k = ap (node g) (closed_all s x u ts h (cc))
 
-  closed_all : (s : Subst) (x : ℕ) (u : Tree) (ws : Trees) → apply s u ≡ u → replaced_all (value_at s) ws ≡ ws → replaced_all (value_at s) (replaced_all (value_at (one x u)) ws) ≡ replaced_all (value_at (one x u)) ws
+  closed_all : (s : Subst) (x : ℕ) (u : Tree) (ws : Trees) → apply s u ≡ u → instances (value_at s) ws ≡ ws → instances (value_at s) (instances (value_at (one x u)) ws) ≡ instances (value_at (one x u)) ws
   closed_all s x u none h k = refl
   closed_all s x u (more w ws) h k = cc (closed s x u w h (cc), closed_all s x u ws h (cc))
 
@@ -97,7 +97,7 @@ pub record IsFree (s : Subst) (x : ℕ) (u : Tree) : Type 0 where
 pub here : (x : ℕ) (u t : Tree) → cond (x == x) u t ≡ u
 here x u t = rw (eq-eqb x x refl)
 
-bound_at : (b : Bool) (s : Subst) (x y : ℕ) (u : Tree) → (x == y) ≡ b → value_at s x ≡ var x → value_at (bound x u s) y ≡ apply (one x u) (value_at s y)
+bound_at : (b : Bool) (s : Subst) (x y : ℕ) (u : Tree) → (x == y) ≡ b → value_at s x ≡ var x → value_at (with_binding x u s) y ≡ apply (one x u) (value_at s y)
 bound_at true s x y u is h =
     let same : x ≡ y = (Decides-eqb x y).0 is in
     let free : value_at s y ≡ var y = subst (λ v. value_at s v ≡ var v) same h in
@@ -105,30 +105,30 @@ bound_at true s x y u is h =
 bound_at false s x y u is h = rw is (value_at-others x y u s is)
 
 -- what a variable stands for after x was bound
-pub bound_is : (s : Subst) (x : ℕ) (u : Tree) → value_at s x ≡ var x → (y : ℕ) → value_at (bound x u s) y ≡ apply (one x u) (value_at s y)
+pub bound_is : (s : Subst) (x : ℕ) (u : Tree) → value_at s x ≡ var x → (y : ℕ) → value_at (with_binding x u s) y ≡ apply (one x u) (value_at s y)
 bound_is s x u h y = bound_at (x == y) s x y u refl h
 
-pub apply-bound : (s : Subst) (x : ℕ) (u : Tree) → value_at s x ≡ var x → (t : Tree) → apply (bound x u s) t ≡ apply (one x u) (apply s t)
-apply-bound s x u h t = ap (λ (g : ℕ → Tree). replaced g t) (fun_ext (bound_is s x u h)) ∙ sym (replaced-replaced (value_at (one x u)) (value_at s) t)
+pub apply-bound : (s : Subst) (x : ℕ) (u : Tree) → value_at s x ≡ var x → (t : Tree) → apply (with_binding x u s) t ≡ apply (one x u) (apply s t)
+apply-bound s x u h t = ap (λ (g : ℕ → Tree). instance g t) (fun_ext (bound_is s x u h)) ∙ sym (instance-instance (value_at (one x u)) (value_at s) t)
 
 one_solved : (x : ℕ) (u : Tree) → occurs x u ≡ false → IsSolved (one x u)
 one_solved x u h = Solves-one (value_at (one x u)) x u (here x u (var x) ∙ sym (apply_absent x u u h))
 
-closed_again : (s : Subst) (x : ℕ) (u : Tree) → IsFree s x u → (w : Tree) → apply s w ≡ w → apply (bound x u s) (apply (one x u) w) ≡ apply (one x u) w
+closed_again : (s : Subst) (x : ℕ) (u : Tree) → IsFree s x u → (w : Tree) → apply s w ≡ w → apply (with_binding x u s) (apply (one x u) w) ≡ apply (one x u) w
 closed_again s x u f w k =
-    apply-bound s x u f.free (apply (one x u) w) ∙ ap (apply (one x u)) (closed s x u w f.closed_under k) ∙ replaced-solves (value_at (one x u)) (one x u) (one_solved x u f.absent) w
+    apply-bound s x u f.free (apply (one x u) w) ∙ ap (apply (one x u)) (closed s x u w f.closed_under k) ∙ instance-solves (value_at (one x u)) (one x u) (one_solved x u f.absent) w
 
 -- binding a free variable keeps the substitution solved
-pub bound_solved : (s : Subst) (x : ℕ) (u : Tree) → IsFree s x u → IsSolved s → IsSolved (bound x u s)
-bound_solved s x u f h y = let e = bound_is s x u f.free y in ap (apply (bound x u s)) e ∙ closed_again s x u f (value_at s y) (h y) ∙ sym e
+pub bound_solved : (s : Subst) (x : ℕ) (u : Tree) → IsFree s x u → IsSolved s → IsSolved (with_binding x u s)
+bound_solved s x u f h y = let e = bound_is s x u f.free y in ap (apply (with_binding x u s)) e ∙ closed_again s x u f (value_at s y) (h y) ∙ sym e
 
-under_bound : (s : Subst) (x : ℕ) (u : Tree) → IsFree s x u → (es : Equations) → Under s es → UnderIn (bound x u s) (apart_under (one x u) es)
+under_bound : (s : Subst) (x : ℕ) (u : Tree) → IsFree s x u → (es : Equations) → Under s es → UnderIn (with_binding x u s) (apart_under (one x u) es)
 under_bound s x u f [] h = tt
 under_bound s x u f (e ∷ es) h =
-    UnderIn-both (bound x u s) (apart (value_at (one x u) e.0) (apply (one x u) e.1)) (apart_under (one x u) es) (apart_stays (bound x u s) (value_at (one x u) e.0) (apply (one x u) e.1) (closed_again s x u f (var e.0) h.0) (closed_again s x u f e.1 h.1)) (under_bound s x u f es h.2)
+    UnderIn-both (with_binding x u s) (apart (value_at (one x u) e.0) (apply (one x u) e.1)) (apart_under (one x u) es) (apart_stays (with_binding x u s) (value_at (one x u) e.0) (apply (one x u) e.1) (closed_again s x u f (var e.0) h.0) (closed_again s x u f e.1 h.1)) (under_bound s x u f es h.2)
 
 -- the eliminations keep it solved and make the equations equal
-pub solved_makes_equal : (n : ℕ) (s : Subst) (es : Equations) (r : Subst) → solved n s es ≡ Some r → IsSolved s → Under s es → IsSolved r × Solves (value_at r) s × Holds (value_at r) es
+pub solved_makes_equal : (n : ℕ) (s : Subst) (es : Equations) (r : Subst) → elimination n s es ≡ Some r → IsSolved s → Under s es → IsSolved r × Solves (value_at r) s × Holds (value_at r) es
 solved_makes_equal n s [] r is h k = let same : s ≡ r = cc in (subst IsSolved same h, subst (λ w. Solves (value_at w) s) same h, tt)
 solved_makes_equal zero s (e ∷ es) r is h k = cc
 solved_makes_equal (suc n) s (e ∷ es) r is h k =
@@ -137,16 +137,16 @@ solved_makes_equal (suc n) s (e ∷ es) r is h k =
     let w = gives_step n s e r (occurs e.0 e.1) (apart_under ((e.0, e.1) ∷ []) es) is in
     let fs = w.1.0 in
     let f : IsFree s x u = record { free = k.0; closed_under = k.1; absent = w.0 } in
-    let m = solved_makes_equal n (bound x u s) fs r w.1.2 (bound_solved s x u f h) (subst (UnderIn (bound x u s)) w.1.1 (under_bound s x u f es k.2)) in
+    let m = solved_makes_equal n (with_binding x u s) fs r w.1.2 (bound_solved s x u f h) (subst (UnderIn (with_binding x u s)) w.1.1 (under_bound s x u f es k.2)) in
     let rx : value_at r x ≡ apply r u = sym (m.1 x) ∙ ap (apply r) (here x u _) in
     let solves = Solves-one (value_at r) x u rx in (
       m.0,
-      (λ y. sym (replaced-solves (value_at r) (one x u) solves (value_at s y)) ∙ ap (apply r) (sym (bound_is s x u k.0 y)) ∙ m.1 y),
+      (λ y. sym (instance-solves (value_at r) (one x u) solves (value_at s y)) ∙ ap (apply r) (sym (bound_is s x u k.0 y)) ∙ m.1 y),
       (rx, apart_under_equal (value_at r) (one x u) es solves (subst (HoldsIn (value_at r)) (sym w.1.1) m.2)),
     )
 
 -- so it is with the equations of two terms, whatever number bounds the eliminations
-pub from_apart : (n : ℕ) (s : Subst) (a b : Tree) (o : Option Equations) (r : Subst) → solved_from n s o ≡ Some r → apart a b ≡ o → IsSolved s → apply s a ≡ a → apply s b ≡ b → IsSolved r × Solves (value_at r) s × (apply r a ≡ apply r b)
+pub from_apart : (n : ℕ) (s : Subst) (a b : Tree) (o : Option Equations) (r : Subst) → elimination_from n s o ≡ Some r → apart a b ≡ o → IsSolved s → apply s a ≡ a → apply s b ≡ b → IsSolved r × Solves (value_at r) s × (apply r a ≡ apply r b)
 from_apart n s a b None r is o h i j = cc
 from_apart n s a b (Some es) r is o h i j =
     let m = solved_makes_equal n s es r is h (subst (UnderIn s) o (apart_stays s a b i j)) in
@@ -156,6 +156,6 @@ from_apart n s a b (Some es) r is o h i j =
 pub mgu_makes_equal : (s : Subst) (a b : Tree) → IsSolved s → (r : Subst) → mgu s a b ≡ Some r → IsSolved r × Solves (value_at r) s × (apply r a ≡ apply r b)
 unfolding mgu
 mgu_makes_equal s a b h r is =
-    let again = replaced-solves (value_at s) s h in
+    let again = instance-solves (value_at s) s h in
     let m = from_apart _ s (apply s a) (apply s b) (apart (apply s a) (apply s b)) r is refl h (again a) (again b) in
-    (m.0, m.1, sym (replaced-solves (value_at r) s m.1 a) ∙ m.2 ∙ replaced-solves (value_at r) s m.1 b)
+    (m.0, m.1, sym (instance-solves (value_at r) s m.1 a) ∙ m.2 ∙ instance-solves (value_at r) s m.1 b)

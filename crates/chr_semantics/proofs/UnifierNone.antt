@@ -3,11 +3,11 @@ use Rattle.std.proofs.Common.{Bool, List, None, Option, Some, [], ap, arith, con
 use Rattle.std.proofs.lemmas.Bool.{or_cases, or_parts}
 use Rattle.std.proofs.lemmas.Bool.Decides.{Decides-eqb}
 use Rattle.std.specs.Ordering.{int_eq}
-use Rattle.chr_semantics.specs.Mgu.{vars, solved, Equations, apart, apart_all, apart_under, both, mgu, of_var, solved_from, vars_of_all}
-use Rattle.chr_semantics.specs.Subst.{Solves, Subst, apply, bound, occurs, occurs_any, replaced, replaced_all, value_at}
+use Rattle.chr_semantics.specs.Mgu.{vars, elimination, Equations, apart, apart_all, apart_under, both, mgu, of_var, elimination_from, vars_of_all}
+use Rattle.chr_semantics.specs.Subst.{Solves, Subst, apply, with_binding, occurs, occurs_any, instance, instances, value_at}
 use Rattle.chr_semantics.specs.Tree.{Tree, Trees, int, more, node, none, var}
 use Rattle.chr_semantics.proofs.Apart.{Holds, HoldsIn, apart_holds, apart_under_holds}
-use Rattle.chr_semantics.proofs.Replaced.{Solves-one, replaced-solves}
+use Rattle.chr_semantics.proofs.Instances.{Solves-one, instance-solves}
 use Rattle.chr_semantics.proofs.UnifierEqual.{one}
 
 -- the number is in the list
@@ -82,7 +82,7 @@ mutual
   apply_in x u (int z) vs h k = tt
   apply_in x u (node g ts) vs h k = apply_in_all x u ts vs h k
 
-  apply_in_all : (x : ℕ) (u : Tree) (ts : Trees) (vs : List ℕ) → In (without x vs) u → InAll vs ts → InAll (without x vs) (replaced_all (value_at (one x u)) ts)
+  apply_in_all : (x : ℕ) (u : Tree) (ts : Trees) (vs : List ℕ) → In (without x vs) u → InAll vs ts → InAll (without x vs) (instances (value_at (one x u)) ts)
   apply_in_all x u none vs h k = tt
   apply_in_all x u (more t ts) vs h k = (apply_in x u t vs h k.0, apply_in_all x u ts vs h k.1)
 
@@ -162,24 +162,24 @@ mutual
 mutual
   unfolding size size_all
 
-  occurs_size : (f : ℕ → Tree) (x : ℕ) (t : Tree) → occurs x t ≡ true → size (f x) ≤ size (replaced f t)
+  occurs_size : (f : ℕ → Tree) (x : ℕ) (t : Tree) → occurs x t ≡ true → size (f x) ≤ size (instance f t)
   occurs_size f x (var y) h = let e : x ≡ y = (Decides-eqb x y).0 h in omega (arith, ap (λ v. size (f v)) e)
   occurs_size f x (int z) h = absurd (true≢false (sym h))
   occurs_size f x (node g ts) h = omega (arith, occurs_any_size f x ts h)
 
-  occurs_any_size : (f : ℕ → Tree) (x : ℕ) (ts : Trees) → occurs_any x ts ≡ true → size (f x) ≤ size_all (replaced_all f ts)
+  occurs_any_size : (f : ℕ → Tree) (x : ℕ) (ts : Trees) → occurs_any x ts ≡ true → size (f x) ≤ size_all (instances f ts)
   occurs_any_size f x none h = absurd (true≢false (sym h))
   occurs_any_size f x (more t ts) h = elim (or_cases (occurs x t) (occurs_any x ts) h) [ inl e ↦ omega (arith, occurs_size f x t e) | inr e ↦ omega (arith, occurs_any_size f x ts e) ]
 
-never_inside : (f : ℕ → Tree) (x : ℕ) (u : Tree) → IsProper x u → occurs x u ≡ true → f x ≡ replaced f u → ⊥
+never_inside : (f : ℕ → Tree) (x : ℕ) (u : Tree) → IsProper x u → occurs x u ≡ true → f x ≡ instance f u → ⊥
 unfolding size size_all
 never_inside f x (var y) p h e = absurd (true≢false (sym h ∙ p))
 never_inside f x (int z) p h e = absurd (true≢false (sym h))
 never_inside f x (node g ts) p h e = let l = occurs_any_size f x ts h in let s = ap size e in absurd (omega (arith, l, s))
 
 none_step : (n : ℕ) (s : Subst) (e : ℕ × Tree) (b : Bool) (o : Option Equations)
-    → (let w : Option Subst = elim b [ true ↦ None | false ↦ elim o [ None ↦ None | Some fs ↦ solved n (bound e.0 e.1 s) fs ] ] in w ≡ None)
-    → (b ≡ true) ⊎ ((b ≡ false) × ((o ≡ None) ⊎ ((fs : Equations) × (o ≡ Some fs) × (solved n (bound e.0 e.1 s) fs ≡ None))))
+    → (let w : Option Subst = elim b [ true ↦ None | false ↦ elim o [ None ↦ None | Some fs ↦ elimination n (with_binding e.0 e.1 s) fs ] ] in w ≡ None)
+    → (b ≡ true) ⊎ ((b ≡ false) × ((o ≡ None) ⊎ ((fs : Equations) × (o ≡ Some fs) × (elimination n (with_binding e.0 e.1 s) fs ≡ None))))
 none_step n s e true o h = inl refl
 none_step n s e false None h = inr (refl, inl refl)
 none_step n s e false (Some fs) h = inr (refl, inr (fs, refl, h))
@@ -189,7 +189,7 @@ none_of_none [] x h k = k
 none_of_none (v ∷ vs) x h k = absurd (omega arith)
 
 -- eliminations that come to nothing leave no solution
-pub none_solves : (f : ℕ → Tree) (n : ℕ) (s : Subst) (es : Equations) (vs : List ℕ) → length vs ≤ n → Fine vs es → solved n s es ≡ None → Holds f es → ⊥
+pub none_solves : (f : ℕ → Tree) (n : ℕ) (s : Subst) (es : Equations) (vs : List ℕ) → length vs ≤ n → Fine vs es → elimination n s es ≡ None → Holds f es → ⊥
 none_solves f n s [] vs l p is h = cc
 none_solves f zero s (e ∷ es) vs l p is h = none_of_none vs e.0 l p.0
 none_solves f (suc n) s (e ∷ es) vs l p is h =
@@ -200,7 +200,7 @@ none_solves f (suc n) s (e ∷ es) vs l p is h =
       | inr (absent, inr r) ↦
           let fine = fine_under e.0 e.1 vs es (absent_in e.0 vs e.1 absent p.1) p.3 in
           let shorter : length (without e.0 vs) ≤ n = omega (arith, length-without e.0 vs p.0) in
-          none_solves f n (bound e.0 e.1 s) r.0 (without e.0 vs) shorter (subst (FineIn (without e.0 vs)) r.1 fine) r.2 (subst (HoldsIn f) r.1 later)
+          none_solves f n (with_binding e.0 e.1 s) r.0 (without e.0 vs) shorter (subst (FineIn (without e.0 vs)) r.1 fine) r.2 (subst (HoldsIn f) r.1 later)
     ]
 
 Has-left : (x : ℕ) (vs ws : List ℕ) → Has x vs → Has x (vs ++ ws)
@@ -222,16 +222,16 @@ mutual
   vars_in_all vs none h = tt
   vars_in_all vs (more t ts) h = (vars_in vs t (λ y k. h y (Has-left y (vars t) (vars_of_all ts) k)), vars_in_all vs ts (λ y k. h y (Has-right y (vars t) (vars_of_all ts) k)))
 
-from_none : (f : ℕ → Tree) (n : ℕ) (s : Subst) (o : Option Equations) (vs : List ℕ) → length vs ≤ n → FineIn vs o → solved_from n s o ≡ None → HoldsIn f o → ⊥
+from_none : (f : ℕ → Tree) (n : ℕ) (s : Subst) (o : Option Equations) (vs : List ℕ) → length vs ≤ n → FineIn vs o → elimination_from n s o ≡ None → HoldsIn f o → ⊥
 from_none f n s None vs l p is h = h
 from_none f n s (Some es) vs l p is h = none_solves f n s es vs l p is h
 
 -- where there is no unifier, nothing solves s and makes both terms equal
-pub mgu_none : (s : Subst) (a b : Tree) → mgu s a b ≡ None → (f : ℕ → Tree) → Solves f s → replaced f a ≡ replaced f b → ⊥
+pub mgu_none : (s : Subst) (a b : Tree) → mgu s a b ≡ None → (f : ℕ → Tree) → Solves f s → instance f a ≡ instance f b → ⊥
 unfolding mgu
 mgu_none s a b is f k e =
     let vs = vars (apply s a) ++ vars (apply s b) in
     let left = vars_in vs (apply s a) (λ y h. Has-left y (vars (apply s a)) (vars (apply s b)) h) in
     let right = vars_in vs (apply s b) (λ y h. Has-right y (vars (apply s a)) (vars (apply s b)) h) in
     let l : length vs ≤ length vs = omega arith in
-    from_none f (length vs) s (apart (apply s a) (apply s b)) vs l (apart_fine vs (apply s a) (apply s b) left right) is (apart_holds f (apply s a) (apply s b) (replaced-solves f s k a ∙ e ∙ sym (replaced-solves f s k b)))
+    from_none f (length vs) s (apart (apply s a) (apply s b)) vs l (apart_fine vs (apply s a) (apply s b) left right) is (apart_holds f (apply s a) (apply s b) (instance-solves f s k a ∙ e ∙ sym (instance-solves f s k b)))

@@ -1,12 +1,12 @@
 -- In a run, an answer that serves the next step's search is what that search finds.
 use Rattle.std.proofs.Common.{List, None, Option, Some, [], ap, cond, refl, subst, ℕ, ◌&&◌, ◌+◌, ◌∙◌, ◌∷◌, ◌≡◌}
 use Rattle.std.specs.Prelude.{is_some}
-use Rattle.chr_semantics.specs.Footprint.{Agrees, UsedLaw, sought_top}
+use Rattle.chr_semantics.specs.Footprint.{Agrees, UsedLaw, step_answer_top}
 use Rattle.chr_semantics.specs.Program.{Atom, Occurrence, Program, occurrence}
 use Rattle.chr_semantics.specs.Search.{atom_of, first, first_of, ids_found, search_for}
 use Rattle.chr_semantics.specs.State.{Element, State, active, goal, known, rows, start}
 use Rattle.chr_semantics.specs.Step.{after}
-use Rattle.chr_semantics.specs.Tasks.{Task, needed_top}
+use Rattle.chr_semantics.specs.Tasks.{Task, needed_task_top}
 use Rattle.chr_semantics.proofs.Lookups.{atom_resolved}
 use Rattle.chr_semantics.proofs.ServesLaw.{serves_law}
 use Rattle.chr_semantics.proofs.Soundness.{sound_after, sound_start}
@@ -17,7 +17,7 @@ record Needs (p : Program) (s : State) (es : List Element) (t : Task) : Type 0 w
   pub occ : Occurrence
   pub living : atom_of s.store t.0 ≡ Some atom
   pub is : occurrence p atom.sym t.1 ≡ Some occ
-  pub finds : first p (rows s) s.history t.0 t.1 ≡ sought_top p s es
+  pub finds : first p (rows s) s.history t.0 t.1 ≡ step_answer_top p s es
 
 needs_at : (p : Program) (s : State) (i j : ℕ) (a : Atom) (es : List Element) (t : Task) (x : Option Atom) (o : Option Occurrence) → ((b : Atom) → atom_of s.store i ≡ Some b → b ≡ a) → atom_of s.store i ≡ x → occurrence p a.sym j ≡ o
     → cond {A = Option Task} (is_some x && is_some o) (Some (i, j)) None ≡ Some t → Needs p s (active i j a ∷ es) t
@@ -35,7 +35,7 @@ needs_at p s i j a es t (Some b) (Some o) agree ex eo e =
       finds = ap (first_of p (rows s) s.history i j) there ∙ ap (λ (x : Atom). ids_found (search_for p (rows s) s.history x.sym i j)) goal_is;
     })
 
-needs_top : (p : Program) (s : State) (es : List Element) (t : Task) → Agrees s.store s.next_id es → needed_top p s es ≡ Some t → Needs p s es t
+needs_top : (p : Program) (s : State) (es : List Element) (t : Task) → Agrees s.store s.next_id es → needed_task_top p s es ≡ Some t → Needs p s es t
 needs_top p s [] t h e = cc
 needs_top p s (goal g ∷ es) t h e = cc
 needs_top p s (known i a ∷ es) t h e = cc

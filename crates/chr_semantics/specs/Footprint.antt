@@ -8,7 +8,7 @@ use Rattle.chr_semantics.specs.Search.{atom_of, first, ids_found, live_entries}
 use Rattle.chr_semantics.specs.State.{Element, goal, known, active, State, resolved_atom, rows, start}
 use Rattle.chr_semantics.specs.Step.{after, search_at}
 use Rattle.chr_semantics.specs.Touch.{Mark, symbol, rule, touches, touched, touched_any, footprint}
-use Rattle.chr_semantics.specs.Tasks.{Task, guest, needed}
+use Rattle.chr_semantics.specs.Tasks.{Task, guest, needed_task}
 use Rattle.chr_semantics.specs.Schedule.{serves}
 
 -- the identities ascend, from lo on, and are below hi
@@ -69,9 +69,9 @@ ServesLaw =
     → answer p (after p q k) t ≡ first p (rows (after p q (k + m))) (after p q (k + m)).history t.0 t.1
 
 -- what an Activate of a constraint of the symbol f adds to the count of a mark
-abbrev pub added : ℕ → Mark → ℕ
-added f (symbol g) = cond (f == g) 1 0
-added f (rule r) = 0
+abbrev pub marks_added : ℕ → Mark → ℕ
+marks_added f (symbol g) = cond (f == g) 1 0
+marks_added f (rule r) = 0
 
 -- The counts of touches, mark by mark, which a run can keep as stamps: a step adds one to the marks that it touches; the counts of some
 -- marks are equal at two places exactly where no transition between touches any of them; and where the constraint i came in between, the
@@ -81,20 +81,20 @@ pub record StampsLaw : Type 0 where
   pub untouched : (p : Program) (q : State) (k m : ℕ) (marks : List Mark) → IsTrue (list_all (λ x. touched p q k x == touched p q (k + m) x) marks) ↔ (touched_any p (after p q k) m marks ≡ 0)
   pub activated :
       (p : Program) (q : State) (k m i j : ℕ) (a : Atom) (o : Occurrence) → IsSound q → (after p q k).next_id ≡ i → atom_of (after p q (k + m)).store i ≡ Some a → occurrence p a.sym j ≡ Some o
-      → IsTrue (list_all (λ x. touched p q k x + added a.sym x == touched p q (k + m) x) (footprint p (after p q (k + m)) i j)) ↔ (touched_any p (after p q k) m (footprint p (after p q (k + m)) i j) ≡ 1)
+      → IsTrue (list_all (λ x. touched p q k x + marks_added a.sym x == touched p q (k + m) x) (footprint p (after p q (k + m)) i j)) ↔ (touched_any p (after p q k) m (footprint p (after p q (k + m)) i j) ≡ 1)
 
 -- what the search of the next step finds
-abbrev pub sought_top : Program → State → List Element → Option (List ℕ)
-sought_top p s [] = None
-sought_top p s (goal g ∷ es) = None
-sought_top p s (known i a ∷ es) = None
-sought_top p s (active i j a ∷ es) = ids_found (search_at p s i j a)
+abbrev pub step_answer_top : Program → State → List Element → Option (List ℕ)
+step_answer_top p s [] = None
+step_answer_top p s (goal g ∷ es) = None
+step_answer_top p s (known i a ∷ es) = None
+step_answer_top p s (active i j a ∷ es) = ids_found (search_at p s i j a)
 
-abbrev pub sought : Program → State → Option (List ℕ)
-sought p s = sought_top p s s.stack
+abbrev pub step_answer : Program → State → Option (List ℕ)
+step_answer p s = step_answer_top p s s.stack
 
 -- of a query's start: an answer that serves the search of a step is what that search finds
 abbrev pub UsedLaw : Type 0
 UsedLaw =
-    (p : Program) (r : Query) (k m : ℕ) (t : Task) → (let q = start r in needed p (after p q (k + m)) ≡ Some t → serves p q k (k + m) t ≡ true
-    → answer p (after p q k) t ≡ sought p (after p q (k + m)))
+    (p : Program) (r : Query) (k m : ℕ) (t : Task) → (let q = start r in needed_task p (after p q (k + m)) ≡ Some t → serves p q k (k + m) t ≡ true
+    → answer p (after p q k) t ≡ step_answer p (after p q (k + m)))

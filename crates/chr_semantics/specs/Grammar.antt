@@ -1,17 +1,18 @@
 -- The grammar, a constructor for each way to spell a phrase (Frühwirth 2009, syntax of CHR; directives as in the CHR systems of Prolog).
-use Rattle.std.specs.Prelude.{◌≡◌, ℕ, pos, neg_ℤ, nat_le, Bool, true, false, List, [], ◌∷◌, ◌++◌, Option, Some, None, codes}
+use Rattle.std.specs.Prelude.{◌≡◌, ℕ, pos, neg_ℤ, nat_le, nat_lt, Bool, true, false, List, [], ◌∷◌, ◌++◌, Option, Some, None, codes}
 use Rattle.std.specs.Str.{encode_utf8_all}
 use Rattle.chr_semantics.specs.Tokens as token
 use Rattle.chr_semantics.specs.Tokens.{Place, Additive, minus, Multiplicative, Relation, Sign, opens, closes, opens_list, closes_list, comma, bar, label, backslash, hash, simplifies, propagates, slash, stop, Token, name, numeral, additive, multiplicative, relation, sign, over, Placed, at}
 use Rattle.chr_semantics.specs.Syntax as syntax
 use Rattle.chr_semantics.specs.Syntax.{Expr, Exprs, exprs_of, variable, number, call, nil, pair, sum, product, list, Item, plain, related, Head, Arrow, simplification, propagation, Rule, Declaration, Part, ignored, Program, Query}
+use Rattle.chr_semantics.specs.Value.{max_magnitude}
 
 -- a NUMBER without a sign, and the digits of one with a sign
 abbrev pub is_number : ℕ → Bool
-is_number n = nat_le n 170141183460469231731687303715884105727
+is_number n = nat_lt n max_magnitude
 
 abbrev pub is_magnitude : ℕ → Bool
-is_magnitude n = nat_le n 170141183460469231731687303715884105728
+is_magnitude n = nat_le n max_magnitude
 
 mutual
   pub data IsPrimary : List Placed → Expr → Type 0 where

@@ -10,9 +10,9 @@ abbrev pub Row : Type 0
 Row = ℕ × Atom
 
 -- what a head variable is matched to, if it is
-abbrev pub matched : Subst → ℕ → Option Tree
-matched [] x = None
-matched (p ∷ m) x = cond (p.0 == x) (Some p.1) (matched m x)
+abbrev pub match_at : Subst → ℕ → Option Tree
+match_at [] x = None
+match_at (p ∷ m) x = cond (p.0 == x) (Some p.1) (match_at m x)
 
 -- a head variable that occurs again needs the same term
 abbrev pub fit_var : Subst → ℕ → Tree → Option Tree → Option Subst
@@ -22,7 +22,7 @@ fit_var m x t (Some u) = cond (same u t) (Some m) None
 -- the match m extended over head variables alone so that the pattern becomes the term, or none
 abbrev mutual
   pub fit : Tree → Tree → Subst → Option Subst
-  fit (var x) t m = fit_var m x t (matched m x)
+  fit (var x) t m = fit_var m x t (match_at m x)
   fit (int z) (var y) m = None
   fit (int z) (int w) m = cond (int_eq z w) (Some m) None
   fit (int z) (node g us) m = None

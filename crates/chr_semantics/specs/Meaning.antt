@@ -2,7 +2,7 @@
 -- known before, and the variables of a rule or a query from 0 by first appearance.
 use Rattle.std.specs.Prelude.{ℕ, ◌+◌, Bool, true, false, ◌&&◌, ◌||◌, ◌==◌, nat_lt, if◌then◌else◌, List, [], ◌∷◌, ◌++◌, length, position, Option, Some, None, is_none, unwrap_or, bytes_eq, codes}
 use Rattle.std.specs.Fmt.{decimal}
-use Rattle.chr_semantics.specs.Names.{Names, symbol_of, with_symbol}
+use Rattle.chr_semantics.specs.Names.{Names, nil_symbol, pair_symbol, plus_symbol, minus_symbol, times_symbol, divide_symbol, modulo_symbol, symbol_of, with_symbol}
 use Rattle.chr_semantics.specs.Tree.{Tree, var, int, node, Trees, none, more}
 use Rattle.chr_semantics.specs.Program.{Atom, Goal, constraint, tell, evaluate, compare, fail, Test, identical, not_unifiable, compares, is_integer, is_ground, less, greater, at_most, at_least, equals, differs, Head, Rule}
 use Rattle.chr_semantics.specs.Tokens as token
@@ -18,8 +18,8 @@ pub record Scope : Type 0 where
 abbrev pub scope : Names → List (List ℕ) → Scope
 scope names variables = record { names = names; variables = variables }
 
-abbrev pub fresh : Names → Scope
-fresh names = scope names []
+abbrev pub fresh_scope : Names → Scope
+fresh_scope names = scope names []
 
 -- `_` is a new variable each time, and any other word is one variable
 abbrev pub is_anonymous : List ℕ → Bool
@@ -36,9 +36,9 @@ abbrev pub with_variable : List (List ℕ) → List ℕ → List (List ℕ)
 with_variable vs w = if is_none (variable_of vs w) then vs ++ w ∷ [] else vs
 
 -- the name and the arguments of an expression that is a name
-abbrev pub called : Expr → Option (List ℕ × Exprs)
-called (call w es) = Some (w, es)
-called _ = None
+abbrev pub call_of : Expr → Option (List ℕ × Exprs)
+call_of (call w es) = Some (w, es)
+call_of _ = None
 
 abbrev pub count : Exprs → ℕ
 count syntax.none = 0
@@ -51,21 +51,14 @@ with_name s w n = scope (with_symbol s.names w n) s.variables
 abbrev pub symbol_in : Scope → List ℕ → ℕ → ℕ
 symbol_in s w n = unwrap_or (symbol_of s.names w n) 0
 
--- the symbols of lists and operators stand first in the names
-abbrev pub nil_symbol : ℕ
-nil_symbol = 0
-
-abbrev pub pair_symbol : ℕ
-pair_symbol = 1
-
 abbrev pub additive_symbol : Additive → ℕ
-additive_symbol plus = 2
-additive_symbol minus = 3
+additive_symbol plus = plus_symbol
+additive_symbol minus = minus_symbol
 
 abbrev pub multiplicative_symbol : Multiplicative → ℕ
-multiplicative_symbol times = 4
-multiplicative_symbol divide = 5
-multiplicative_symbol modulo = 6
+multiplicative_symbol times = times_symbol
+multiplicative_symbol divide = divide_symbol
+multiplicative_symbol modulo = modulo_symbol
 
 -- a symbol over two trees
 abbrev pub node_of : ℕ → Tree → Tree → Tree
@@ -116,16 +109,16 @@ abbrev pub is_ground_test : List ℕ → ℕ → Bool
 is_ground_test w n = bytes_eq w (codes "ground") && n == 1
 
 -- the goal that two sides make, if any
-abbrev pub told : Relation → Tree → Tree → List Goal
-told token.same t u = tell t u ∷ []
-told token.not_unifiable t u = []
-told token.less t u = compare less t u ∷ []
-told token.greater t u = compare greater t u ∷ []
-told token.at_most t u = compare at_most t u ∷ []
-told token.at_least t u = compare at_least t u ∷ []
-told token.equals t u = compare equals t u ∷ []
-told token.differs t u = compare differs t u ∷ []
-told token.is t u = evaluate t u ∷ []
+abbrev pub relation_goal : Relation → Tree → Tree → List Goal
+relation_goal token.same t u = tell t u ∷ []
+relation_goal token.not_unifiable t u = []
+relation_goal token.less t u = compare less t u ∷ []
+relation_goal token.greater t u = compare greater t u ∷ []
+relation_goal token.at_most t u = compare at_most t u ∷ []
+relation_goal token.at_least t u = compare at_least t u ∷ []
+relation_goal token.equals t u = compare equals t u ∷ []
+relation_goal token.differs t u = compare differs t u ∷ []
+relation_goal token.is t u = evaluate t u ∷ []
 
 -- the goal of a name over expressions; `true` is none, and neither is what can't be one
 abbrev pub goal_of : Scope → List ℕ → Exprs → Scope × List Goal
@@ -136,20 +129,20 @@ goal_of s w es =
 
 -- the goal of an item of a body or a query, if any
 abbrev pub goal_from : Scope → Item → Scope × List Goal
-goal_from s (related r e f) = let q = sides_from s e f in (q.0, told r q.1.0 q.1.1)
-goal_from s (plain e) = elim (called e) [ None ↦ (s, []) | Some c ↦ goal_of s c.0 c.1 ]
+goal_from s (related r e f) = let q = sides_from s e f in (q.0, relation_goal r q.1.0 q.1.1)
+goal_from s (plain e) = elim (call_of e) [ None ↦ (s, []) | Some c ↦ goal_of s c.0 c.1 ]
 
 -- the test that two sides make, if any
-abbrev pub tested : Relation → Tree → Tree → List Test
-tested token.same t u = identical t u ∷ []
-tested token.not_unifiable t u = not_unifiable t u ∷ []
-tested token.less t u = compares less t u ∷ []
-tested token.greater t u = compares greater t u ∷ []
-tested token.at_most t u = compares at_most t u ∷ []
-tested token.at_least t u = compares at_least t u ∷ []
-tested token.equals t u = compares equals t u ∷ []
-tested token.differs t u = compares differs t u ∷ []
-tested token.is t u = []
+abbrev pub relation_test : Relation → Tree → Tree → List Test
+relation_test token.same t u = identical t u ∷ []
+relation_test token.not_unifiable t u = not_unifiable t u ∷ []
+relation_test token.less t u = compares less t u ∷ []
+relation_test token.greater t u = compares greater t u ∷ []
+relation_test token.at_most t u = compares at_most t u ∷ []
+relation_test token.at_least t u = compares at_least t u ∷ []
+relation_test token.equals t u = compares equals t u ∷ []
+relation_test token.differs t u = compares differs t u ∷ []
+relation_test token.is t u = []
 
 -- the test of a name over one expression, if any
 abbrev pub test_alone : Scope → List ℕ → Expr → Scope × List Test
@@ -164,13 +157,13 @@ test_of s w _ = (s, [])
 
 -- the test of an item of a guard; `true` is none, and neither is what can't be one
 abbrev pub test_from : Scope → Item → Scope × List Test
-test_from s (related r e f) = let q = sides_from s e f in (q.0, tested r q.1.0 q.1.1)
-test_from s (plain e) = elim (called e) [ None ↦ (s, []) | Some c ↦ test_of s c.0 c.1 ]
+test_from s (related r e f) = let q = sides_from s e f in (q.0, relation_test r q.1.0 q.1.1)
+test_from s (plain e) = elim (call_of e) [ None ↦ (s, []) | Some c ↦ test_of s c.0 c.1 ]
 
 -- a head; nothing where an item can't be one
 abbrev pub head_of : Scope → Bool → Item → Scope × List Head
 head_of s passive (related r e f) = (s, [])
-head_of s passive (plain e) = elim (called e) [ None ↦ (s, []) | Some c ↦ (let r = atom_from s c.0 c.1 in (r.0, record { atom = r.1; passive = passive } ∷ [])) ]
+head_of s passive (plain e) = elim (call_of e) [ None ↦ (s, []) | Some c ↦ (let r = atom_from s c.0 c.1 in (r.0, record { atom = r.1; passive = passive } ∷ [])) ]
 
 abbrev pub head_from : Scope → syntax.Head → Scope × List Head
 head_from s h = head_of s h.passive h.item
@@ -198,7 +191,7 @@ label_of k (Some w) = w
 -- the rule with this number from 1, and the names behind it
 abbrev pub rule_from : Names → ℕ → syntax.Rule → Names × Rule
 rule_from names k r =
-    let hs = in_turn head_from (fresh names, []) (all_heads r) in
+    let hs = in_turn head_from (fresh_scope names, []) (all_heads r) in
     let gs = in_turn test_from (hs.0, []) r.guard in
     let bs = in_turn goal_from (gs.0, []) r.body in (
       bs.0.names,

@@ -2,7 +2,7 @@
 use Rattle.std.specs.Prelude.{◌≡◌, ℕ, zero, suc, true, false, cond, ◌==◌, nat_lt, Option, Some, None, List, [], ◌∷◌, ◌++◌, length}
 use Rattle.std.specs.Ordering.{int_eq}
 use Rattle.chr_semantics.specs.Tree.{Tree, var, int, node, Trees, none, more}
-use Rattle.chr_semantics.specs.Subst.{replaced, Subst, value_at, apply, occurs, bound, Solves, IsSolved}
+use Rattle.chr_semantics.specs.Subst.{instance, Subst, value_at, apply, occurs, with_binding, Solves, IsSolved}
 
 -- An equation has a variable on the left and another term on the right.
 abbrev pub Equations : Type 0
@@ -44,17 +44,17 @@ apart_under s (e ∷ es) = both (apart (value_at s e.0) (apply s e.1)) (apart_un
 
 -- The variables on the left are eliminated one after another: each is bound, and replaced in the equations that are left; none where
 -- a variable occurs in its other side. The number bounds the eliminations and is never reached.
-abbrev pub solved : ℕ → Subst → Equations → Option Subst
-solved n s [] = Some s
-solved zero s (e ∷ es) = None
-solved (suc n) s (e ∷ es) = elim (occurs e.0 e.1) [
+abbrev pub elimination : ℕ → Subst → Equations → Option Subst
+elimination n s [] = Some s
+elimination zero s (e ∷ es) = None
+elimination (suc n) s (e ∷ es) = elim (occurs e.0 e.1) [
   | true ↦ None
-  | false ↦ elim (apart_under ((e.0, e.1) ∷ []) es) [ None ↦ None | Some fs ↦ solved n (bound e.0 e.1 s) fs ]
+  | false ↦ elim (apart_under ((e.0, e.1) ∷ []) es) [ None ↦ None | Some fs ↦ elimination n (with_binding e.0 e.1 s) fs ]
 ]
 
-abbrev pub solved_from : ℕ → Subst → Option Equations → Option Subst
-solved_from n s None = None
-solved_from n s (Some es) = solved n s es
+abbrev pub elimination_from : ℕ → Subst → Option Equations → Option Subst
+elimination_from n s None = None
+elimination_from n s (Some es) = elimination n s es
 
 -- the variables of a term, each as often as it occurs
 abbrev mutual
@@ -69,13 +69,13 @@ abbrev mutual
 
 -- the solved substitution that extends s and makes both terms equal, or none
 unfoldable pub mgu : Subst → Tree → Tree → Option Subst
-mgu s a b = solved_from (length (vars (apply s a) ++ vars (apply s b))) s (apart (apply s a) (apply s b))
+mgu s a b = elimination_from (length (vars (apply s a) ++ vars (apply s b))) s (apart (apply s a) (apply s b))
 
 -- The law of the mgu, for a solved s: the result is solved, has the bindings of s and makes both terms equal; whatever solves s and makes
 -- both terms equal solves the result too, so that t and apply(result, t) come to the same under it; and where there is no result,
 -- nothing solves s and makes both terms equal.
 pub record UnifierLaw : Type 0 where
   pub equal : (s : Subst) (a b : Tree) → IsSolved s → (r : Subst) → mgu s a b ≡ Some r → IsSolved r × Solves (value_at r) s × (apply r a ≡ apply r b)
-  pub general : (s : Subst) (a b : Tree) (f : ℕ → Tree) → Solves f s → replaced f a ≡ replaced f b → (r : Subst) → mgu s a b ≡ Some r → Solves f r
-  pub same_result : (f : ℕ → Tree) (r : Subst) → Solves f r → (t : Tree) → replaced f (apply r t) ≡ replaced f t
-  pub only : (s : Subst) (a b : Tree) → mgu s a b ≡ None → (f : ℕ → Tree) → Solves f s → replaced f a ≡ replaced f b → ⊥
+  pub general : (s : Subst) (a b : Tree) (f : ℕ → Tree) → Solves f s → instance f a ≡ instance f b → (r : Subst) → mgu s a b ≡ Some r → Solves f r
+  pub same_result : (f : ℕ → Tree) (r : Subst) → Solves f r → (t : Tree) → instance f (apply r t) ≡ instance f t
+  pub only : (s : Subst) (a b : Tree) → mgu s a b ≡ None → (f : ℕ → Tree) → Solves f s → instance f a ≡ instance f b → ⊥

@@ -1,11 +1,33 @@
 -- The names of symbols, and of the variables of a query.
 use Rattle.std.specs.Prelude.{ℕ, Bool, cond, ◌==◌, ◌&&◌, nat_le, List, [], ◌∷◌, ◌++◌, Option, Some, None, is_some, slice_get, option_and_then, codes, unwrap_or, position, bytes_eq}
+use Rattle.std.specs.Str.{byte}
 use Rattle.std.specs.Fmt.{decimal}
 
--- For each symbol, by its number, the bytes of its name and its arity. The first seven are `[]`/0, `[|]`/2, `+`/2, `-`/2, `*`/2, `//`/2
--- and `mod`/2.
+-- For each symbol, by its number, the bytes of its name and its arity.
 abbrev pub Names : Type 0
 Names = List (List ℕ × ℕ)
+
+-- the built-in symbols, which come first: `[]`/0, `[|]`/2, and the operators with two arguments
+abbrev pub nil_symbol : ℕ
+nil_symbol = 0
+
+abbrev pub pair_symbol : ℕ
+pair_symbol = 1
+
+abbrev pub plus_symbol : ℕ
+plus_symbol = 2
+
+abbrev pub minus_symbol : ℕ
+minus_symbol = 3
+
+abbrev pub times_symbol : ℕ
+times_symbol = 4
+
+abbrev pub divide_symbol : ℕ
+divide_symbol = 5
+
+abbrev pub modulo_symbol : ℕ
+modulo_symbol = 6
 
 abbrev pub first_names : Names
 first_names = (codes "[]", 0) ∷ (codes "[|]", 2) ∷ (codes "+", 2) ∷ (codes "-", 2) ∷ (codes "*", 2) ∷ (codes "//", 2) ∷ (codes "mod", 2) ∷ []
@@ -39,7 +61,7 @@ abbrev pub VarNames : Type 0
 VarNames = List (List ℕ)
 
 abbrev pub is_capital : ℕ → Bool
-is_capital c = nat_le 65 c && nat_le c 90
+is_capital c = nat_le (byte "A") c && nat_le c (byte "Z")
 
 abbrev pub if_capital : List ℕ → Option (List ℕ)
 if_capital [] = None
@@ -51,4 +73,4 @@ var_name vars x = option_and_then if_capital (slice_get vars x)
 
 -- any other variable prints as `_` and its number
 abbrev pub var_text : VarNames → ℕ → List ℕ
-var_text vars x = unwrap_or (var_name vars x) (95 ∷ decimal x)
+var_text vars x = unwrap_or (var_name vars x) (byte "_" ∷ decimal x)

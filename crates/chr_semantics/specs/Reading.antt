@@ -3,6 +3,7 @@ use Rattle.std.specs.Prelude.{◌≡◌, ℕ, suc, pred, ◌<◌, ◌≤◌, if�
 use Rattle.std.specs.Str.{IsUtf8, chars}
 use Rattle.chr_semantics.specs.Tokens.{Place, opens, closes, opens_list, closes_list, Token, numeral, sign, fault, bad_character, unclosed_comment, too_large, Placed, at, tokens}
 use Rattle.chr_semantics.specs.Grammar.{is_number}
+use Rattle.chr_semantics.specs.declared.limits.TheConstants.{MAX_OPEN_BRACKETS, MAX_TEXT_BYTES}
 
 -- a `(` or `[` opens a bracket
 abbrev pub Opens : Token → Type 0
@@ -22,23 +23,23 @@ abbrev pub level : ℕ → List Placed → ℕ
 level d [] = d
 level d (at p t ∷ ts) = level (next d t) ts
 
--- no bracket opens where 256 are open
+-- no bracket opens where as many are open as may be
 abbrev pub Within : ℕ → List Placed → Type 0
 Within d [] = Unit {0}
-Within d (at p t ∷ ts) = (Opens t → d < 256) × Within (next d t) ts
+Within d (at p t ∷ ts) = (Opens t → d < MAX_OPEN_BRACKETS) × Within (next d t) ts
 
 -- the kinds of errors, beside want of memory
-pub data Kind : Type 0 where
-  not_utf8 : Kind
-  too_long : Kind
-  bad_char : Kind
-  open_comment : Kind
-  number_too_large : Kind
-  expected : Kind
-  too_deep : Kind
+pub data ReadErrorKind : Type 0 where
+  not_utf8 : ReadErrorKind
+  too_long : ReadErrorKind
+  bad_char : ReadErrorKind
+  open_comment : ReadErrorKind
+  number_too_large : ReadErrorKind
+  expected : ReadErrorKind
+  too_deep : ReadErrorKind
 
 -- what is wrong where no text goes on with a token
-abbrev pub kind_of : Token → Kind
+abbrev pub kind_of : Token → ReadErrorKind
 kind_of (fault bad_character) = bad_char
 kind_of (fault unclosed_comment) = open_comment
 kind_of (fault too_large) = number_too_large
@@ -60,7 +61,7 @@ module _ {S : Type 0} (Spells : List Placed → S → Type 0) where
     pub none : Begins (front ++ at place t ∷ []) → ⊥
     pub begun : Begins front
 
-  -- The first bracket that opens where 256 are open is this one, and some text begins with the tokens up to it.
+  -- The first bracket that opens where as many are open as may be is this one, and some text begins with the tokens up to it.
   pub record IsTooDeep (ts : List Placed) (place : Place) : Type 0 where
     pub front : List Placed
     pub bracket : Token
@@ -68,19 +69,19 @@ module _ {S : Type 0} (Spells : List Placed → S → Type 0) where
     pub split : ts ≡ front ++ at place bracket ∷ rest
     pub before : Within 0 front
     pub is_bracket : Opens bracket
-    pub full : 256 ≤ level 0 front
+    pub full : MAX_OPEN_BRACKETS ≤ level 0 front
     pub begun : Begins (front ++ at place bracket ∷ [])
 
   -- the text spells this within the limits
   pub record IsRead (text : List ℕ) (s : S) : Type 0 where
     pub is_utf8 : IsUtf8 text
-    pub is_short : length text ≤ 1048576
+    pub is_short : length text ≤ MAX_TEXT_BYTES
     pub spells : Spells (tokens (chars text)) s
     pub within : Within 0 (tokens (chars text))
 
   -- The text is refused so: that it is not UTF-8 comes first, then that it is too long, then the earliest place; those two have no place.
-  abbrev pub IsRefused : List ℕ → Kind → Place → Type 0
+  abbrev pub IsRefused : List ℕ → ReadErrorKind → Place → Type 0
   IsRefused text not_utf8 p = (IsUtf8 text → ⊥) × (p ≡ record { line = 0; column = 0 })
-  IsRefused text too_long p = IsUtf8 text × (1048576 < length text) × (p ≡ record { line = 0; column = 0 })
-  IsRefused text too_deep p = IsUtf8 text × (length text ≤ 1048576) × IsTooDeep (tokens (chars text)) p
-  IsRefused text kind p = IsUtf8 text × (length text ≤ 1048576) × ((t : Token) × (kind ≡ kind_of t) × IsUnexpected (tokens (chars text)) p t)
+  IsRefused text too_long p = IsUtf8 text × (MAX_TEXT_BYTES < length text) × (p ≡ record { line = 0; column = 0 })
+  IsRefused text too_deep p = IsUtf8 text × (length text ≤ MAX_TEXT_BYTES) × IsTooDeep (tokens (chars text)) p
+  IsRefused text kind p = IsUtf8 text × (length text ≤ MAX_TEXT_BYTES) × ((t : Token) × (kind ≡ kind_of t) × IsUnexpected (tokens (chars text)) p t)

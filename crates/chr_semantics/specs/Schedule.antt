@@ -7,7 +7,8 @@ use Rattle.chr_semantics.specs.Search.{atom_of}
 use Rattle.chr_semantics.specs.State.{State, resolved_atom, rows}
 use Rattle.chr_semantics.specs.Step.{after}
 use Rattle.chr_semantics.specs.Touch.{touched, touched_any, footprint}
-use Rattle.chr_semantics.specs.Tasks.{Task, same_task, tasks, guest, needed}
+use Rattle.chr_semantics.specs.Tasks.{Task, same_task, tasks, guest, needed_task}
+use Rattle.chr_semantics.specs.declared.limits.TheConstants.{KEPT_ROUNDS, MAX_ROUNDS, MAX_TRANSITIONS}
 
 -- a Publish, the arrival of the answer to a task (round, index), or a Step
 pub data Event : Type 0 where
@@ -26,8 +27,8 @@ pub record Progress : Type 0 where
   pub used : ℕ
   pub own : ℕ
 
-abbrev pub nothing_yet : Progress
-nothing_yet = record { steps = 0; rounds = []; kept = []; late = 0; double = 0; used = 0; own = 0 }
+abbrev pub no_progress : Progress
+no_progress = record { steps = 0; rounds = []; kept = []; late = 0; double = 0; used = 0; own = 0 }
 
 abbrev pub same_atom : Atom → Atom → Bool
 same_atom a b = a.sym == b.sym && same_all a.args b.args
@@ -65,26 +66,26 @@ answer_serves p q n t x (Some k) = task_serves p q k n t (slice_get (tasks p (af
 abbrev pub is_served : Program → State → Progress → Task → Bool
 is_served p q g t = list_any (λ (a : ℕ × ℕ). answer_serves p q g.steps t a.1 (slice_get g.rounds a.0)) g.kept
 
-abbrev pub stepped : Program → State → Progress → Option Task → Progress
-stepped p q g None = record g { steps = g.steps + 1 }
-stepped p q g (Some t) = elim (is_served p q g t) [ true ↦ record g { steps = g.steps + 1; used = g.used + 1 } | false ↦ record g { steps = g.steps + 1; own = g.own + 1 } ]
+abbrev pub with_step : Program → State → Progress → Option Task → Progress
+with_step p q g None = record g { steps = g.steps + 1 }
+with_step p q g (Some t) = elim (is_served p q g t) [ true ↦ record g { steps = g.steps + 1; used = g.used + 1 } | false ↦ record g { steps = g.steps + 1; own = g.own + 1 } ]
 
 abbrev pub is_late : Progress → ℕ → Bool
-is_late g r = nat_lt (r + 8) (length g.rounds)
+is_late g r = nat_lt (r + KEPT_ROUNDS) (length g.rounds)
 
-abbrev pub arrived : Progress → ℕ → ℕ → Progress
-arrived g r x =
+abbrev pub with_arrival : Progress → ℕ → ℕ → Progress
+with_arrival g r x =
     cond (is_late g r) (record g { late = g.late + 1 })
     (cond (list_any (same_task (r, x)) g.kept) (record g { double = g.double + 1 }) (record g { kept = g.kept ++ (r, x) ∷ [] }))
 
 abbrev pub next : Program → State → Progress → Event → Progress
 next p q g publish = record g { rounds = g.rounds ++ g.steps ∷ [] }
-next p q g (arrive r x) = arrived g r x
-next p q g move = stepped p q g (needed p (after p q g.steps))
+next p q g (arrive r x) = with_arrival g r x
+next p q g move = with_step p q g (needed_task p (after p q g.steps))
 
 -- the schedule from the start q of a query
 abbrev pub progress : Program → State → List Event → Progress
-progress p q = fold (next p q) nothing_yet
+progress p q = fold (next p q) no_progress
 
 -- a schedule with one event more
 abbrev pub AppendedLaw : Type 0
@@ -110,18 +111,18 @@ pub data Refusal : Type 0 where
   unknown_round : ℕ → Refusal
   unknown_task : ℕ → Refusal
 
-abbrev pub task_refused : ℕ → ℕ → List Task → Option Refusal
-task_refused at_place x ts = cond (nat_lt x (length ts)) None (Some (unknown_task at_place))
+abbrev pub task_refusal : ℕ → ℕ → List Task → Option Refusal
+task_refusal at_place x ts = cond (nat_lt x (length ts)) None (Some (unknown_task at_place))
 
-abbrev pub round_refused : Program → State → ℕ → ℕ → Option ℕ → Option Refusal
-round_refused p q at_place x None = Some (unknown_round at_place)
-round_refused p q at_place x (Some k) = task_refused at_place x (tasks p (after p q k))
+abbrev pub round_refusal : Program → State → ℕ → ℕ → Option ℕ → Option Refusal
+round_refusal p q at_place x None = Some (unknown_round at_place)
+round_refusal p q at_place x (Some k) = task_refusal at_place x (tasks p (after p q k))
 
 -- why the event, at that place of the schedule, is refused
 abbrev pub refusal : Program → State → Progress → ℕ → Event → Option Refusal
-refusal p q g at_place publish = cond (nat_lt (length g.rounds) 4096) None (Some (too_many_rounds at_place))
-refusal p q g at_place (arrive r x) = round_refused p q at_place x (slice_get g.rounds r)
-refusal p q g at_place move = cond (nat_lt g.steps 1000000) None (Some (too_many_steps at_place))
+refusal p q g at_place publish = cond (nat_lt (length g.rounds) MAX_ROUNDS) None (Some (too_many_rounds at_place))
+refusal p q g at_place (arrive r x) = round_refusal p q at_place x (slice_get g.rounds r)
+refusal p q g at_place move = cond (nat_lt g.steps MAX_TRANSITIONS) None (Some (too_many_steps at_place))
 
 -- the first refusal of a schedule
 abbrev pub first_refusal : Program → State → Progress → ℕ → List Event → Option Refusal

@@ -1,6 +1,6 @@
 -- The state of a run (Duck et al. 2004, section 3: the execution state).
 use Rattle.std.specs.Prelude.{ℕ, List, [], ◌∷◌, map, length}
-use Rattle.chr_semantics.specs.Subst.{Subst, value_at, replaced_all}
+use Rattle.chr_semantics.specs.Subst.{Subst, value_at, instances}
 use Rattle.chr_semantics.specs.Value.{Fault}
 use Rattle.chr_semantics.specs.Program.{Atom, Goal, Query}
 use Rattle.chr_semantics.specs.Match.{Row}
@@ -30,7 +30,7 @@ pub record State : Type 0 where
   pub status : Status
 
 abbrev pub resolved_atom : Subst → Atom → Atom
-resolved_atom s a = record { sym = a.sym; args = replaced_all (value_at s) a.args }
+resolved_atom s a = record { sym = a.sym; args = instances (value_at s) a.args }
 
 -- the store with the bindings applied
 abbrev pub rows : State → List Row

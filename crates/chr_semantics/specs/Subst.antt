@@ -5,14 +5,14 @@ use Rattle.chr_semantics.specs.Tree.{Tree, var, int, node, Trees, none, more}
 
 -- the term with each variable replaced by what f gives for it
 abbrev mutual
-  pub replaced : (ℕ → Tree) → Tree → Tree
-  replaced f (var x) = f x
-  replaced f (int z) = int z
-  replaced f (node g ts) = node g (replaced_all f ts)
+  pub instance : (ℕ → Tree) → Tree → Tree
+  instance f (var x) = f x
+  instance f (int z) = int z
+  instance f (node g ts) = node g (instances f ts)
 
-  pub replaced_all : (ℕ → Tree) → Trees → Trees
-  replaced_all f none = none
-  replaced_all f (more t ts) = more (replaced f t) (replaced_all f ts)
+  pub instances : (ℕ → Tree) → Trees → Trees
+  instances f none = none
+  instances f (more t ts) = more (instance f t) (instances f ts)
 
 -- A substitution is a finite list of pairs of a variable and a term.
 abbrev pub Subst : Type 0
@@ -29,7 +29,7 @@ binds_var s x = list_any (λ (p : ℕ × Tree). p.0 == x) s
 
 -- the whole of a term with its variables replaced by what they stand for
 abbrev pub apply : Subst → Tree → Tree
-apply s = replaced (value_at s)
+apply s = instance (value_at s)
 
 -- the variable occurs in the term
 abbrev mutual
@@ -44,7 +44,7 @@ abbrev mutual
 
 -- A function of variables solves a substitution where it gives each variable and what that stands for the same.
 abbrev pub Solves : (ℕ → Tree) → Subst → Type 0
-Solves f s = (x : ℕ) → replaced f (value_at s x) ≡ f x
+Solves f s = (x : ℕ) → instance f (value_at s x) ≡ f x
 
 -- A substitution is solved where applying it twice is applying it once. `SolvedLaw` says the same by occurrences.
 abbrev pub IsSolved : Subst → Type 0
@@ -60,5 +60,5 @@ pub record SolvedLaw : Type 0 where
   pub enough : (s : Subst) → HasNoBoundRight s → IsSolved s
 
 -- the substitution with the variable x, which it does not bind, bound to u: x is replaced by u in the whole of it
-abbrev pub bound : ℕ → Tree → Subst → Subst
-bound x u s = (x, u) ∷ map (λ (p : ℕ × Tree). (p.0, apply ((x, u) ∷ []) p.1)) s
+abbrev pub with_binding : ℕ → Tree → Subst → Subst
+with_binding x u s = (x, u) ∷ map (λ (p : ℕ × Tree). (p.0, apply ((x, u) ∷ []) p.1)) s

@@ -4,6 +4,7 @@ use Rattle.std.specs.List.{list_any, filter_map, flat_map}
 use Rattle.chr_semantics.specs.Program.{Atom, constraint, tell, evaluate, compare, fail, Program, occurrences, occurrence}
 use Rattle.chr_semantics.specs.Search.{atom_of}
 use Rattle.chr_semantics.specs.State.{Element, goal, known, active, State}
+use Rattle.chr_semantics.specs.declared.limits.TheConstants.{MAX_TASKS, MAX_WAITING_ELEMENTS}
 
 -- an identity and the number of an occurrence
 abbrev pub Task : Type 0
@@ -36,10 +37,10 @@ guest_in (known i a ∷ es) = guest_in es
 guest_in (active i j a ∷ es) = guest_in es
 
 -- what the element searches for, where it is identified or active and lives
-abbrev pub waiting : State → Element → Option (ℕ × ℕ × ℕ)
-waiting s (goal g) = None
-waiting s (known i a) = cond (lives s i) (Some (a.sym, i, 1)) None
-waiting s (active i j a) = cond (lives s i) (Some (a.sym, i, j)) None
+abbrev pub element_search : State → Element → Option (ℕ × ℕ × ℕ)
+element_search s (goal g) = None
+element_search s (known i a) = cond (lives s i) (Some (a.sym, i, 1)) None
+element_search s (active i j a) = cond (lives s i) (Some (a.sym, i, j)) None
 
 abbrev pub guest_tasks : Program → State → Option Atom → List Task
 guest_tasks p s None = []
@@ -51,10 +52,10 @@ without_repeats seen [] = []
 without_repeats seen (t ∷ ts) = elim (list_any (same_task t) seen) [ true ↦ without_repeats seen ts | false ↦ t ∷ without_repeats (t ∷ seen) ts ]
 
 abbrev pub below_top : Program → State → List Element → List Task
-below_top p s es = flat_map (λ (w : ℕ × ℕ × ℕ). tasks_from p w.0 w.1 w.2) (take 8 (filter_map (waiting s) es))
+below_top p s es = flat_map (λ (w : ℕ × ℕ × ℕ). tasks_from p w.0 w.1 w.2) (take MAX_WAITING_ELEMENTS (filter_map (element_search s) es))
 
 abbrev pub tasks_at : Program → State → ℕ → ℕ → Atom → List Element → List Task
-tasks_at p s i j a es = take 64 (without_repeats [] (tasks_from p a.sym i j ++ below_top p s es ++ guest_tasks p s (guest_in es)))
+tasks_at p s i j a es = take MAX_TASKS (without_repeats [] (tasks_from p a.sym i j ++ below_top p s es ++ guest_tasks p s (guest_in es)))
 
 -- by the top of the stack
 abbrev pub tasks_top : Program → State → List Element → List Task
@@ -76,11 +77,11 @@ abbrev pub guest : State → Option Atom
 guest s = guest_top s s.stack
 
 -- the search that the next step needs
-abbrev pub needed_top : Program → State → List Element → Option Task
-needed_top p s [] = None
-needed_top p s (goal g ∷ es) = None
-needed_top p s (known i a ∷ es) = None
-needed_top p s (active i j a ∷ es) = cond (lives s i && is_some (occurrence p a.sym j)) (Some (i, j)) None
+abbrev pub needed_task_top : Program → State → List Element → Option Task
+needed_task_top p s [] = None
+needed_task_top p s (goal g ∷ es) = None
+needed_task_top p s (known i a ∷ es) = None
+needed_task_top p s (active i j a ∷ es) = cond (lives s i && is_some (occurrence p a.sym j)) (Some (i, j)) None
 
-abbrev pub needed : Program → State → Option Task
-needed p s = needed_top p s s.stack
+abbrev pub needed_task : Program → State → Option Task
+needed_task p s = needed_task_top p s s.stack

@@ -1,5 +1,6 @@
 -- The text of a run: its trace, and the parts of the state where it ends (this project's own format).
 use Rattle.std.specs.Prelude.{ℕ, zero, suc, ◌+◌, cond, List, [], ◌∷◌, ◌++◌, map, length, Option, Some, None, slice_get, codes, flat_map}
+use Rattle.std.specs.Str.{byte}
 use Rattle.std.specs.Fmt.{decimal}
 use Rattle.chr_semantics.specs.Tree.{Tree}
 use Rattle.chr_semantics.specs.Subst.{value_at, binds_var, Subst}
@@ -7,13 +8,13 @@ use Rattle.chr_semantics.specs.Value.{Fault, unbound, not_number, overflow, zero
 use Rattle.chr_semantics.specs.Program.{Atom, Comparison, less, greater, at_most, at_least, equals, differs, Goal, constraint, tell, evaluate, compare, fail, Rule, Program, Query}
 use Rattle.chr_semantics.specs.Match.{Row}
 use Rattle.chr_semantics.specs.State.{Element, goal, known, active, Status, running, done, failed, faulted, State, resolved_atom, rows, start}
-use Rattle.chr_semantics.specs.Step.{replaced_goal, step, after}
+use Rattle.chr_semantics.specs.Step.{goal_instance, step, after}
 use Rattle.chr_semantics.specs.Trace.{Line, solves, fails, faults, activates, reactivates, drops, defaults, simplifies, propagates, line}
 use Rattle.chr_semantics.specs.Names.{Names, VarNames, var_name}
-use Rattle.chr_semantics.specs.Print.{node_shown, shown_all, term_text}
+use Rattle.chr_semantics.specs.Print.{node_printing, printings_of, term_text}
 
 abbrev pub atom_text : Names → VarNames → Atom → List ℕ
-atom_text names vars a = (node_shown names a.sym (shown_all names vars a.args)).text
+atom_text names vars a = (node_printing names a.sym (printings_of names vars a.args)).text
 
 abbrev pub comparison_text : Comparison → List ℕ
 comparison_text less = codes " < "
@@ -35,16 +36,16 @@ goal_text names vars fail = codes "fail"
 
 -- G#i
 abbrev pub known_text : Names → VarNames → Atom → ℕ → List ℕ
-known_text names vars a i = atom_text names vars a ++ (35 ∷ decimal i)
+known_text names vars a i = atom_text names vars a ++ (byte "#" ∷ decimal i)
 
 -- G#i:j
 abbrev pub active_text : Names → VarNames → Atom → ℕ → ℕ → List ℕ
-active_text names vars a i j = known_text names vars a i ++ (58 ∷ decimal j)
+active_text names vars a i j = known_text names vars a i ++ (byte ":" ∷ decimal j)
 
 -- the numbers behind the first, each with its comma
 abbrev pub more_ids_text : List ℕ → List ℕ
 more_ids_text [] = []
-more_ids_text (i ∷ is) = 44 ∷ (decimal i ++ more_ids_text is)
+more_ids_text (i ∷ is) = byte "," ∷ (decimal i ++ more_ids_text is)
 
 -- numbers with commas between them
 abbrev pub ids_text : List ℕ → List ℕ
@@ -53,7 +54,7 @@ ids_text (i ∷ is) = decimal i ++ more_ids_text is
 
 -- LABEL ids
 abbrev pub firing_text : List ℕ → List ℕ → List ℕ
-firing_text label ids = label ++ (32 ∷ ids_text ids)
+firing_text label ids = label ++ (byte " " ∷ ids_text ids)
 
 abbrev pub fault_text : Fault → List ℕ
 fault_text unbound = codes "unbound"
@@ -62,19 +63,19 @@ fault_text overflow = codes "overflow"
 fault_text zero_divisor = codes "zero_divisor"
 
 -- the line of the k-th transition, behind its number
-abbrev pub words : Names → VarNames → Line → List ℕ
-words names vars (solves g) = codes " solve " ++ goal_text names vars g
-words names vars (fails g) = codes " solve " ++ (goal_text names vars g ++ codes " fails")
-words names vars (faults g f) = codes " solve " ++ (goal_text names vars g ++ (codes " fault " ++ fault_text f))
-words names vars (activates a i) = codes " activate " ++ known_text names vars a i
-words names vars (reactivates a i) = codes " reactivate " ++ known_text names vars a i
-words names vars (drops a i j) = codes " drop " ++ active_text names vars a i j
-words names vars (defaults a i j) = codes " default " ++ active_text names vars a i j
-words names vars (simplifies a i j label ids) = codes " simplify " ++ (active_text names vars a i j ++ (32 ∷ firing_text label ids))
-words names vars (propagates a i j label ids) = codes " propagate " ++ (active_text names vars a i j ++ (32 ∷ firing_text label ids))
+abbrev pub line_words : Names → VarNames → Line → List ℕ
+line_words names vars (solves g) = codes " solve " ++ goal_text names vars g
+line_words names vars (fails g) = codes " solve " ++ (goal_text names vars g ++ codes " fails")
+line_words names vars (faults g f) = codes " solve " ++ (goal_text names vars g ++ (codes " fault " ++ fault_text f))
+line_words names vars (activates a i) = codes " activate " ++ known_text names vars a i
+line_words names vars (reactivates a i) = codes " reactivate " ++ known_text names vars a i
+line_words names vars (drops a i j) = codes " drop " ++ active_text names vars a i j
+line_words names vars (defaults a i j) = codes " default " ++ active_text names vars a i j
+line_words names vars (simplifies a i j label ids) = codes " simplify " ++ (active_text names vars a i j ++ (byte " " ∷ firing_text label ids))
+line_words names vars (propagates a i j label ids) = codes " propagate " ++ (active_text names vars a i j ++ (byte " " ∷ firing_text label ids))
 
 abbrev pub line_text : Names → VarNames → ℕ → Line → List ℕ
-line_text names vars k l = decimal k ++ words names vars l
+line_text names vars k l = decimal k ++ line_words names vars l
 
 -- the text of the k-th transition, where there is one
 abbrev pub line_texts : Names → VarNames → ℕ → Option Line → List (List ℕ)
@@ -94,7 +95,7 @@ status_text (faulted f) = codes "fault " ++ fault_text f
 
 -- an element of the stack, resolved
 abbrev pub element_text : Names → VarNames → Subst → Element → List ℕ
-element_text names vars s (goal g) = goal_text names vars (replaced_goal (value_at s) g)
+element_text names vars s (goal g) = goal_text names vars (goal_instance (value_at s) g)
 element_text names vars s (known i a) = known_text names vars (resolved_atom s a) i
 element_text names vars s (active i j a) = active_text names vars (resolved_atom s a) i j
 
@@ -130,7 +131,7 @@ outcome names vars p s =
 
 -- each line ends with a line feed
 abbrev pub lines_text : List (List ℕ) → List ℕ
-lines_text ls = flat_map (λ l. l ++ 10 ∷ []) ls
+lines_text ls = flat_map (λ l. l ++ byte "\n" ∷ []) ls
 
 -- the text of the first n transitions of a query
 abbrev pub text : Names → Program → Query → ℕ → List ℕ

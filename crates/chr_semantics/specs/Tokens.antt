@@ -1,8 +1,10 @@
 -- The tokens of a text. A character is its code, and a text is the list of its characters (words as in Unicode Standard Annex 31; signs and
 -- comments as in the CHR systems of Prolog).
 use Rattle.std.specs.Prelude.{ℕ, zero, suc, ◌+◌, ◌-◌, ◌*◌, ◌==◌, nat_le, Bool, true, false, cond, ◌&&◌, ◌||◌, not, if◌then◌else◌, List, [], ◌∷◌, take, drop, length, codes, bytes_eq, Option, Some, None, option_map}
+use Rattle.std.specs.Str.{byte}
 use Rattle.std.specs.Char.{is_whitespace, is_ascii_digit, is_ascii_uppercase}
 use Rattle.unicode_ident.specs.Ident.{is_xid_start, is_xid_continue}
+use Rattle.chr_semantics.specs.Value.{max_magnitude}
 
 -- where a character stands; lines and columns count from 1
 pub record Place : Type 0 where
@@ -92,7 +94,7 @@ begins (x ∷ xs) (c ∷ cs) = (c == x) && begins xs cs
 
 -- a line feed ends a line
 abbrev pub is_in_line : ℕ → Bool
-is_in_line c = not (c == 10)
+is_in_line c = not (c == byte "\n")
 
 -- how many characters there are up to the first `*/` and with it, if there is one
 abbrev pub comment_len : List ℕ → Option ℕ
@@ -106,12 +108,12 @@ comment (Some n) = blank (n + 2)
 
 -- a word begins with XID_Start or `_`, and goes on with XID_Continue
 abbrev pub starts_word : ℕ → Bool
-starts_word c = is_xid_start c || (c == 95)
+starts_word c = is_xid_start c || (c == byte "_")
 
 -- a VARIABLE begins with an ASCII capital or `_`
 abbrev pub is_variable : List ℕ → Bool
 is_variable [] = false
-is_variable (c ∷ cs) = is_ascii_uppercase c || (c == 95)
+is_variable (c ∷ cs) = is_ascii_uppercase c || (c == byte "_")
 
 -- the words `is` and `mod` are operators, and any other that is no VARIABLE is a NAME
 abbrev pub word_token : List ℕ → Token
@@ -123,15 +125,15 @@ word_token w = if is_variable w then variable w else
 -- the value of decimal digits behind digits of value n
 abbrev pub digits_value : ℕ → List ℕ → ℕ
 digits_value n [] = n
-digits_value n (c ∷ cs) = digits_value (n * 10 + (c - 48)) cs
+digits_value n (c ∷ cs) = digits_value (n * 10 + (c - byte "0")) cs
 
 abbrev pub number_piece : Bool → List ℕ → Piece
-number_piece signed ds = if nat_le (digits_value 0 ds) 170141183460469231731687303715884105728 then token (numeral signed (digits_value 0 ds)) (length ds) else broken too_large
+number_piece signed ds = if nat_le (digits_value 0 ds) max_magnitude then token (numeral signed (digits_value 0 ds)) (length ds) else broken too_large
 
 -- `.` may be END before this
 abbrev pub ends : List ℕ → Bool
 ends [] = true
-ends (c ∷ cs) = is_whitespace c || (c == 37)
+ends (c ∷ cs) = is_whitespace c || (c == byte "%")
 
 -- the signs, a longer one before a shorter one that it begins with
 abbrev pub signs : List (List ℕ × Token)
@@ -154,7 +156,7 @@ sign_piece cs = if begins (codes ".") cs && ends (drop 1 cs) then token (sign st
 unfoldable pub piece : Bool → List ℕ → Piece
 piece signed [] = ended
 piece signed (c ∷ cs) = if is_whitespace c then blank 1 else
-    if c == 37 then blank (run_len is_in_line cs + 1) else
+    if c == byte "%" then blank (run_len is_in_line cs + 1) else
     if begins (codes "/*") (c ∷ cs) then comment (comment_len (drop 2 (c ∷ cs))) else
     if starts_word c then token (word_token (take (run_len is_xid_continue cs + 1) (c ∷ cs))) (run_len is_xid_continue cs + 1) else
     if is_ascii_digit c then number_piece signed (take (run_len is_ascii_digit cs + 1) (c ∷ cs)) else
@@ -162,7 +164,7 @@ piece signed (c ∷ cs) = if is_whitespace c then blank 1 else
 
 -- the place behind a character, and behind several
 abbrev pub after : Place → ℕ → Place
-after p c = if c == 10 then record { line = p.line + 1; column = 1 } else record { line = p.line; column = p.column + 1 }
+after p c = if c == byte "\n" then record { line = p.line + 1; column = 1 } else record { line = p.line; column = p.column + 1 }
 
 abbrev pub advance : Place → List ℕ → Place
 advance p [] = p

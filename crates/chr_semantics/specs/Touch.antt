@@ -2,7 +2,7 @@
 use Rattle.std.specs.Prelude.{ℕ, Bool, false, not, ◌&&◌, ◌==◌, nat_lt, List, [], ◌∷◌, map, drop, Option, Some, None, length}
 use Rattle.std.specs.List.{list_any}
 use Rattle.chr_semantics.specs.Tree.{is_ground_trees}
-use Rattle.chr_semantics.specs.Subst.{replaced_all, value_at}
+use Rattle.chr_semantics.specs.Subst.{instances, value_at}
 use Rattle.chr_semantics.specs.Program.{Atom, Goal, constraint, tell, evaluate, compare, fail, Head, Program, Occurrence, occurrence}
 use Rattle.chr_semantics.specs.Match.{Row}
 use Rattle.chr_semantics.specs.Search.{ids_of, has_number, Found, no_occurrence, no_firing, firing, atom_of}
@@ -16,7 +16,7 @@ pub data Mark : Type 0 where
 
 -- whether the store has a constraint of the symbol that is not ground
 abbrev pub has_open : State → ℕ → Bool
-has_open s f = list_any (λ (r : Row). r.1.sym == f && not (is_ground_trees (replaced_all (value_at s.subst) r.1.args))) s.store
+has_open s f = list_any (λ (r : Row). r.1.sym == f && not (is_ground_trees (instances (value_at s.subst) r.1.args))) s.store
 
 -- whether a variable is bound from the one state to the other
 abbrev pub binds : State → State → Bool

@@ -5,7 +5,7 @@ use Rattle.chr_semantics.specs.Value.{Fault}
 use Rattle.chr_semantics.specs.Program.{Atom, Goal, constraint, tell, evaluate, compare, fail, Program}
 use Rattle.chr_semantics.specs.Search.{ids_of, Found, no_occurrence, no_firing, firing}
 use Rattle.chr_semantics.specs.State.{Element, goal, known, active, Status, running, done, failed, faulted, State, resolved_atom}
-use Rattle.chr_semantics.specs.Step.{solve, replaced_goal, search_at}
+use Rattle.chr_semantics.specs.Step.{solve, goal_instance, search_at}
 
 pub data Line : Type 0 where
   solves : Goal → Line
@@ -27,9 +27,9 @@ solve_line g (faulted f) = faults g f
 
 abbrev pub goal_line : State → Goal → Status → Line
 goal_line s (constraint a) w = activates (resolved_atom s.subst a) s.next_id
-goal_line s (tell t u) w = solve_line (replaced_goal (value_at s.subst) (tell t u)) w
-goal_line s (evaluate t u) w = solve_line (replaced_goal (value_at s.subst) (evaluate t u)) w
-goal_line s (compare c t u) w = solve_line (replaced_goal (value_at s.subst) (compare c t u)) w
+goal_line s (tell t u) w = solve_line (goal_instance (value_at s.subst) (tell t u)) w
+goal_line s (evaluate t u) w = solve_line (goal_instance (value_at s.subst) (evaluate t u)) w
+goal_line s (compare c t u) w = solve_line (goal_instance (value_at s.subst) (compare c t u)) w
 goal_line s fail w = solve_line fail w
 
 abbrev pub search_line : Atom → ℕ → ℕ → Found → Line

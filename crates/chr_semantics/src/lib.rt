@@ -4,6 +4,7 @@
 
 pub mod checks;
 pub mod laws;
+pub mod limits;
 pub mod runs;
 pub mod speculation;
 pub mod whole_numbers;

@@ -1,7 +1,7 @@
 ghost use Rattle.std.specs.Prelude.{◌≡◌, ◌&&◌, ◌||◌, ◌++◌, ◌∷◌, [], OnErr, OnOk};
 ghost use Rattle.std.specs.Fmt.{decimal, signed_decimal};
 ghost use Rattle.chr_semantics.specs.Names.{name_at, var_text};
-ghost use Rattle.chr_semantics.specs.Print.{applied, node_shown, operator_text, pair_shown, shown, shown_all, sign_of, term_text, texts_from, wrapped};
+ghost use Rattle.chr_semantics.specs.Print.{call_text, node_printing, operator_text, pair_printing, printing_of, printings_of, sign_of, term_text, texts_from, in_parentheses};
 ghost use Rattle.chr_term.specs.View.{trees_view, view};
 ghost use Rattle.chr_term.specs.Arguments.{AreArguments};
 
@@ -33,7 +33,7 @@ pub fn print_atom<A: Allocator + Copy, N: Allocator, V: Allocator, T: Allocator,
     args: &[Term<T>],
     out: &mut Vec<u8, O>,
 ) -> Result<(), Memory>
-    ensures ok { OnOk result (out.new.items ≡ out.old.items ++ (node_shown names.now sym.0 (shown_all names.now vars.now (trees_view args.now))).text) }
+    ensures ok { OnOk result (out.new.items ≡ out.old.items ++ (node_printing names.now sym.0 (printings_of names.now vars.now (trees_view args.now))).text) }
     ensures err { OnErr result (out.new.items ≡ out.old.items) }
 {
     let mut text = Vec::new(alloc);
@@ -75,7 +75,7 @@ fn by_number<T: Allocator>(args: &[Term<T>]) -> Arguments<'_, T>
 
 /// Whether the term is `+` or `-` over two arguments.
 fn is_sum<T: Allocator>(term: &Term<T>) -> bool
-    ensures { (names : _) (vars : _) → result ≡ (shown names vars (view term.now)).is_sum }
+    ensures { (names : _) (vars : _) → result ≡ (printing_of names vars (view term.now)).is_sum }
 {
     match term {
         Term::Var(_) => false,
@@ -99,7 +99,7 @@ fn is_sum<T: Allocator>(term: &Term<T>) -> bool
 
 /// Whether the term is `*`, `//` or `mod` over two arguments.
 fn is_product<T: Allocator>(term: &Term<T>) -> bool
-    ensures { (names : _) (vars : _) → result ≡ (shown names vars (view term.now)).is_product }
+    ensures { (names : _) (vars : _) → result ≡ (printing_of names vars (view term.now)).is_product }
 {
     match term {
         Term::Var(_) => false,
@@ -128,14 +128,14 @@ fn is_product<T: Allocator>(term: &Term<T>) -> bool
 
 /// Whether the left operand of a product, or else of a sum, stands in parentheses.
 fn wraps_left<T: Allocator>(product: bool, term: &Term<T>) -> bool
-    ensures { (names : _) (vars : _) → result ≡ (product && (shown names vars (view term.now)).is_sum) }
+    ensures { (names : _) (vars : _) → result ≡ (product && (printing_of names vars (view term.now)).is_sum) }
 {
     product && is_sum(term)
 }
 
 /// Whether the right operand of a product, or else of a sum, stands in parentheses.
 fn wraps_right<T: Allocator>(product: bool, term: &Term<T>) -> bool
-    ensures { (names : _) (vars : _) → result ≡ ((shown names vars (view term.now)).is_sum || (product && (shown names vars (view term.now)).is_product)) }
+    ensures { (names : _) (vars : _) → result ≡ ((printing_of names vars (view term.now)).is_sum || (product && (printing_of names vars (view term.now)).is_product)) }
 {
     is_sum(term) || (product && is_product(term))
 }
@@ -151,7 +151,7 @@ struct Printer<'a, A: Allocator, N: Allocator, V: Allocator> {
 impl<A: Allocator + Copy, N: Allocator, V: Allocator> Printer<'_, A, N, V> {
     #[cycle(write)]
     fn write<T: Allocator>(&self, term: &Term<T>, out: &mut Vec<u8, A>) -> Result<(), Memory>
-        ensures { OnOk result (out.new.items ≡ out.old.items ++ (shown self.now.names.now self.now.vars.now (view term.now)).text) }
+        ensures { OnOk result (out.new.items ≡ out.old.items ++ (printing_of self.now.names.now self.now.vars.now (view term.now)).text) }
     {
         match term {
             Term::Var(number) => self.write_var(*number, out),
@@ -196,7 +196,7 @@ impl<A: Allocator + Copy, N: Allocator, V: Allocator> Printer<'_, A, N, V> {
         args: &[Term<T>],
         out: &mut Vec<u8, A>,
     ) -> Result<(), Memory>
-        ensures { OnOk result (out.new.items ≡ out.old.items ++ (node_shown self.now.names.now sym.0 (shown_all self.now.names.now self.now.vars.now (trees_view args.now))).text) }
+        ensures { OnOk result (out.new.items ≡ out.old.items ++ (node_printing self.now.names.now sym.0 (printings_of self.now.names.now self.now.vars.now (trees_view args.now))).text) }
     {
         match by_number(args) {
             Arguments::Zero => {
@@ -228,7 +228,7 @@ impl<A: Allocator + Copy, N: Allocator, V: Allocator> Printer<'_, A, N, V> {
         right: &Term<T>,
         out: &mut Vec<u8, A>,
     ) -> Result<(), Memory>
-        ensures { OnOk result (out.new.items ≡ out.old.items ++ (pair_shown self.now.names.now sym.0 (shown self.now.names.now self.now.vars.now (view left.now)) (shown self.now.names.now self.now.vars.now (view right.now))).text) }
+        ensures { OnOk result (out.new.items ≡ out.old.items ++ (pair_printing self.now.names.now sym.0 (printing_of self.now.names.now self.now.vars.now (view left.now)) (printing_of self.now.names.now self.now.vars.now (view right.now))).text) }
     {
         if sym.0 == Sym::CONS.0 {
             out.push(b'[')?;
@@ -259,7 +259,7 @@ impl<A: Allocator + Copy, N: Allocator, V: Allocator> Printer<'_, A, N, V> {
         right: &Term<T>,
         out: &mut Vec<u8, A>,
     ) -> Result<(), Memory>
-        ensures { OnOk result (out.new.items ≡ out.old.items ++ operator_text product sym.0 (shown self.now.names.now self.now.vars.now (view left.now)) (shown self.now.names.now self.now.vars.now (view right.now))) }
+        ensures { OnOk result (out.new.items ≡ out.old.items ++ operator_text product sym.0 (printing_of self.now.names.now self.now.vars.now (view left.now)) (printing_of self.now.names.now self.now.vars.now (view right.now))) }
     {
         self.write_wrapped(wraps_left(product, left), left, out)?;
         write_sign(sym, out)?;
@@ -276,7 +276,7 @@ impl<A: Allocator + Copy, N: Allocator, V: Allocator> Printer<'_, A, N, V> {
         others: &[Term<T>],
         out: &mut Vec<u8, A>,
     ) -> Result<(), Memory>
-        ensures { let one = shown self.now.names.now self.now.vars.now in OnOk result (out.new.items ≡ out.old.items ++ applied (name_at self.now.names.now sym.0) (one (view first.now) ∷ one (view second.now) ∷ one (view third.now) ∷ shown_all self.now.names.now self.now.vars.now (trees_view others.now))) }
+        ensures { let one = printing_of self.now.names.now self.now.vars.now in OnOk result (out.new.items ≡ out.old.items ++ call_text (name_at self.now.names.now sym.0) (one (view first.now) ∷ one (view second.now) ∷ one (view third.now) ∷ printings_of self.now.names.now self.now.vars.now (trees_view others.now))) }
     {
         self.write_name(sym, out)?;
         out.push(b'(')?;
@@ -293,7 +293,7 @@ impl<A: Allocator + Copy, N: Allocator, V: Allocator> Printer<'_, A, N, V> {
         others: &[Term<T>],
         out: &mut Vec<u8, A>,
     ) -> Result<(), Memory>
-        ensures { OnOk result (out.new.items ≡ out.old.items ++ 44 ∷ ((shown self.now.names.now self.now.vars.now (view third.now)).text ++ (texts_from (shown_all self.now.names.now self.now.vars.now (trees_view others.now)) ++ 41 ∷ []))) }
+        ensures { OnOk result (out.new.items ≡ out.old.items ++ 44 ∷ ((printing_of self.now.names.now self.now.vars.now (view third.now)).text ++ (texts_from (printings_of self.now.names.now self.now.vars.now (trees_view others.now)) ++ 41 ∷ []))) }
     {
         out.push(b',')?;
         self.write(third, out)?;
@@ -308,7 +308,7 @@ impl<A: Allocator + Copy, N: Allocator, V: Allocator> Printer<'_, A, N, V> {
         others: &[Term<T>],
         out: &mut Vec<u8, A>,
     ) -> Result<(), Memory>
-        ensures { OnOk result (out.new.items ≡ out.old.items ++ texts_from (shown_all self.now.names.now self.now.vars.now (trees_view others.now))) }
+        ensures { OnOk result (out.new.items ≡ out.old.items ++ texts_from (printings_of self.now.names.now self.now.vars.now (trees_view others.now))) }
     {
         for term in others {
             out.push(b',')?;
@@ -324,7 +324,7 @@ impl<A: Allocator + Copy, N: Allocator, V: Allocator> Printer<'_, A, N, V> {
         term: &Term<T>,
         out: &mut Vec<u8, A>,
     ) -> Result<(), Memory>
-        ensures { OnOk result (out.new.items ≡ out.old.items ++ wrapped wrap (shown self.now.names.now self.now.vars.now (view term.now)).text) }
+        ensures { OnOk result (out.new.items ≡ out.old.items ++ in_parentheses wrap (printing_of self.now.names.now self.now.vars.now (view term.now)).text) }
     {
         if wrap {
             out.push(b'(')?;
@@ -339,7 +339,7 @@ impl<A: Allocator + Copy, N: Allocator, V: Allocator> Printer<'_, A, N, V> {
     /// The rest of a list, from behind an element to the closing bracket.
     #[cycle(write)]
     fn write_tail<T: Allocator>(&self, term: &Term<T>, out: &mut Vec<u8, A>) -> Result<(), Memory>
-        ensures { OnOk result (out.new.items ≡ out.old.items ++ (shown self.now.names.now self.now.vars.now (view term.now)).tail) }
+        ensures { OnOk result (out.new.items ≡ out.old.items ++ (printing_of self.now.names.now self.now.vars.now (view term.now)).tail) }
     {
         match term {
             Term::Node(sym, args) => match by_number(args.as_slice()) {
@@ -370,7 +370,7 @@ impl<A: Allocator + Copy, N: Allocator, V: Allocator> Printer<'_, A, N, V> {
     /// The end of a list that is no list.
     #[cycle(write)]
     fn write_end<T: Allocator>(&self, term: &Term<T>, out: &mut Vec<u8, A>) -> Result<(), Memory>
-        ensures { OnOk result (out.new.items ≡ out.old.items ++ 124 ∷ ((shown self.now.names.now self.now.vars.now (view term.now)).text ++ 93 ∷ [])) }
+        ensures { OnOk result (out.new.items ≡ out.old.items ++ 124 ∷ ((printing_of self.now.names.now self.now.vars.now (view term.now)).text ++ 93 ∷ [])) }
     {
         out.push(b'|')?;
         self.write(term, out)?;

@@ -11,9 +11,9 @@ const MOST: u64 = 10_000;
 fn place_of(error: TextError) -> Option<usize> {
     let wants = [
         TextError::Program(unread(ReadFault::Memory, 0, 0)),
-        TextError::Rules(mistaken(RuleFault::Memory, 0, 0)),
+        TextError::Rules(mistaken(RuleErrorKind::Memory, 0, 0)),
         TextError::Query(unread(ReadFault::Memory, 0, 0)),
-        TextError::Goals(mistaken(RuleFault::Memory, 0, 0)),
+        TextError::Goals(mistaken(RuleErrorKind::Memory, 0, 0)),
         TextError::Run(RunError::Memory),
     ];
     wants.iter().position(|want| *want == error)

@@ -5,7 +5,7 @@ use Rattle.chr_semantics.specs.Program.{tell, compare, less, Head, Rule, Program
 use Rattle.chr_semantics.specs.State.{State, start}
 use Rattle.chr_semantics.specs.Touch.{Mark, touched}
 use Rattle.chr_semantics.specs.Tasks.{Task, tasks}
-use Rattle.chr_semantics.specs.Schedule.{Event, publish, arrive, move, Progress, nothing_yet, next, Counts, counts, Refusal, first_refusal}
+use Rattle.chr_semantics.specs.Schedule.{Event, publish, arrive, move, Progress, no_progress, next, Counts, counts, Refusal, first_refusal}
 use Rattle.chr_semantics.specs.Examples.Terms.{number, head, passive_head, chr, term}
 use Rattle.chr_semantics.specs.Examples.Example.{Example, state_after}
 
@@ -22,17 +22,17 @@ steps_where count p q g (e ∷ es) =
 
 -- the numbers of the Steps of a schedule that are used, and of those that are own
 abbrev pub used_steps : Example → List Event → List ℕ
-used_steps e = steps_where (λ g. g.used) e.program (start e.query) nothing_yet
+used_steps e = steps_where (λ g. g.used) e.program (start e.query) no_progress
 
 abbrev pub own_steps : Example → List Event → List ℕ
-own_steps e = steps_where (λ g. g.own) e.program (start e.query) nothing_yet
+own_steps e = steps_where (λ g. g.own) e.program (start e.query) no_progress
 
 -- the counts of a schedule, its first refusal, and the tasks after n steps
 abbrev pub counts_in : Example → List Event → Counts
 counts_in e = counts e.program (start e.query)
 
 abbrev pub refusal_in : Example → List Event → Option Refusal
-refusal_in e = first_refusal e.program (start e.query) nothing_yet 0
+refusal_in e = first_refusal e.program (start e.query) no_progress 0
 
 abbrev pub tasks_after : Example → ℕ → List Task
 tasks_after e n = tasks e.program (state_after e n)

@@ -3,7 +3,7 @@ use Rattle.std.specs.Prelude.{ℕ, pos, false, List, [], ◌∷◌, map, replica
 use Rattle.chr_semantics.specs.Tokens as token
 use Rattle.chr_semantics.specs.Tokens.{minus, Relation}
 use Rattle.chr_semantics.specs.Syntax.{Expr, exprs_of, variable, number, call, sum, Item, plain, related, Head, Arrow, simplification, Rule, Declaration, Part, declares, rule, Program, Query}
-use Rattle.chr_semantics.specs.Checked.{Mistake, Refusal, Checked}
+use Rattle.chr_semantics.specs.Checked.{RuleErrorKind, RuleError, Checked}
 
 -- a name alone, and a name over one expression
 abbrev pub name : List ℕ → Item
@@ -86,5 +86,5 @@ abbrev pub many : ℕ → List Item
 many n = replicate n (over (codes "t") (variable (codes "_")))
 
 -- such a refusal, in a line and a rule
-abbrev pub refused : Mistake → ℕ → ℕ → Result Checked Refusal
-refused m line k = Err (record { mistake = m; line = line; rule = k })
+abbrev pub refused : RuleErrorKind → ℕ → ℕ → Result Checked RuleError
+refused m line k = Err (record { kind = m; line = line; rule = k })

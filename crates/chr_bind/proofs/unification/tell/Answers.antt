@@ -1,5 +1,5 @@
 use Rattle.std.proofs.Common.{Ok, ◌∙◌, ap, arith, length, subst, sym}
-use Rattle.chr_semantics.specs.Mgu.{apart, solved_from}
+use Rattle.chr_semantics.specs.Mgu.{apart, elimination_from}
 use Rattle.chr_semantics.specs.Subst.{apply}
 use Rattle.chr_term.specs.View.{view}
 use Rattle.chr_bind.specs.Agenda.{Differs, IsBound, rest_apart}
@@ -22,5 +22,5 @@ returns-clause-told g c =
     let free = name_free c.args.links.now pairs b.end b.name (view b.term.now) c.requires.sound step.1.end bound.1 in
     told_before s _ all (rest_apart _ c.first_difference.new.agenda.items) _ _ _ _ c.tell_rest.result
     (ap length told ∙ length-last c.args.progress.now.told.items (b.name, b.term))
-    (λ m. told_once_more 0 s all s all c.first_difference.new.agenda.items b.name _ (λ k. ap (λ f. solved_from f s all) (omega arith)) step.0 bound.1 free m ∙ ap (λ r. solved_from m r (rest_apart r c.first_difference.new.agenda.items)) (sym more))
+    (λ m. told_once_more 0 s all s all c.first_difference.new.agenda.items b.name _ (λ k. ap (λ f. elimination_from f s all) (omega arith)) step.0 bound.1 free m ∙ ap (λ r. elimination_from m r (rest_apart r c.first_difference.new.agenda.items)) (sym more))
     c.tell_rest.ensures.told

@@ -1,5 +1,5 @@
 use Rattle.std.proofs.Common.{Ok, ◌+◌, ◌∙◌, ap, arith, length, refl, subst, sym}
-use Rattle.chr_semantics.specs.Mgu.{solved_from}
+use Rattle.chr_semantics.specs.Mgu.{elimination_from}
 use Rattle.chr_term.specs.View.{view}
 use Rattle.chr_bind.specs.Agenda.{Differs, IsAllDone, IsBelowAgenda, IsBound, rest_apart}
 use Rattle.chr_bind.specs.Chains.{IsSound, pairs_in, solution}
@@ -10,7 +10,7 @@ use Rattle.chr_bind.proofs.unification.tell_rest.Goals as goal
 pub loop-binding-init : goal.loop-binding-init
 loop-binding-init g c =
     let s = solution (pairs_in c.args.made.now c.args.progress.now.told.items) in
-    (c.requires.sound, c.requires.agenda, refl, 0, (omega arith), (λ m. ap (λ f. solved_from f s (rest_apart s c.args.agenda.now.items)) (omega arith)))
+    (c.requires.sound, c.requires.agenda, refl, 0, (omega arith), (λ m. ap (λ f. elimination_from f s (rest_apart s c.args.agenda.now.items)) (omega arith)))
 
 pub returns-in-None-clause-told : goal.returns-in-None-clause-told
 returns-in-None-clause-told g c =
@@ -18,14 +18,14 @@ returns-in-None-clause-told g c =
     let found = subst (λ w. Differs c.loop-binding.links (solution (pairs_in c.args.made.now w)) (rest_apart (solution (pairs_in c.args.made.now w)) c.loop-binding.agenda.items) c.next_difference.new.agenda.items c.in_ok-next_difference.field-0) c.as_slice-told.ensures.value c.in_ok-next_difference.ensures.step in
     let step = subst (Differs c.loop-binding.links s (rest_apart s c.loop-binding.agenda.items) c.next_difference.new.agenda.items) c.in-None.is found in
     let empty = subst (IsAllDone c.next_difference.new.agenda.items) c.in-None.is c.in_ok-next_difference.ensures.none in
-    (c.loop-binding.invariant.3, c.loop-binding.invariant.4, (λ m. c.loop-binding.invariant.5 m ∙ ap (solved_from m s) (step ∙ ap (rest_apart s) empty)))
+    (c.loop-binding.invariant.3, c.loop-binding.invariant.4, (λ m. c.loop-binding.invariant.5 m ∙ ap (elimination_from m s) (step ∙ ap (rest_apart s) empty)))
 
 pub returns-in-Clash-clause-told : goal.returns-in-Clash-clause-told
 returns-in-Clash-clause-told g c =
     let s = solution (pairs_in c.args.made.now c.loop-binding.progress.told.items) in
     let found = subst (λ w. Differs c.loop-binding.links (solution (pairs_in c.args.made.now w)) (rest_apart (solution (pairs_in c.args.made.now w)) c.loop-binding.agenda.items) c.next_difference.new.agenda.items c.in_ok-next_difference.field-0) c.as_slice-told.ensures.value c.in_ok-next_difference.ensures.step in
     let step = subst (Differs c.loop-binding.links s (rest_apart s c.loop-binding.agenda.items) c.next_difference.new.agenda.items) c.in-Clash.is found in
-    (c.loop-binding.invariant.3, (λ m. c.loop-binding.invariant.5 m ∙ ap (solved_from m s) step))
+    (c.loop-binding.invariant.3, (λ m. c.loop-binding.invariant.5 m ∙ ap (elimination_from m s) step))
 
 pub returns-then-not-branch-clause-told : goal.returns-then-not-branch-clause-told
 returns-then-not-branch-clause-told g c =
@@ -52,5 +52,5 @@ loop-binding-preserved g c =
       c.loop-binding.invariant.3 + 1,
       omega (arith, ap length told, length-last c.loop-binding.progress.told.items (b.name, b.term), c.loop-binding.invariant.4),
       (λ m.
-          told_once_more c.loop-binding.invariant.3 _ _ s _ c.next_difference.new.agenda.items b.name _ c.loop-binding.invariant.5 step.0 bound.1 free m ∙ ap (λ r. solved_from m r (rest_apart r c.next_difference.new.agenda.items)) (sym more)),
+          told_once_more c.loop-binding.invariant.3 _ _ s _ c.next_difference.new.agenda.items b.name _ c.loop-binding.invariant.5 step.0 bound.1 free m ∙ ap (λ r. elimination_from m r (rest_apart r c.next_difference.new.agenda.items)) (sym more)),
     )

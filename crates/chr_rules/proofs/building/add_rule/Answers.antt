@@ -1,6 +1,6 @@
 use Rattle.std.proofs.Common.{◌∙◌, ◌+◌, [], ◌∷◌, ◌++◌, Ok, ap, length, subst, sym}
 use Rattle.std.proofs.lemmas.List.{map-append}
-use Rattle.chr_semantics.specs.Checked.{mistake_in_rule, unless, with_rule}
+use Rattle.chr_semantics.specs.Checked.{error_in_rule, unless, with_rule}
 use Rattle.chr_read.specs.View.{rule_view as syntax_rule}
 use Rattle.chr_rules.specs.Building.{IsPlaced, checked_of, unless_mistaken}
 use Rattle.chr_rules.specs.Checks.{IsFault}
@@ -26,7 +26,7 @@ returns-in-Err-clause-refused g c =
     let names = c.args.names.now in
     let r = syntax_rule c.args.written.now in
     let earlier = rules_view c.args.rules.now.items in
-    let fault = subst (λ rs. IsFault c.in-Err.fault (mistake_in_rule names d (rules_view rs) r)) c.as_slice-2.ensures.value c.in-Err.ensures.refused in
+    let fault = subst (λ rs. IsFault c.in-Err.fault (error_in_rule names d (rules_view rs) r)) c.as_slice-2.ensures.value c.in-Err.ensures.refused in
     let number = c.count-number.ensures ∙ ap (λ rs. length (rules_view rs)) c.as_slice.ensures.value in
     let at = subst (λ n. IsPlaced c.in-Err.fault c.args.line (n + 1) c.error.result) number c.error.ensures in
-    placed c.in-Err.fault (mistake_in_rule names d earlier r) c.args.line (length earlier + 1) c.error.result (with_rule (checked_of names d earlier) r) at fault
+    placed c.in-Err.fault (error_in_rule names d earlier r) c.args.line (length earlier + 1) c.error.result (with_rule (checked_of names d earlier) r) at fault

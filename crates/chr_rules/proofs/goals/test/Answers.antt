@@ -1,5 +1,5 @@
 use Rattle.std.proofs.Common.{◌∙◌, ap, sym}
-use Rattle.chr_semantics.specs.Meaning.{test_from, scope, tested}
+use Rattle.chr_semantics.specs.Meaning.{test_from, scope, relation_test}
 use Rattle.chr_tokens.specs.View.{relation_view}
 use Rattle.chr_read.specs.View.{item_view}
 use Rattle.chr_rules.proofs.goals.test.Goals as goal
@@ -7,5 +7,5 @@ use Rattle.chr_rules.proofs.goals.test.Goals as goal
 pub returns-in_ok-left-in-Related : goal.returns-in_ok-left-in-Related
 returns-in_ok-left-in-Related g c =
     ap (λ x. (scope c.sides.new.names c.sides.new.variables, x)) c.tested.ensures
-    ∙ ap (λ q. (q.0, tested (relation_view c.in-Related.relation) q.1.0 q.1.1)) c.in_ok-left-in-Related.ensures.sides
+    ∙ ap (λ q. (q.0, relation_test (relation_view c.in-Related.relation) q.1.0 q.1.1)) c.in_ok-left-in-Related.ensures.sides
     ∙ ap (λ i. test_from (scope c.args.names.now c.args.variables.now) (item_view i)) (sym c.in-Related.is)

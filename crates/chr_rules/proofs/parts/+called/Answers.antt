@@ -1,6 +1,6 @@
 use Rattle.std.proofs.Common.{◌≡◌, ◌<◌, ◌∙◌, ap, sym, arith}
 use Rattle.std.specs.Prelude.{length}
-use Rattle.chr_semantics.specs.Meaning.{called}
+use Rattle.chr_semantics.specs.Meaning.{call_of}
 use Rattle.chr_read.specs.View.{view}
 use Rattle.chr_rules.proofs.Within.{called_in_end, called_in_factor, called_in_list, called_in_list_with_end, called_in_operand, called_in_product, called_in_sum}
 use Rattle.chr_rules.proofs.parts.+called.Goals as goal
@@ -11,7 +11,7 @@ returns-in-List g t c = sym (called_in_list c.args.expr.now c.in-List.field-0 c.
 pub returns-then-is_empty : goal.returns-then-is_empty
 returns-then-is_empty g t c =
     let none : length c.in-ListWithEnd.items.items ≡ 0 = grind (arith, c.is_empty.ensures, c.if-is_empty.true, c.in-ListWithEnd.items.ok.0) in
-    c.as_call.ensures ∙ ap (λ e. called (view e)) c.deref.ensures ∙ sym (called_in_end c.args.expr.now c.in-ListWithEnd.items c.in-ListWithEnd.end c.in-ListWithEnd.is none)
+    c.as_call.ensures ∙ ap (λ e. call_of (view e)) c.deref.ensures ∙ sym (called_in_end c.args.expr.now c.in-ListWithEnd.items c.in-ListWithEnd.end c.in-ListWithEnd.is none)
 
 pub returns-else-is_empty : goal.returns-else-is_empty
 returns-else-is_empty g t c =
@@ -21,7 +21,7 @@ returns-else-is_empty g t c =
 pub returns-then-is_empty-2 : goal.returns-then-is_empty-2
 returns-then-is_empty-2 g t c =
     let none : length c.in-Sum.others.items ≡ 0 = grind (arith, c.is_empty-in-Sum.ensures, c.if-is_empty-2.true, c.in-Sum.others.ok.0) in
-    c.as_call-then-is_empty-2.ensures ∙ ap (λ e. called (view e)) c.deref-then-is_empty-2.ensures ∙ sym (called_in_operand c.args.expr.now c.in-Sum.first c.in-Sum.others c.in-Sum.is none)
+    c.as_call-then-is_empty-2.ensures ∙ ap (λ e. call_of (view e)) c.deref-then-is_empty-2.ensures ∙ sym (called_in_operand c.args.expr.now c.in-Sum.first c.in-Sum.others c.in-Sum.is none)
 
 pub returns-else-is_empty-2 : goal.returns-else-is_empty-2
 returns-else-is_empty-2 g t c =
@@ -31,7 +31,7 @@ returns-else-is_empty-2 g t c =
 pub returns-then-is_empty-3 : goal.returns-then-is_empty-3
 returns-then-is_empty-3 g t c =
     let none : length c.in-Product.others.items ≡ 0 = grind (arith, c.is_empty-in-Product.ensures, c.if-is_empty-3.true, c.in-Product.others.ok.0) in
-    c.as_call-then-is_empty-3.ensures ∙ ap (λ e. called (view e)) c.deref-then-is_empty-3.ensures ∙ sym (called_in_factor c.args.expr.now c.in-Product.first c.in-Product.others c.in-Product.is none)
+    c.as_call-then-is_empty-3.ensures ∙ ap (λ e. call_of (view e)) c.deref-then-is_empty-3.ensures ∙ sym (called_in_factor c.args.expr.now c.in-Product.first c.in-Product.others c.in-Product.is none)
 
 pub returns-else-is_empty-3 : goal.returns-else-is_empty-3
 returns-else-is_empty-3 g t c =

@@ -1,5 +1,5 @@
 use Rattle.std.proofs.Common.{◌∙◌, ◌+◌, ℕ, List, [], ap, length, map}
-use Rattle.chr_semantics.specs.Checked.{mistake_in_rule}
+use Rattle.chr_semantics.specs.Checked.{error_in_rule}
 use Rattle.chr_semantics.specs.Meaning.{Scope, all_heads, goal_from, head_from, in_turn, kept_count, label_of, scope, test_from}
 use Rattle.chr_semantics.specs.Names.{Names}
 use Rattle.chr_semantics.specs.Program.{Goal, Head, Rule, Test}
@@ -67,8 +67,8 @@ returns-clause-rule g c =
 
 pub returns-in_err-body-clause-refused : goal.returns-in_err-body-clause-refused
 returns-in_err-body-clause-refused g c =
-    memory_wanted c.from_residual-in_err-body.result (mistake_in_rule c.args.names.now c.args.declared (rules_view c.args.earlier.now) (syntax_rule c.args.written.now)) c.from_residual-in_err-body.ensures.1
+    memory_wanted c.from_residual-in_err-body.result (error_in_rule c.args.names.now c.args.declared (rules_view c.args.earlier.now) (syntax_rule c.args.written.now)) c.from_residual-in_err-body.ensures.1
 
 pub returns-in_err-label-clause-refused : goal.returns-in_err-label-clause-refused
 returns-in_err-label-clause-refused g c =
-    memory_wanted c.from_residual-in_err-label.result (mistake_in_rule c.args.names.now c.args.declared (rules_view c.args.earlier.now) (syntax_rule c.args.written.now)) c.from_residual-in_err-label.ensures.1
+    memory_wanted c.from_residual-in_err-label.result (error_in_rule c.args.names.now c.args.declared (rules_view c.args.earlier.now) (syntax_rule c.args.written.now)) c.from_residual-in_err-label.ensures.1

@@ -1,5 +1,5 @@
 use Rattle.std.proofs.Common.{sym, ap, ◌∙◌, ◌&&◌}
-use Rattle.chr_semantics.specs.Print.{shown}
+use Rattle.chr_semantics.specs.Print.{printing_of}
 use Rattle.chr_term.specs.View.{view}
 use Rattle.chr_term.proofs.Signs.{and_after, or_at_once, or_after}
 use Rattle.chr_term.proofs.printing.wraps_right.Goals as goal
@@ -12,4 +12,4 @@ returns-then-product g c = λ names vars. or_after _ _ _ _ c.if-is_sum.false (c.
 
 pub returns-else-product : goal.returns-else-product
 returns-else-product g c = λ names vars. or_after _ _ _ _ c.if-is_sum.false (c.is_sum.ensures names vars)
-    (c.if-product.false ∙ ap (λ b. b && (shown names vars (view c.args.term.now)).is_product) (sym c.if-product.false))
+    (c.if-product.false ∙ ap (λ b. b && (printing_of names vars (view c.args.term.now)).is_product) (sym c.if-product.false))

@@ -1,5 +1,5 @@
 use Rattle.std.proofs.Common.{◌≡◌, ◌↔◌, ◌+◌, drop}
-use Rattle.chr_semantics.specs.Subst.{apply, replaced_all, value_at}
+use Rattle.chr_semantics.specs.Subst.{apply, instances, value_at}
 use Rattle.chr_term.specs.View.{view, trees_view}
 use Rattle.chr_bind.specs.Chains.{subst_of}
 use Rattle.chr_bind.specs.Terms.{size, size_all}
@@ -9,8 +9,8 @@ abbrev pub decreases-resolves_to : goal.decreases-resolves_to
 decreases-resolves_to g l = size (apply (subst_of l.self.now) (view l.term.now))
 
 abbrev pub decreases-resolve_to : goal.decreases-resolve_to
-decreases-resolve_to g l = size_all (replaced_all (value_at (subst_of l.self.now)) (trees_view l.terms.now)) + 1
+decreases-resolve_to g l = size_all (instances (value_at (subst_of l.self.now)) (trees_view l.terms.now)) + 1
 
 abbrev pub invariant-resolve_to-loop-i : goal.invariant-resolve_to-loop-i
 invariant-resolve_to-loop-i g l =
-    let f = value_at (subst_of l.self) in (replaced_all f (trees_view l.terms) ≡ trees_view l.others) ↔ (replaced_all f (trees_view (drop l.i l.terms)) ≡ trees_view (drop l.i l.others))
+    let f = value_at (subst_of l.self) in (instances f (trees_view l.terms) ≡ trees_view l.others) ↔ (instances f (trees_view (drop l.i l.terms)) ≡ trees_view (drop l.i l.others))

@@ -1,5 +1,5 @@
 use Rattle.std.proofs.Common.{◌≡◌, ◌+◌, ◌*◌, ◌++◌, drop}
-use Rattle.chr_semantics.specs.Print.{texts_from, shown_all}
+use Rattle.chr_semantics.specs.Print.{texts_from, printings_of}
 use Rattle.chr_term.specs.View.{view, trees_view}
 use Rattle.chr_term.proofs.Sizes.{size, sizes}
 use Rattle.chr_term.proofs.printing.Printer.+write.Given as goal
@@ -36,4 +36,4 @@ decreases-write_end g l = 8 * size (view l.term.now) + 1
 
 abbrev pub invariant-write_others-loop-term : goal.invariant-write_others-loop-term
 invariant-write_others-loop-term g l =
-    l.initial.out.items ++ texts_from (shown_all l.self.names.now l.self.vars.now (trees_view l.others)) ≡ l.out.items ++ texts_from (shown_all l.self.names.now l.self.vars.now (trees_view (drop l.term-index l.others)))
+    l.initial.out.items ++ texts_from (printings_of l.self.names.now l.self.vars.now (trees_view l.others)) ≡ l.out.items ++ texts_from (printings_of l.self.names.now l.self.vars.now (trees_view (drop l.term-index l.others)))
