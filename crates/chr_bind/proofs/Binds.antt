@@ -10,19 +10,20 @@ use Rattle.chr_semantics.proofs.UnifierEqual.{IsFree, apply-bound, apply_absent,
 use Rattle.std.specs.Borrow.{Bor}
 use Rattle.chr_term.specs.declared.term.Term.{Term}
 use Rattle.chr_bind.specs.Terms.{IsBelow, IsNoVar}
-use Rattle.chr_bind.specs.Chains.{Pairs, ArePairsBelow, IsAttached, IsJoined, IsJoinedAt, IsLast, IsLater, IsLinked, IsSound, StandsFor, free_count, free_one, lent_pair, name_of, owned_pair, pairs_in, solution, told_onto}
+use Rattle.chr_bind.specs.Chains.{Pairs, ArePairsBelow, IsAttached, IsJoined, IsJoinedAt, IsLast, IsLater, IsLinked, IsSound, StandsFor, free_count, free_one, lent_pair, name_of, owned_pair, pairs_in, solution, extension_by}
 use Rattle.chr_bind.specs.declared.chains.Link.{Link}
 use Rattle.chr_bind.specs.declared.chains.Link.TheVariants.{Free, Follows, Bound}
-use Rattle.chr_bind.proofs.Changed.{free_count-set, length-set, slice_get-before, slice_get-last, slice_get-set_other, slice_get-set_same}
+use Rattle.std.proofs.lemmas.List.{length-set}
+use Rattle.chr_bind.proofs.Changed.{free_count-set, slice_get-before, slice_get-last, slice_get-set_other, slice_get-set_same}
 use Rattle.chr_bind.proofs.Links.{has_pair, linked_at}
 
-told_onto-last : (s : Subst) (es : Pairs) (e : ℕ × Tree) → told_onto s (es ++ e ∷ []) ≡ with_binding e.0 (apply (told_onto s es) e.1) (told_onto s es)
-told_onto-last s [] e = refl
-told_onto-last s (f ∷ es) e = told_onto-last (with_binding f.0 (apply s f.1) s) es e
+extension_by-last : (s : Subst) (es : Pairs) (e : ℕ × Tree) → extension_by s (es ++ e ∷ []) ≡ with_binding e.0 (apply (extension_by s es) e.1) (extension_by s es)
+extension_by-last s [] e = refl
+extension_by-last s (f ∷ es) e = extension_by-last (with_binding f.0 (apply s f.1) s) es e
 
--- what is told last is bound last
+-- what is added last is bound last
 pub solution-last : (es : Pairs) (e : ℕ × Tree) → solution (es ++ e ∷ []) ≡ with_binding e.0 (apply (solution es) e.1) (solution es)
-solution-last es e = told_onto-last [] es e
+solution-last es e = extension_by-last [] es e
 
 pub free_link : (o : Option Link) (n : ℕ) → name_of o ≡ Some n → (z : ℕ) × (o ≡ Some (Free n z))
 free_link None n h = cc
@@ -334,12 +335,12 @@ attached_bound links new pairs x n i t h at absent b number proper is =
       len = ap length (sym same) ∙ length-set links x (Bound (length pairs));
     }
 
-pub length-pairs : {A : Type 0} (made : List (ℕ × Term A)) (told : List (ℕ × Bor (Term A))) → length made + length told ≡ length (pairs_in made told)
+pub length-pairs : {A : Type 0} (made : List (ℕ × Term A)) (added : List (ℕ × Bor (Term A))) → length made + length added ≡ length (pairs_in made added)
 length-pairs [] [] = refl
-length-pairs [] (e ∷ told) = omega (arith, length-pairs [] told)
-length-pairs (e ∷ made) told = omega (arith, length-pairs made told)
+length-pairs [] (e ∷ added) = omega (arith, length-pairs [] added)
+length-pairs (e ∷ made) added = omega (arith, length-pairs made added)
 
-pub pairs_in-last : {A : Type 0} (made : List (ℕ × Term A)) (told : List (ℕ × Bor (Term A))) (e : ℕ × Bor (Term A)) → pairs_in made (told ++ e ∷ []) ≡ pairs_in made told ++ lent_pair e ∷ []
+pub pairs_in-last : {A : Type 0} (made : List (ℕ × Term A)) (added : List (ℕ × Bor (Term A))) (e : ℕ × Bor (Term A)) → pairs_in made (added ++ e ∷ []) ≡ pairs_in made added ++ lent_pair e ∷ []
 pairs_in-last [] [] e = refl
-pairs_in-last [] (f ∷ told) e = ap (λ es. lent_pair f ∷ es) (pairs_in-last [] told e)
-pairs_in-last (f ∷ made) told e = ap (λ es. owned_pair f ∷ es) (pairs_in-last made told e)
+pairs_in-last [] (f ∷ added) e = ap (λ es. lent_pair f ∷ es) (pairs_in-last [] added e)
+pairs_in-last (f ∷ made) added e = ap (λ es. owned_pair f ∷ es) (pairs_in-last made added e)

@@ -1,12 +1,7 @@
 -- Links that are changed at one place.
 use Rattle.std.proofs.Common.{◌≡◌, ◌≢◌, ℕ, zero, suc, ◌+◌, ◌<◌, ◌≤◌, Some, List, [], ◌∷◌, ◌++◌, length, slice_get, set, ap, refl, sym, ◌∙◌, arith}
-use Rattle.chr_bind.specs.Chains.{free_count, free_one, undone}
+use Rattle.chr_bind.specs.Chains.{free_count, free_one, links_before}
 use Rattle.chr_bind.specs.declared.chains.Link.{Link}
-
-pub length-set : {A : Type 0} (xs : List A) (i : ℕ) (a : A) → length (set xs i a) ≡ length xs
-length-set [] i a = refl
-length-set (x ∷ xs) zero a = refl
-length-set (x ∷ xs) (suc i) a = ap suc (length-set xs i a)
 
 pub slice_get-set_same : {A : Type 0} (xs : List A) (i : ℕ) (a : A) → i < length xs → slice_get (set xs i a) i ≡ Some a
 slice_get-set_same [] i a h = absurd (omega arith)
@@ -41,13 +36,13 @@ free_count-set (m ∷ ls) zero l k h = let same : m ≡ k = cc in let e = ap fre
 free_count-set (m ∷ ls) (suc i) l k h = let r = free_count-set ls i l k h in omega (arith, r)
 
 -- undoing takes the last change back first
-pub undone-last : (es : List (ℕ × Link)) (e : ℕ × Link) (links : List Link) → undone (es ++ e ∷ []) links ≡ undone es (set links e.0 e.1)
-undone-last [] e links = refl
-undone-last (f ∷ es) e links = ap (λ ls. set ls f.0 f.1) (undone-last es e links)
+pub links_before-last : (es : List (ℕ × Link)) (e : ℕ × Link) (links : List Link) → links_before (es ++ e ∷ []) links ≡ links_before es (set links e.0 e.1)
+links_before-last [] e links = refl
+links_before-last (f ∷ es) e links = ap (λ ls. set ls f.0 f.1) (links_before-last es e links)
 
 -- a change that is remembered is undone
-pub undone-change : (es : List (ℕ × Link)) (links : List Link) (i : ℕ) (l k : Link) → slice_get links i ≡ Some k → undone (es ++ (i, k) ∷ []) (set links i l) ≡ undone es links
-undone-change es links i l k h = undone-last es (i, k) (set links i l) ∙ ap (undone es) (set_back links i l k h)
+pub links_before-change : (es : List (ℕ × Link)) (links : List Link) (i : ℕ) (l k : Link) → slice_get links i ≡ Some k → links_before (es ++ (i, k) ∷ []) (set links i l) ≡ links_before es links
+links_before-change es links i l k h = links_before-last es (i, k) (set links i l) ∙ ap (links_before es) (set_back links i l k h)
 
 pub set_beyond : {A : Type 0} (xs : List A) (i : ℕ) (a : A) → length xs ≤ i → set xs i a ≡ xs
 set_beyond [] i a h = refl

@@ -6,8 +6,9 @@ use Rattle.std.specs.Borrow.{Bor}
 use Rattle.chr_semantics.specs.Tree.{Tree, Trees, node, same}
 use Rattle.chr_semantics.specs.Subst.{Subst}
 use Rattle.chr_semantics.specs.Match.{fit, fit_all, fit_var, match_at}
+use Rattle.chr_semantics.specs.declared.limits.TheConstants.{MAX_RULE_VARIABLES}
 use Rattle.chr_semantics.proofs.SameLaw.{same_law}
-use Rattle.chr_term.specs.View.{view, trees_view}
+use Rattle.chr_term.specs.TermView.{view, trees_view}
 use Rattle.chr_term.specs.declared.term.Term.{Term}
 use Rattle.chr_term.proofs.Dropped.{trees_view-drop}
 use Rattle.chr_bind.specs.Matching.{Agrees, Slots, slot_tree}
@@ -71,5 +72,5 @@ empty_get A (suc n) zero = refl
 empty_get A (suc n) (suc x) = empty_get A n x
 
 -- nothing is matched in slots that are all empty
-pub empty_slots : (A : Type 0) (x : ℕ) → slot_tree {A = A} (slice_get (replicate 64 None) x) ≡ None
-empty_slots A x = empty_get A 64 x
+pub empty_slots : (A : Type 0) (x : ℕ) → slot_tree {A = A} (slice_get (replicate MAX_RULE_VARIABLES None) x) ≡ None
+empty_slots A x = empty_get A MAX_RULE_VARIABLES x

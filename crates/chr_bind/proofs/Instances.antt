@@ -6,7 +6,7 @@ use Rattle.chr_semantics.specs.Subst.{Subst, apply, value_at}
 use Rattle.chr_semantics.specs.Match.{match_at}
 use Rattle.chr_semantics.specs.Mgu.{mgu}
 use Rattle.chr_semantics.proofs.SameLaw.{same_law}
-use Rattle.chr_term.specs.View.{view}
+use Rattle.chr_term.specs.TermView.{view}
 use Rattle.chr_term.specs.declared.term.Term.{Term}
 use Rattle.chr_bind.specs.Matching.{AgreesWith, slot_tree}
 use Rattle.chr_bind.specs.declared.matching.Match.{Match}
@@ -28,15 +28,15 @@ free_value [] x e = refl
 free_value (p ∷ m) x e = free_step (p.0 == x) p.1 (var x) (value_at m x) (match_at m x) (free_value m x) e
 
 -- a variable that is matched is what it is matched to
-pub shown_matched : {A : Type 0} (h : Match A) (m : Subst) (x : ℕ) (p : Tree) (o : Option (Bor (Term A))) (t : Bor (Term A)) → AgreesWith h m → p ≡ var x → option_map (λ (r : Bor (Term A)). view r.now) o ≡ slot_tree (slice_get h.slots x) → o ≡ Some t
+pub instance_matched : {A : Type 0} (h : Match A) (m : Subst) (x : ℕ) (p : Tree) (o : Option (Bor (Term A))) (t : Bor (Term A)) → AgreesWith h m → p ≡ var x → option_map (λ (r : Bor (Term A)). view r.now) o ≡ slot_tree (slice_get h.slots x) → o ≡ Some t
     → view t.now ≡ apply m p
-shown_matched h m x p o t a ep eo et =
+instance_matched h m x p o t a ep eo et =
     let slot : slot_tree (slice_get h.slots x) ≡ Some (view t.now) = sym eo ∙ ap (option_map (λ (r : Bor (Term _)). view r.now)) et in
     sym (ap (apply m) ep ∙ matched_value m x (view t.now) (sym (a x) ∙ slot))
 
 -- one that is not stays
-pub shown_free : {A : Type 0} (h : Match A) (m : Subst) (x : ℕ) (p : Tree) (o : Option (Bor (Term A))) → AgreesWith h m → p ≡ var x → option_map (λ (r : Bor (Term A)). view r.now) o ≡ slot_tree (slice_get h.slots x) → o ≡ None → p ≡ apply m p
-shown_free h m x p o a ep eo et =
+pub instance_free : {A : Type 0} (h : Match A) (m : Subst) (x : ℕ) (p : Tree) (o : Option (Bor (Term A))) → AgreesWith h m → p ≡ var x → option_map (λ (r : Bor (Term A)). view r.now) o ≡ slot_tree (slice_get h.slots x) → o ≡ None → p ≡ apply m p
+instance_free h m x p o a ep eo et =
     let slot : slot_tree (slice_get h.slots x) ≡ None = sym eo ∙ ap (option_map (λ (r : Bor (Term _)). view r.now)) et in
     ep ∙ sym (ap (apply m) ep ∙ free_value m x (sym (a x) ∙ slot))
 

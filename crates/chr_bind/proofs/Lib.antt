@@ -1,14 +1,15 @@
 mod Links
 mod Lists
-mod Seen
+mod Roots
 mod Changed
 mod Binds
 mod Equations
 mod Agenda
 mod Views
-mod Told
+mod Eliminations
 mod Fresh
 mod Values
 mod Fits
 mod Instances
+mod Guards
 mod Renamed

@@ -14,7 +14,7 @@ linked_at links pairs x l h e = subst (λ o. IsLinked links pairs (solution pair
 pub free_beyond : (links : List Link) (pairs : Pairs) (x : ℕ) → IsSound links pairs → slice_get links x ≡ None → value_at (solution pairs) x ≡ var x
 free_beyond links pairs x h e = subst (λ o. IsLinked links pairs (solution pairs) x o) e (h.linked x)
 
--- how many bindings are left behind the one that a link goes on by, of n
+-- how many of n bindings come after the one that a link goes on by
 abbrev pub left_after : ℕ → Option Link → ℕ
 left_after n None = 0
 left_after n (Some (Free m z)) = 0

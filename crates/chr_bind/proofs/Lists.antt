@@ -1,45 +1,31 @@
 -- Lists of terms with their variables replaced, read by an index.
 use Rattle.std.proofs.Common.{◌≡◌, ℕ, zero, suc, ◌+◌, ◌<◌, ◌≤◌, ◌↔◌, List, [], ◌∷◌, length, get_or, drop, take, map, ap, subst, sym, arith, refl, ◌∙◌}
 use Rattle.std.proofs.lemmas.List.{take_all}
-use Rattle.chr_semantics.specs.Tree.{Tree, Trees, none, more, trees_of}
+use Rattle.chr_semantics.specs.Tree.{Tree, more, trees_of}
 use Rattle.chr_semantics.specs.Subst.{instance, instances}
-use Rattle.chr_term.specs.View.{view, trees_view}
+use Rattle.chr_term.specs.TermView.{view, trees_view}
 use Rattle.chr_term.specs.declared.term.Term.{Term}
-use Rattle.chr_term.proofs.Dropped.{trees_view-drop}
-use Rattle.chr_bind.specs.Terms.{AreBelow, IsBelow, size, size_all}
-
-pub size_item : {A : Type 0} (f : ℕ → Tree) (xs : List (Term A)) (i : ℕ) (x : Term A) → i < length xs → x ≡ get_or xs i x → size (instance f (view x)) ≤ size_all (instances f (trees_view xs))
-size_item f [] i x h e = absurd (omega arith)
-size_item f (y ∷ xs) zero x h e = omega (arith, ap (λ t. size (instance f (view t))) e)
-size_item f (y ∷ xs) (suc i) x h e = let r = size_item f xs i x (omega arith) e in omega (arith, r)
+use Rattle.chr_term.proofs.Dropped.{heads_agree, rests_decide, trees_view-drop}
+use Rattle.chr_term.proofs.Lengths.{trees_length, trees_length-view}
+use Rattle.chr_term.proofs.Sizes.{size-item}
+use Rattle.chr_bind.specs.Terms.{AreBelow, IsBelow}
+use Rattle.chr_term.specs.Size.{size, size_all}
 
 instances-view : {A : Type 0} (f : ℕ → Tree) (xs : List (Term A)) → instances f (trees_view xs) ≡ trees_of (map (λ t. instance f (view t)) xs)
 instances-view f [] = refl
 instances-view f (x ∷ xs) = ap (more (instance f (view x))) (instances-view f xs)
 
-trees_length : Trees → ℕ
-trees_length none = 0
-trees_length (more t ts) = suc (trees_length ts)
+pub size_item : {A : Type 0} (f : ℕ → Tree) (xs : List (Term A)) (i : ℕ) (x : Term A) → i < length xs → x ≡ get_or xs i x → size (instance f (view x)) ≤ size_all (instances f (trees_view xs))
+size_item f xs i x h e = rw (instances-view f xs) (size-item (λ t. instance f (view t)) xs i x h e)
 
 length-instance : {A : Type 0} (f : ℕ → Tree) (xs : List (Term A)) → trees_length (instances f (trees_view xs)) ≡ length xs
 unfolding trees_length
 length-instance f [] = refl
 length-instance f (x ∷ xs) = ap suc (length-instance f xs)
 
-length-view : {A : Type 0} (xs : List (Term A)) → trees_length (trees_view xs) ≡ length xs
-unfolding trees_length
-length-view [] = refl
-length-view (x ∷ xs) = ap suc (length-view xs)
-
 -- lists that come to the same have one length
 pub length-same : {A B : Type 0} (f : ℕ → Tree) (xs : List (Term A)) (ys : List (Term B)) → instances f (trees_view xs) ≡ trees_view ys → length xs ≡ length ys
-length-same f xs ys e = omega (arith, length-instance f xs, length-view ys, ap trees_length e)
-
-rests_decide : (P : Type 0) (t u : Tree) (ts us : Trees) → (P ↔ (more t ts ≡ more u us)) → t ≡ u → (P ↔ (ts ≡ us))
-rests_decide P t u ts us h e = ((λ p. let same : more t ts ≡ more u us = h.0 p in cc), (λ same. h.1 cc))
-
-heads_agree : (P : Type 0) (t u : Tree) (ts us : Trees) → (P ↔ (more t ts ≡ more u us)) → P → t ≡ u
-heads_agree P t u ts us h p = let same : more t ts ≡ more u us = h.0 p in cc
+length-same f xs ys e = omega (arith, length-instance f xs, trees_length-view ys, ap trees_length e)
 
 module _ {A B : Type 0} (f : ℕ → Tree) (P : Type 0) (xs : List (Term A)) (ys : List (Term B)) (i : ℕ) (x : Term A) (y : Term B) where
   -- where the terms at the index come to the same, the rests decide
@@ -54,11 +40,6 @@ module _ {A B : Type 0} (f : ℕ → Tree) (P : Type 0) (xs : List (Term A)) (ys
 -- a list that was built as the image of all terms
 pub built_whole : {A B : Type 0} (f : ℕ → Tree) (items : List (Term A)) (xs : List (Term B)) (n : ℕ) → map view items ≡ map (λ t. instance f (view t)) (take n xs) → length xs ≤ n → trees_view items ≡ instances f (trees_view xs)
 built_whole f items xs n h le = ap trees_of h ∙ ap (λ l. trees_of (map (λ t. instance f (view t)) l)) (take_all n xs le) ∙ sym (instances-view f xs)
-
-pub size_item_plain : {A : Type 0} (xs : List (Term A)) (i : ℕ) (x : Term A) → i < length xs → x ≡ get_or xs i x → size (view x) ≤ size_all (trees_view xs)
-size_item_plain [] i x h e = absurd (omega arith)
-size_item_plain (y ∷ xs) zero x h e = omega (arith, ap (λ t. size (view t)) e)
-size_item_plain (y ∷ xs) (suc i) x h e = let r = size_item_plain xs i x (omega arith) e in omega (arith, r)
 
 pub below_item : {A : Type 0} (n : ℕ) (xs : List (Term A)) (i : ℕ) (x : Term A) → i < length xs → x ≡ get_or xs i x → AreBelow n (trees_view xs) → IsBelow n (view x)
 below_item n [] i x h e b = absurd (omega arith)

@@ -1,7 +1,7 @@
 -- Numbering variables anew changes nothing of whether terms have a unifier.
-use Rattle.std.proofs.Common.{◌≡◌, ◌≢◌, ℕ, zero, suc, ◌<◌, ◌≤◌, ◌+◌, Bool, true, false, cond, ◌==◌, Option, Some, None, is_some, List, [], ◌∷◌, ◌++◌, length, get_or, slice_get, take, ap, refl, sym, subst, ◌∙◌, arith, append_assoc}
+use Rattle.std.proofs.Common.{◌≡◌, ◌≢◌, ℕ, zero, suc, ◌<◌, ◌≤◌, ◌+◌, Bool, true, false, cond, ◌==◌, Option, Some, None, is_some, List, [], ◌∷◌, ◌++◌, length, get_or, slice_get, take, ap, refl, sym, subst, ◌∙◌, arith}
 use Rattle.std.proofs.lemmas.Bool.Decides.{Decides-eqb}
-use Rattle.std.proofs.lemmas.List.{take_more}
+use Rattle.std.proofs.lemmas.List.{length-append, take_more}
 use Rattle.std.proofs.lemmas.Option.{slice_get-get_or}
 use Rattle.std.specs.List.{AllByRecursion, IsDistinct}
 use Rattle.chr_semantics.specs.Tree.{Tree, Trees, var, int, node, none, more}
@@ -10,10 +10,11 @@ use Rattle.chr_semantics.specs.Mgu.{mgu}
 use Rattle.chr_semantics.proofs.Instances.{instance-instance}
 use Rattle.chr_semantics.proofs.UnifierEqual.{mgu_makes_equal}
 use Rattle.chr_semantics.proofs.UnifierNone.{mgu_none}
-use Rattle.chr_term.specs.View.{trees_view, view}
+use Rattle.chr_term.specs.TermView.{trees_view, view}
 use Rattle.chr_term.specs.declared.term.Term.{Term}
 use Rattle.chr_bind.specs.Terms.{AreBelow, IsBelow}
-use Rattle.chr_bind.specs.Renamed.{AreRenamed, Extends, IsNames, IsRenamed, back}
+use Rattle.chr_term.specs.Extension.{IsExtension}
+use Rattle.chr_bind.specs.Renamed.{AreRenamed, IsNames, IsRenamed, old_variable}
 use Rattle.chr_bind.proofs.Fresh.{below_more, below_more_all}
 
 -- the first place of a number
@@ -50,7 +51,7 @@ mutual
 
 -- a unifier of the terms, taken back to the new numbers
 forth : (names : List ℕ) (f : ℕ → Tree) (r t : Tree) → IsRenamed names r t → instance (λ i. f (get_or names i 0)) r ≡ instance f t
-forth names f r t h = sym (instance-instance f (back names) r) ∙ ap (instance f) h.same
+forth names f r t h = sym (instance-instance f (old_variable names) r) ∙ ap (instance f) h.same
 
 -- a unifier of the new terms, taken to the old numbers
 home : (names : List ℕ) (g : ℕ → Tree) (r t : Tree) → Once names → IsRenamed names r t → instance (λ x. g (place_of names x)) t ≡ instance g r
@@ -103,56 +104,52 @@ renamed_var names x i k at e h =
     let found : get_or names i 0 ≡ k = cc in
     record { same = ap var (found ∙ sym ((Decides-eqb x k).0 e)); below = h }
 
-extended_at : (old rest : List ℕ) (i : ℕ) → i < length old → back old i ≡ back (old ++ rest) i
+extended_at : (old rest : List ℕ) (i : ℕ) → i < length old → old_variable old i ≡ old_variable (old ++ rest) i
 extended_at [] rest i h = absurd (omega arith)
 extended_at (x ∷ old) rest zero h = refl
 extended_at (x ∷ old) rest (suc i) h = extended_at old rest i (omega arith)
 
 longer : (old rest : List ℕ) → length old ≤ length (old ++ rest)
-longer [] rest = omega arith
-longer (x ∷ old) rest = let r = longer old rest in omega (arith, r)
+longer old rest = omega (arith, length-append old rest)
 
 -- further names change nothing of what was numbered
-extended : (old new : List ℕ) (rs ts : Trees) → Extends old new → AreRenamed old rs ts → AreRenamed new rs ts
-extended old new rs ts e h = subst (λ n. AreRenamed n rs ts) (sym e.1)
-    (record { same = sym (instances_below (length old) (back old) (back (old ++ e.0)) rs (extended_at old e.0) h.below) ∙ h.same; below = below_more_all (length old) (length (old ++ e.0)) rs (longer old e.0) h.below })
-
-pub extends_further : (a b c : List ℕ) → Extends a b → Extends b c → Extends a c
-extends_further a b c e f = (e.0 ++ f.0, f.1 ∙ ap (λ l. l ++ f.0) e.1 ∙ append_assoc a e.0 f.0)
+extended : (old new : List ℕ) (rs ts : Trees) → IsExtension old new → AreRenamed old rs ts → AreRenamed new rs ts
+extended old new rs ts e h = subst (λ n. AreRenamed n rs ts) (sym e.whole)
+    (record { same = sym (instances_below (length old) (old_variable old) (old_variable (old ++ e.more)) rs (extended_at old e.more) h.below) ∙ h.same; below = below_more_all (length old) (length (old ++ e.more)) rs (longer old e.more) h.below })
 
 -- trees with one more at their end
-pushed : Trees → Tree → Trees
-pushed none t = more t none
-pushed (more u us) t = more u (pushed us t)
+trees_with_last : Trees → Tree → Trees
+trees_with_last none t = more t none
+trees_with_last (more u us) t = more u (trees_with_last us t)
 
-view_pushed : {A : Type 0} (xs : List (Term A)) (x : Term A) → trees_view (xs ++ x ∷ []) ≡ pushed (trees_view xs) (view x)
-unfolding pushed
-view_pushed [] x = refl
-view_pushed (y ∷ xs) x = ap (more (view y)) (view_pushed xs x)
+view_with_last : {A : Type 0} (xs : List (Term A)) (x : Term A) → trees_view (xs ++ x ∷ []) ≡ trees_with_last (trees_view xs) (view x)
+unfolding trees_with_last
+view_with_last [] x = refl
+view_with_last (y ∷ xs) x = ap (more (view y)) (view_with_last xs x)
 
-instances_pushed : (f : ℕ → Tree) (ts : Trees) (t : Tree) → instances f (pushed ts t) ≡ pushed (instances f ts) (instance f t)
-unfolding pushed
-instances_pushed f none t = refl
-instances_pushed f (more u us) t = ap (more (instance f u)) (instances_pushed f us t)
+instances_with_last : (f : ℕ → Tree) (ts : Trees) (t : Tree) → instances f (trees_with_last ts t) ≡ trees_with_last (instances f ts) (instance f t)
+unfolding trees_with_last
+instances_with_last f none t = refl
+instances_with_last f (more u us) t = ap (more (instance f u)) (instances_with_last f us t)
 
-below_pushed : (n : ℕ) (ts : Trees) (t : Tree) → AreBelow n ts → IsBelow n t → AreBelow n (pushed ts t)
-unfolding pushed
-below_pushed n none t h b = (b, tt)
-below_pushed n (more u us) t h b = (h.0, below_pushed n us t h.1 b)
+below_with_last : (n : ℕ) (ts : Trees) (t : Tree) → AreBelow n ts → IsBelow n t → AreBelow n (trees_with_last ts t)
+unfolding trees_with_last
+below_with_last n none t h b = (b, tt)
+below_with_last n (more u us) t h b = (h.0, below_with_last n us t h.1 b)
 
-pushed_renamed : (names : List ℕ) (rs ts : Trees) (r t : Tree) → AreRenamed names rs ts → IsRenamed names r t → AreRenamed names (pushed rs r) (pushed ts t)
-pushed_renamed names rs ts r t h k = record { same = instances_pushed (back names) rs r ∙ cc (h.same, k.same); below = below_pushed (length names) rs r h.below k.below }
+renamed_with_last : (names : List ℕ) (rs ts : Trees) (r t : Tree) → AreRenamed names rs ts → IsRenamed names r t → AreRenamed names (trees_with_last rs r) (trees_with_last ts t)
+renamed_with_last names rs ts r t h k = record { same = instances_with_last (old_variable names) rs r ∙ cc (h.same, k.same); below = below_with_last (length names) rs r h.below k.below }
 
 -- one more term of a list, with the names that it added
-pub renamed_more : {A : Type 0} (old new : List ℕ) (items xs : List (Term A)) (r x : Term A) (i : ℕ) → Extends old new → AreRenamed old (trees_view items) (trees_view (take i xs)) → IsRenamed new (view r) (view x) → i < length xs → x ≡ get_or xs i x
+pub renamed_more : {A : Type 0} (old new : List ℕ) (items xs : List (Term A)) (r x : Term A) (i : ℕ) → IsExtension old new → AreRenamed old (trees_view items) (trees_view (take i xs)) → IsRenamed new (view r) (view x) → i < length xs → x ≡ get_or xs i x
     → AreRenamed new (trees_view (items ++ r ∷ [])) (trees_view (take (i + 1) xs))
 renamed_more old new items xs r x i e h k lt at =
-    let rest : trees_view (take (i + 1) xs) ≡ pushed (trees_view (take i xs)) (view x) = ap trees_view (take_more xs i x lt) ∙ view_pushed (take i xs) (get_or xs i x) ∙ ap (λ y. pushed (trees_view (take i xs)) (view y)) (sym at) in
-    rw (rest, view_pushed items r) (pushed_renamed new (trees_view items) (trees_view (take i xs)) (view r) (view x) (extended old new (trees_view items) (trees_view (take i xs)) e h) k)
+    let rest : trees_view (take (i + 1) xs) ≡ trees_with_last (trees_view (take i xs)) (view x) = ap trees_view (take_more xs i x lt) ∙ view_with_last (take i xs) (get_or xs i x) ∙ ap (λ y. trees_with_last (trees_view (take i xs)) (view y)) (sym at) in
+    rw (rest, view_with_last items r) (renamed_with_last new (trees_view items) (trees_view (take i xs)) (view r) (view x) (extended old new (trees_view items) (trees_view (take i xs)) e h) k)
 
-pub extended_term : (old new : List ℕ) (r t : Tree) → Extends old new → IsRenamed old r t → IsRenamed new r t
-extended_term old new r t e h = subst (λ n. IsRenamed n r t) (sym e.1)
-    (record { same = sym (instance_below (length old) (back old) (back (old ++ e.0)) r (extended_at old e.0) h.below) ∙ h.same; below = below_more (length old) (length (old ++ e.0)) r (longer old e.0) h.below })
+pub extended_term : (old new : List ℕ) (r t : Tree) → IsExtension old new → IsRenamed old r t → IsRenamed new r t
+extended_term old new r t e h = subst (λ n. IsRenamed n r t) (sym e.whole)
+    (record { same = sym (instance_below (length old) (old_variable old) (old_variable (old ++ e.more)) r (extended_at old e.more) h.below) ∙ h.same; below = below_more (length old) (length (old ++ e.more)) r (longer old e.more) h.below })
 
 some_unifier : (r q : Tree) (o : Option Subst) → apply [] r ≡ apply [] q → mgu [] r q ≡ o → true ≡ is_some o
 some_unifier r q None e m = absurd (mgu_none [] r q m (value_at []) (no_bindings (value_at [])) e)

@@ -1,7 +1,7 @@
 -- What terms are as trees.
 use Rattle.std.proofs.Common.{◌≡◌, ℕ, ℤ, rules, Vec, sym, subst}
 use Rattle.chr_semantics.specs.Tree.{var, int, node}
-use Rattle.chr_term.specs.View.{view, trees_view}
+use Rattle.chr_term.specs.TermView.{view, trees_view}
 use Rattle.chr_term.specs.declared.term.Sym.{Sym}
 use Rattle.chr_term.specs.declared.term.Term.{Term, the_lemmas}
 use Rattle.chr_term.specs.declared.term.Term.TheVariants.{Var, Int, Node}

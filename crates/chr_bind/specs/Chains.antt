@@ -1,16 +1,16 @@
--- Bindings in the order in which they were told, and the links of the variables, which lead to what each stands for.
+-- Bindings in the order in which they were added, and the links of the variables, which lead to what each stands for.
 use Rattle.std.specs.Prelude.{◌≡◌, ℕ, ◌+◌, ◌<◌, List, [], ◌∷◌, ◌++◌, map, length, Option, Some, None, slice_get, set, ◌⊎◌}
 use Rattle.std.specs.Borrow.{Bor}
 use Rattle.chr_semantics.specs.Tree.{Tree, var}
 use Rattle.chr_semantics.specs.Subst.{Subst, value_at, apply, with_binding, IsSolved}
-use Rattle.chr_term.specs.View.{view}
+use Rattle.chr_term.specs.TermView.{view}
 use Rattle.chr_term.specs.declared.term.Term.{Term}
 use Rattle.chr_bind.specs.Terms.{IsBelow, IsNoVar}
 use Rattle.chr_bind.specs.declared.chains.Link.{Link}
 use Rattle.chr_bind.specs.declared.chains.Link.TheVariants.{Free, Follows, Bound}
 use Rattle.chr_bind.specs.declared.chains.Chains.{Chains}
 
--- A pair is a variable and the term that it was bound to, which may have bound variables; the first told pair stands first.
+-- A pair is a variable and the term that it was bound to, which may have bound variables; the first added pair stands first.
 abbrev pub Pairs : Type 0
 Pairs = List (ℕ × Tree)
 
@@ -27,20 +27,20 @@ abbrev pub lent_pairs : {A : Type 0} → List (ℕ × Bor (Term A)) → Pairs
 lent_pairs es = map lent_pair es
 
 abbrev pub pairs_in : {A : Type 0} → List (ℕ × Term A) → List (ℕ × Bor (Term A)) → Pairs
-pairs_in made told = owned_pairs made ++ lent_pairs told
+pairs_in made added = owned_pairs made ++ lent_pairs added
 
--- the bindings that stand, and behind them those that were told since
+-- the bindings that stand, and after them those that were added since
 abbrev pub pairs_of : {A : Type 0} → Chains A → Pairs
-pairs_of c = pairs_in c.made.now c.told.now
+pairs_of c = pairs_in c.made.now c.added.now
 
 -- each pair binds its variable to its term under the bindings before it
-abbrev pub told_onto : Subst → Pairs → Subst
-told_onto s [] = s
-told_onto s (e ∷ es) = told_onto (with_binding e.0 (apply s e.1) s) es
+abbrev pub extension_by : Subst → Pairs → Subst
+extension_by s [] = s
+extension_by s (e ∷ es) = extension_by (with_binding e.0 (apply s e.1) s) es
 
 -- the substitution that the pairs stand for
 abbrev pub solution : Pairs → Subst
-solution = told_onto []
+solution = extension_by []
 
 abbrev pub ArePairsBelow : ℕ → Pairs → Type 0
 ArePairsBelow n [] = Unit {0}
@@ -107,9 +107,9 @@ abbrev pub IsJoined : List Link → List Link → ℕ → ℕ → ℕ → Type 0
 IsJoined links new x y i = IsJoinedAt links new x y i (slice_get links y)
 
 -- the links as they were, from what they were at each place when it was changed, the last change last
-abbrev pub undone : List (ℕ × Link) → List Link → List Link
-undone [] links = links
-undone (e ∷ es) links = set (undone es links) e.0 e.1
+abbrev pub links_before : List (ℕ × Link) → List Link → List Link
+links_before [] links = links
+links_before (e ∷ es) links = set (links_before es links) e.0 e.1
 
 -- the class of x ends at y: both stand for the same, and y goes on nowhere
 abbrev pub IsLast : Option Link → Type 0

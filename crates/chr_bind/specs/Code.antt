@@ -9,14 +9,14 @@ abbrev pub Token : Type 0
 Token = ℕ × (ℕ × ℤ)
 
 abbrev mutual
-  pub written : Tree → List Token → List Token
-  written (var x) rest = (0, (x, pos 0)) ∷ rest
-  written (int z) rest = (1, (0, z)) ∷ rest
-  written (node f ts) rest = (2, (f, pos 0)) ∷ written_all ts rest
+  pub tokens_onto : Tree → List Token → List Token
+  tokens_onto (var x) rest = (0, (x, pos 0)) ∷ rest
+  tokens_onto (int z) rest = (1, (0, z)) ∷ rest
+  tokens_onto (node f ts) rest = (2, (f, pos 0)) ∷ all_tokens_onto ts rest
 
-  pub written_all : Trees → List Token → List Token
-  written_all none rest = (3, (0, pos 0)) ∷ rest
-  written_all (more t ts) rest = (4, (0, pos 0)) ∷ written t (written_all ts rest)
+  pub all_tokens_onto : Trees → List Token → List Token
+  all_tokens_onto none rest = (3, (0, pos 0)) ∷ rest
+  all_tokens_onto (more t ts) rest = (4, (0, pos 0)) ∷ tokens_onto t (all_tokens_onto ts rest)
 
 pub data Item : Type 0 where
   tree : Tree → Item
@@ -38,26 +38,26 @@ abbrev pub rest_in : List Item → List Item
 rest_in [] = []
 rest_in (i ∷ is) = is
 
-abbrev pub read_token : ℕ → ℕ → ℤ → List Item → List Item
-read_token zero x z is = tree (var x) ∷ is
-read_token (suc zero) x z is = tree (int z) ∷ is
-read_token (suc (suc zero)) x z is = tree (node x (trees_in (first_in is))) ∷ rest_in is
-read_token (suc (suc (suc zero))) x z is = trees none ∷ is
-read_token _ x z is = trees (more (tree_in (first_in is)) (trees_in (first_in (rest_in is)))) ∷ rest_in (rest_in is)
+abbrev pub items_from_token : ℕ → ℕ → ℤ → List Item → List Item
+items_from_token zero x z is = tree (var x) ∷ is
+items_from_token (suc zero) x z is = tree (int z) ∷ is
+items_from_token (suc (suc zero)) x z is = tree (node x (trees_in (first_in is))) ∷ rest_in is
+items_from_token (suc (suc (suc zero))) x z is = trees none ∷ is
+items_from_token _ x z is = trees (more (tree_in (first_in is)) (trees_in (first_in (rest_in is)))) ∷ rest_in (rest_in is)
 
-abbrev pub read : List Token → List Item
-read [] = []
-read (t ∷ ts) = read_token t.0 t.1.0 t.1.1 (read ts)
+abbrev pub items_from : List Token → List Item
+items_from [] = []
+items_from (t ∷ ts) = items_from_token t.0 t.1.0 t.1.1 (items_from ts)
 
 mutual
-  pub read-written : (t : Tree) (rest : List Token) → read (written t rest) ≡ tree t ∷ read rest
-  read-written (var x) rest = refl
-  read-written (int z) rest = refl
-  read-written (node f ts) rest = ap (read_token 2 f (pos 0)) (read-written_all ts rest)
+  pub items_from-tokens_onto : (t : Tree) (rest : List Token) → items_from (tokens_onto t rest) ≡ tree t ∷ items_from rest
+  items_from-tokens_onto (var x) rest = refl
+  items_from-tokens_onto (int z) rest = refl
+  items_from-tokens_onto (node f ts) rest = ap (items_from_token 2 f (pos 0)) (items_from-all_tokens_onto ts rest)
 
-  pub read-written_all : (ts : Trees) (rest : List Token) → read (written_all ts rest) ≡ trees ts ∷ read rest
-  read-written_all none rest = refl
-  read-written_all (more t ts) rest = ap (read_token 4 0 (pos 0)) (read-written t (written_all ts rest) ∙ ap (λ is. tree t ∷ is) (read-written_all ts rest))
+  pub items_from-all_tokens_onto : (ts : Trees) (rest : List Token) → items_from (all_tokens_onto ts rest) ≡ trees ts ∷ items_from rest
+  items_from-all_tokens_onto none rest = refl
+  items_from-all_tokens_onto (more t ts) rest = ap (items_from_token 4 0 (pos 0)) (items_from-tokens_onto t (all_tokens_onto ts rest) ∙ ap (λ is. tree t ∷ is) (items_from-all_tokens_onto ts rest))
 
 abbrev pub tree_code : Coded Tree
-tree_code = code_by (List Token) (coded_list (coded× coded_ℕ (coded× coded_ℕ coded_ℤ))) (λ t. written t []) (λ ts. tree_in (first_in (read ts))) (λ t. ap (λ is. tree_in (first_in is)) (read-written t []))
+tree_code = code_by (List Token) (coded_list (coded× coded_ℕ (coded× coded_ℕ coded_ℤ))) (λ t. tokens_onto t []) (λ ts. tree_in (first_in (items_from ts))) (λ t. ap (λ is. tree_in (first_in is)) (items_from-tokens_onto t []))

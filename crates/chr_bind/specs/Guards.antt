@@ -2,11 +2,9 @@
 use Rattle.chr_semantics.specs.Tree.{Tree}
 use Rattle.chr_semantics.specs.Program as semantics
 use Rattle.chr_semantics.specs.Program.{identical, not_unifiable, compares, is_integer, is_ground, less, greater, at_most, at_least, equals, differs}
-use Rattle.chr_term.specs.View.{view}
-use Rattle.chr_bind.specs.declared.guard.Comparison.{Comparison}
-use Rattle.chr_bind.specs.declared.guard.Comparison.TheVariants as Compared
-use Rattle.chr_bind.specs.declared.guard.Shown.{Shown}
-use Rattle.chr_bind.specs.declared.guard.Shown.TheVariants.{Lent, Made}
+use Rattle.chr_term.specs.TermView.{view}
+use Rattle.chr_bind.specs.declared.guard.Instance.{Instance}
+use Rattle.chr_bind.specs.declared.guard.Instance.TheVariants.{Lent, Made}
 use Rattle.chr_bind.specs.declared.guard.Test.{Test}
 use Rattle.chr_bind.specs.declared.guard.Test.TheVariants.{Identical, NotUnifiable, Less, Greater, AtMost, AtLeast, Equals, Differs, Integer, Ground}
 
@@ -22,15 +20,7 @@ test_view (Differs t u) = compares differs (view t) (view u)
 test_view (Integer t) = is_integer (view t)
 test_view (Ground t) = is_ground (view t)
 
-abbrev pub comparison_view : Comparison → semantics.Comparison
-comparison_view Compared.Less = less
-comparison_view Compared.Greater = greater
-comparison_view Compared.AtMost = at_most
-comparison_view Compared.AtLeast = at_least
-comparison_view Compared.Equals = equals
-comparison_view Compared.Differs = differs
-
 -- the term that is lent, or was made
-abbrev pub shown_view : {A : Type 0} → Shown A → Tree
-shown_view (Lent t) = view t.now
-shown_view (Made t) = view t
+abbrev pub instance_view : {A : Type 0} → Instance A → Tree
+instance_view (Lent t) = view t.now
+instance_view (Made t) = view t

@@ -1,11 +1,12 @@
 pub mod Values
 pub mod Terms
 pub mod Chains
-pub mod Seen
+pub mod Root
 pub mod Agenda
 pub mod Unified
 pub mod Code
-pub mod Standing
+pub mod BindingsModel
 pub mod Matching
+pub mod Comparison
 pub mod Guards
 pub mod Renamed

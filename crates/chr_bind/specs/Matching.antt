@@ -4,7 +4,7 @@ use Rattle.std.specs.Borrow.{Bor}
 use Rattle.chr_semantics.specs.Tree.{Tree, Trees}
 use Rattle.chr_semantics.specs.Subst.{Subst}
 use Rattle.chr_semantics.specs.Match.{match_at, fit, fit_all}
-use Rattle.chr_term.specs.View.{view}
+use Rattle.chr_term.specs.TermView.{view}
 use Rattle.chr_term.specs.declared.term.Term.{Term}
 use Rattle.chr_bind.specs.declared.matching.Match.{Match}
 
@@ -20,8 +20,13 @@ slot_tree (Some (Some t)) = Some (view t.now)
 abbrev pub Agrees : {A : Type 0} → Slots A → Subst → Type 0
 Agrees slots m = (x : ℕ) → slot_tree (slice_get slots x) ≡ match_at m x
 
+-- what a variable is matched to, if it is
+abbrev pub matched_tree : {A : Type 0} → Match A → ℕ → Option Tree
+matched_tree h x = slot_tree (slice_get h.slots x)
+
+-- the match is that of the definitions
 abbrev pub AgreesWith : {A : Type 0} → Match A → Subst → Type 0
-AgreesWith h m = Agrees h.slots m
+AgreesWith h m = (x : ℕ) → matched_tree h x ≡ match_at m x
 
 -- Where the old slots are a match, the new ones are its extension, or there is none.
 abbrev pub FitsTo : {A : Type 0} → Bool → Trees → Trees → Slots A → Slots A → Type 0
@@ -30,6 +35,7 @@ FitsTo result ps ts old new = (m : Subst) → Agrees old m → MatchBool result 
 abbrev pub FitsTermTo : {A : Type 0} → Bool → Tree → Tree → Slots A → Slots A → Type 0
 FitsTermTo result p t old new = (m : Subst) → Agrees old m → MatchBool result ((n : Subst) × (fit p t m ≡ Some n) × Agrees new n) (fit p t m ≡ None)
 
--- and where there is none, the match is as it was
+-- where there is an extension of the match, it is the new match, and where there is none, the match is as it was
 abbrev pub FitsAs : {A : Type 0} → Bool → Trees → Trees → Match A → Match A → Type 0
-FitsAs result ps ts old new = FitsTo result ps ts old.slots new.slots × (result ≡ false → new ≡ old)
+FitsAs result ps ts old new =
+    ((m : Subst) → AgreesWith old m → MatchBool result ((n : Subst) × (fit_all ps ts m ≡ Some n) × AgreesWith new n) (fit_all ps ts m ≡ None)) × (result ≡ false → new ≡ old)

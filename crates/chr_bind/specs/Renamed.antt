@@ -1,13 +1,13 @@
 -- Terms whose variables are numbered anew.
-use Rattle.std.specs.Prelude.{◌≡◌, ℕ, ◌==◌, List, ◌++◌, length, get_or}
+use Rattle.std.specs.Prelude.{◌≡◌, ℕ, ◌==◌, List, length, get_or}
 use Rattle.std.specs.List.{IsDistinct}
 use Rattle.chr_semantics.specs.Tree.{Tree, Trees, var}
 use Rattle.chr_semantics.specs.Subst.{instance, instances}
 use Rattle.chr_bind.specs.Terms.{IsBelow, AreBelow}
 
 -- the variable that had a number
-abbrev pub back : List ℕ → ℕ → Tree
-back names i = var (get_or names i 0)
+abbrev pub old_variable : List ℕ → ℕ → Tree
+old_variable names i = var (get_or names i 0)
 
 -- each variable has one number
 abbrev pub IsNames : List ℕ → Type 0
@@ -15,13 +15,9 @@ IsNames names = IsDistinct (λ x y. x == y) names
 
 -- r is t with its variables numbered by their place among the names
 pub record IsRenamed (names : List ℕ) (r t : Tree) : Type 0 where
-  pub same : instance (back names) r ≡ t
+  pub same : instance (old_variable names) r ≡ t
   pub below : IsBelow (length names) r
 
 pub record AreRenamed (names : List ℕ) (rs ts : Trees) : Type 0 where
-  pub same : instances (back names) rs ≡ ts
+  pub same : instances (old_variable names) rs ≡ ts
   pub below : AreBelow (length names) rs
-
--- what was numbered keeps its number
-abbrev pub Extends : List ℕ → List ℕ → Type 0
-Extends old new = (more : List ℕ) × (new ≡ old ++ more)

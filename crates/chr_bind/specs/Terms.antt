@@ -1,5 +1,5 @@
--- What is asked of terms, and their size.
-use Rattle.std.specs.Prelude.{ℕ, ◌+◌, ◌<◌}
+-- What is asked of terms.
+use Rattle.std.specs.Prelude.{ℕ, ◌<◌}
 use Rattle.chr_semantics.specs.Tree.{Tree, var, int, node, Trees, none, more}
 
 -- every variable of the term is below n
@@ -12,17 +12,6 @@ abbrev mutual
   pub AreBelow : ℕ → Trees → Type 0
   AreBelow n none = Unit {0}
   AreBelow n (more t ts) = IsBelow n t × AreBelow n ts
-
--- a symbol counts more than its arguments and their list
-abbrev mutual
-  pub size : Tree → ℕ
-  size (var x) = 1
-  size (int z) = 1
-  size (node f ts) = size_all ts + 2
-
-  pub size_all : Trees → ℕ
-  size_all none = 0
-  size_all (more t ts) = size t + size_all ts
 
 -- the term is no variable
 abbrev pub IsNoVar : Tree → Type 0

@@ -2,8 +2,8 @@
 use Rattle.std.specs.Prelude.{ℤ, Result, Ok, Err, Option, Some, None}
 use Rattle.chr_semantics.specs.Value as semantics
 use Rattle.chr_semantics.specs.Value.{Value, unbound, not_number, overflow, zero_divisor}
-use Rattle.chr_bind.specs.declared.arithmetic.Fault.{Fault}
-use Rattle.chr_bind.specs.declared.arithmetic.Fault.TheVariants.{Unbound, NotNumber, Overflow, ZeroDivisor}
+use Rattle.chr_bind.specs.declared.fault.Fault.{Fault}
+use Rattle.chr_bind.specs.declared.fault.Fault.TheVariants.{Unbound, NotNumber, Overflow, ZeroDivisor}
 
 abbrev pub fault_view : Fault → semantics.Fault
 fault_view Unbound = unbound
@@ -16,6 +16,6 @@ value_view (Ok z) = Ok z
 value_view (Err e) = Err (fault_view e)
 
 -- a number, or that there was none in range
-abbrev pub ranged : Option ℤ → Value
-ranged None = Err overflow
-ranged (Some z) = Ok z
+abbrev pub checked_value : Option ℤ → Value
+checked_value None = Err overflow
+checked_value (Some z) = Ok z

@@ -1,29 +1,12 @@
 //! Values of arithmetic terms.
 ghost use Rattle.std.specs.Prelude.{◌≡◌, ◌≢◌, ◌∷◌, [], pos, IsTrue, ◌↔◌, ◌≤◌, MatchOption, Ok, length};
-ghost use Rattle.chr_semantics.specs.Value.{operator_value, modulo as modulo_of, node_value as operated_of, value as value_of, values};
-ghost use Rattle.chr_term.specs.View.{trees_view, view};
-ghost use Rattle.chr_bind.specs.Values.{ranged, value_view};
+ghost use Rattle.chr_semantics.specs.Value.{operator_value, modulo as modulo_of, node_value, value as value_of, values};
+ghost use Rattle.chr_term.specs.TermView.{trees_view, view};
+ghost use Rattle.chr_bind.specs.Values.{checked_value, value_view};
 
+use crate::fault::Fault;
 use chr_term::{Sym, Term};
 use std::alloc::Allocator;
-use thiserror::Error;
-
-/// Why a term has no value.
-#[derive(Clone, Copy, PartialEq, Eq, Debug, Drop, Error)]
-pub enum Fault {
-    /// It has a variable.
-    #[error("unbound")]
-    Unbound,
-    /// It has a symbol that is no operator.
-    #[error("type")]
-    NotNumber,
-    /// A result is outside 128 bits.
-    #[error("overflow")]
-    Overflow,
-    /// It divides by zero.
-    #[error("zero_divisor")]
-    ZeroDivisor,
-}
 
 /// The value of a resolved term. The operators are `+`, `-`, `*`, `//` and `mod` with two arguments: the left one is evaluated, then
 /// the right one, and the first fault counts.
@@ -34,19 +17,19 @@ pub fn value<A: Allocator>(term: &Term<A>) -> Result<i128, Fault>
     match term {
         Term::Var(_) => Err(Fault::Unbound),
         Term::Int(number) => Ok(*number),
-        Term::Node(sym, args) => operated(*sym, args.as_slice()),
+        Term::Node(sym, args) => evaluate_node(*sym, args.as_slice()),
     }
 }
 
 /// The value of a symbol over arguments.
 #[cycle(value)]
-fn operated<A: Allocator>(sym: Sym, args: &[Term<A>]) -> Result<i128, Fault>
-    ensures { value_view result ≡ operated_of sym.0 (values (trees_view args.now)) }
+fn evaluate_node<A: Allocator>(sym: Sym, args: &[Term<A>]) -> Result<i128, Fault>
+    ensures { value_view result ≡ node_value sym.0 (values (trees_view args.now)) }
 {
     match pair_of(args) {
         Some((left, right)) => {
             let left = value(left);
-            computed_of(sym, left, value(right))
+            evaluate_operator(sym, left, value(right))
         }
         None => Err(Fault::NotNumber),
     }
@@ -54,7 +37,8 @@ fn operated<A: Allocator>(sym: Sym, args: &[Term<A>]) -> Result<i128, Fault>
 
 /// The two arguments, where there are two.
 fn pair_of<A: Allocator>(args: &[Term<A>]) -> Option<(&Term<A>, &Term<A>)>
-    ensures { MatchOption result (length args.now ≢ 2) (λ pair. args.now ≡ pair.0.now ∷ pair.1.now ∷ []) }
+    ensures { MatchOption result (length args.now ≢ 2)
+        (λ pair. args.now ≡ pair.0.now ∷ pair.1.now ∷ []) }
 {
     if args.len() == 2 {
         Some((&args[0], &args[1]))
@@ -64,18 +48,18 @@ fn pair_of<A: Allocator>(args: &[Term<A>]) -> Option<(&Term<A>, &Term<A>)>
 }
 
 /// What a symbol gives for two values: nothing but a fault where it is no operator.
-pub(crate) fn computed_of(
+fn evaluate_operator(
     sym: Sym,
     left: Result<i128, Fault>,
     right: Result<i128, Fault>,
 ) -> Result<i128, Fault>
-    ensures { value_view result ≡ operated_of sym.0 (value_view left ∷ value_view right ∷ []) }
+    ensures { value_view result ≡ node_value sym.0 (value_view left ∷ value_view right ∷ []) }
 {
     if !is_operator(sym) {
         return Err(Fault::NotNumber);
     }
     match (left, right) {
-        (Ok(left), Ok(right)) => computed(sym, left, right),
+        (Ok(left), Ok(right)) => apply_operator(sym, left, right),
         (Ok(_), Err(fault)) => Err(fault),
         (Err(fault), Ok(_)) => Err(fault),
         (Err(fault), Err(_)) => Err(fault),
@@ -83,25 +67,25 @@ pub(crate) fn computed_of(
 }
 
 /// Whether the symbol is one of the five operators.
-pub(crate) fn is_operator(sym: Sym) -> bool
+fn is_operator(sym: Sym) -> bool
     ensures { IsTrue result ↔ ((2 ≤ sym.0) × (sym.0 ≤ 6)) }
 {
     Sym::PLUS.0 <= sym.0 && sym.0 <= Sym::MODULO.0
 }
 
 /// What an operator gives for two numbers.
-pub(crate) fn computed(sym: Sym, left: i128, right: i128) -> Result<i128, Fault>
+fn apply_operator(sym: Sym, left: i128, right: i128) -> Result<i128, Fault>
     ensures { value_view result ≡ operator_value sym.0 left right }
 {
-    if sym.0 == Sym::PLUS.0 {
+    if sym == Sym::PLUS {
         in_range(left.checked_add(right))
-    } else if sym.0 == Sym::MINUS.0 {
+    } else if sym == Sym::MINUS {
         in_range(left.checked_sub(right))
-    } else if sym.0 == Sym::TIMES.0 {
+    } else if sym == Sym::TIMES {
         in_range(left.checked_mul(right))
     } else if right == 0 {
         Err(Fault::ZeroDivisor)
-    } else if sym.0 == Sym::DIVIDE.0 {
+    } else if sym == Sym::DIVIDE {
         in_range(left.checked_div(right))
     } else {
         modulo(left, right)
@@ -110,7 +94,7 @@ pub(crate) fn computed(sym: Sym, left: i128, right: i128) -> Result<i128, Fault>
 
 /// A result, or its being outside 128 bits.
 fn in_range(number: Option<i128>) -> Result<i128, Fault>
-    ensures { value_view result ≡ ranged number }
+    ensures { value_view result ≡ checked_value number }
 {
     match number {
         Some(number) => Ok(number),

@@ -1,6 +1,6 @@
 //! The condition of calls whose terms have no variable from a number on.
 ghost use Rattle.std.specs.Prelude.{IsTrue, ◌↔◌};
-ghost use Rattle.chr_term.specs.View.{trees_view, view};
+ghost use Rattle.chr_term.specs.TermView.{trees_view, view};
 ghost use Rattle.chr_bind.specs.Terms.{AreBelow, IsBelow};
 
 use chr_term::Term;

@@ -2,14 +2,14 @@
 ghost use Rattle.std.specs.Prelude.{◌≡◌, ◌≤◌, ◌<◌, ◌+◌, [], IfOk, OnErr, OnOk, IsTrue, ◌↔◌, length, vec_len, vec_capacity};
 ghost use Rattle.chr_semantics.specs.Tree.{is_ground_tree};
 ghost use Rattle.chr_semantics.specs.Subst.{IsSolved, apply};
-ghost use Rattle.chr_term.specs.View.{view};
+ghost use Rattle.chr_term.specs.TermView.{view};
 ghost use Rattle.chr_bind.specs.Terms.{IsBelow};
 ghost use Rattle.chr_bind.specs.Chains.{AreSound, IsSound, Pairs, subst_of};
 ghost use Rattle.chr_bind.specs.Unified.{IsAnswer, IsUnified};
 
 use crate::Memory;
 use crate::chains::{Chains, Link};
-use crate::unification::{Told, take_over, unified};
+use crate::unification::{Additions, take_over, unify_terms};
 use chr_term::Term;
 use std::alloc::{Allocator, Global};
 use std::marker::Model;
@@ -35,16 +35,20 @@ pub struct Bindings<A: Allocator = Global> {
 }
 
 impl<A: Allocator> Model for Bindings<A> {
-    ghost use Rattle.chr_bind.specs.Standing.{Standing, standing_code};
+    ghost use Rattle.chr_bind.specs.BindingsModel.{BindingsValue, bindings_code};
 
-    ghost Value = { Standing };
+    ghost Value = { BindingsValue };
 
-    ghost coded = { standing_code };
+    ghost coded = { bindings_code };
 
     ghost use Rattle.std.specs.Prelude.{vec_len, vec_capacity, ◌-◌};
     ghost use Rattle.chr_bind.specs.Chains.{IsSound, owned_pairs, solution};
 
-    ghost view = { λ b. record { len = vec_len b.links; subst = solution (owned_pairs b.made.items); spare = vec_capacity b.links - vec_len b.links } };
+    ghost view = { λ b. record {
+      len = vec_len b.links;
+      subst = solution (owned_pairs b.made.items);
+      spare = vec_capacity b.links - vec_len b.links;
+    } };
 
     ghost invariant = { λ b. IsSound b.links.items (owned_pairs b.made.items) };
 }
@@ -66,7 +70,7 @@ impl<A: Allocator + Copy> Bindings<A> {
     pub fn resolve(&self, term: &Term<A>) -> Result<Term<A>, Memory>
         ensures { IfOk result (λ resolved. view resolved ≡ apply self.now.subst (view term.now)) }
     {
-        self.chains().resolved(self.alloc, term)
+        self.chains().resolve(self.alloc, term)
     }
 
     /// Makes two terms equal, with the occurs check; of two free variables the greater is bound to the lesser. After `Clash`, and where
@@ -74,18 +78,19 @@ impl<A: Allocator + Copy> Bindings<A> {
     pub fn unify(&mut self, left: &Term<A>, right: &Term<A>) -> Result<Unified, Memory>
         requires left { IsBelow self.old.len (view left.now) }
         requires right { IsBelow self.old.len (view right.now) }
-        ensures unified { IfOk result (IsUnified (view left.now) (view right.now) self.old.subst self.new.subst) }
+        ensures unified { IfOk result
+            (IsUnified (view left.now) (view right.now) self.old.subst self.new.subst) }
         ensures refused { OnErr result (self.new.subst ≡ self.old.subst) }
         ensures len { self.new.len ≡ self.old.len }
         ensures spare { self.new.spare ≡ self.old.spare }
     {
         let (links, made) = (self.links.as_mut_slice(), self.made.as_slice());
-        let told = match unified(self.alloc, links, made, left, right)? {
+        let added = match unify_terms(self.alloc, links, made, left, right)? {
             None => return Ok(Unified::Clash),
-            Some(told) => told,
+            Some(added) => added,
         };
-        let answer = answer_of(&told);
-        take_over(self.links.as_mut_slice(), &mut self.made, told)?;
+        let answer = answer_of(&added);
+        take_over(self.links.as_mut_slice(), &mut self.made, added)?;
         Ok(answer)
     }
 }
@@ -124,7 +129,8 @@ impl<A: Allocator> Bindings<A> {
         ensures spare { count ≤ self.old.spare → self.new.spare + count ≡ self.old.spare }
         ensures no_less { self.old.spare ≤ self.new.spare + count }
         ensures subst { self.new.subst ≡ self.old.subst }
-        ensures refused { OnErr result ((self.new.len ≡ self.old.len) × (self.old.spare < count) × (self.old.spare ≤ self.new.spare)) }
+        ensures refused { OnErr result ((self.new.len ≡ self.old.len)
+            × (self.old.spare < count) × (self.old.spare ≤ self.new.spare)) }
     {
         if self.links.capacity() - self.links.len() < count {
             self.room(count)?;
@@ -155,16 +161,16 @@ impl<A: Allocator> Bindings<A> {
         Chains {
             links: self.links.as_slice(),
             made: self.made.as_slice(),
-            told: &[],
+            added: &[],
         }
     }
 }
 
 /// The answer of a unification that is possible.
-fn answer_of<A: Allocator>(told: &Told<A>) -> Unified
-    ensures { IsAnswer (length told.now.pairs.items) result }
+fn answer_of<A: Allocator>(added: &Additions<A>) -> Unified
+    ensures { IsAnswer (length added.now.pairs.items) result }
 {
-    if told.pairs.is_empty() {
+    if added.pairs.is_empty() {
         Unified::Same
     } else {
         Unified::Bound
@@ -174,7 +180,8 @@ fn answer_of<A: Allocator>(told: &Told<A>) -> Unified
 /// Adds that many free variables, for which there is room.
 fn add_free<A: Allocator>(links: &mut Vec<Link, A>, count: usize)
     requires room { vec_len links.old + count ≤ vec_capacity links.old }
-    ensures sound { (pairs : Pairs) → IsSound links.old.items pairs → IsSound links.new.items pairs }
+    ensures sound { (pairs : Pairs) →
+        IsSound links.old.items pairs → IsSound links.new.items pairs }
     ensures len { vec_len links.new ≡ vec_len links.old + count }
     ensures capacity { vec_capacity links.new ≡ vec_capacity links.old }
 {

@@ -1,10 +1,10 @@
-//! Bindings that are followed: terms stay as they were told, and nothing is replaced in them.
+//! Bindings that are followed: terms stay as they were, and nothing is replaced in them.
 ghost use Rattle.std.specs.Prelude.{◌≡◌, ◌<◌, ◌↔◌, IfOk, IsTrue, Some, ℕ, length, option_map, slice_get};
 ghost use Rattle.chr_semantics.specs.Tree.{Tree, is_ground_tree, is_ground_trees, var as variable};
 ghost use Rattle.chr_semantics.specs.Subst.{apply, occurs, occurs_any, instances, value_at};
-ghost use Rattle.chr_term.specs.View.{trees_view, view};
+ghost use Rattle.chr_term.specs.TermView.{trees_view, view};
 ghost use Rattle.chr_bind.specs.Chains.{AreSound, IsEnd, pairs_of, subst_of};
-ghost use Rattle.chr_bind.specs.Seen.{IsSeen, IsShown};
+ghost use Rattle.chr_bind.specs.Root.{IsRoot, IsWrittenRoot};
 ghost use Rattle.chr_bind.specs.Terms.{IsNoVar};
 
 use chr_term::{Memory, Sym, Term};
@@ -21,17 +21,17 @@ pub(crate) enum Link {
     Bound(usize),
 }
 
-/// The bindings as they are read: those that stand, and behind them those that a unification has told since.
+/// The bindings as they are read: those that stand, and after them those that a unification has added since.
 #[derive(Drop)]
 pub(crate) struct Chains<'l, 't, A: Allocator> {
     pub links: &'l [Link],
     pub made: &'t [(u64, Term<A>)],
-    pub told: &'l [(u64, &'t Term<A>)],
+    pub added: &'l [(u64, &'t Term<A>)],
 }
 
 /// The root of a term under the bindings.
 #[derive(Drop)]
-pub(crate) enum Seen<'t, A: Allocator> {
+pub(crate) enum Root<'t, A: Allocator> {
     /// A free class by the place of its link, and its least variable.
     Free(usize, u64),
     Int(i128),
@@ -55,83 +55,86 @@ impl<'l, 't, A: Allocator> Chains<'l, 't, A> {
     /// The term of a binding.
     fn term(&self, number: usize) -> &'t Term<A>
         requires { number < length (pairs_of self.now) }
-        ensures { option_map (λ (e : ℕ × Tree). e.1) (slice_get (pairs_of self.now) number) ≡ Some (view result.now) }
+        ensures { option_map (λ (e : ℕ × Tree). e.1) (slice_get (pairs_of self.now) number)
+            ≡ Some (view result.now) }
     {
         if number < self.made.len() {
             &self.made[number].1
         } else {
-            self.told[number - self.made.len()].1
+            self.added[number - self.made.len()].1
         }
     }
 
     /// What a variable stands for.
-    fn value(&self, var: u64) -> Seen<'t, A>
+    fn value(&self, var: u64) -> Root<'t, A>
         requires { AreSound self.now }
-        ensures { IsSeen self.now (variable var) result }
+        ensures { IsRoot self.now (variable var) result }
     {
         let place = var as usize;
         if place >= self.links.len() {
-            return Seen::Free(place, var);
+            return Root::Free(place, var);
         }
         let end = self.end(place);
         match self.links[end] {
-            Link::Free(name, _) => Seen::Free(end, name),
+            Link::Free(name, _) => Root::Free(end, name),
             Link::Follows(_, _) => unreachable!(),
-            Link::Bound(number) => shown(self.term(number)),
+            Link::Bound(number) => written_root(self.term(number)),
         }
     }
 
     /// The root of a term.
-    pub fn seen(&self, term: &'t Term<A>) -> Seen<'t, A>
+    pub fn root(&self, term: &'t Term<A>) -> Root<'t, A>
         requires { AreSound self.now }
-        ensures { IsSeen self.now (view term.now) result }
+        ensures { IsRoot self.now (view term.now) result }
     {
         match term {
             Term::Var(x) => self.value(*x),
-            Term::Int(_) => shown(term),
-            Term::Node(_, _) => shown(term),
+            Term::Int(_) => written_root(term),
+            Term::Node(_, _) => written_root(term),
         }
     }
 }
 
 /// The root of a term that is no variable.
-fn shown<'t, A: Allocator>(term: &'t Term<A>) -> Seen<'t, A>
+fn written_root<'t, A: Allocator>(term: &'t Term<A>) -> Root<'t, A>
     requires { IsNoVar (view term.now) }
-    ensures { IsShown (view term.now) result }
+    ensures { IsWrittenRoot (view term.now) result }
 {
     match term {
         Term::Var(_) => unreachable!(),
-        Term::Int(z) => Seen::Int(*z),
-        Term::Node(sym, args) => Seen::Node(*sym, args.as_slice()),
+        Term::Int(z) => Root::Int(*z),
+        Term::Node(sym, args) => Root::Node(*sym, args.as_slice()),
     }
 }
 
 impl<'l, 't, A: Allocator> Chains<'l, 't, A> {
     /// The term with all that it stands for put in.
     #[cycle(resolve)]
-    pub fn resolved(&self, alloc: A, term: &'t Term<A>) -> Result<Term<A>, Memory>
+    pub fn resolve(&self, alloc: A, term: &'t Term<A>) -> Result<Term<A>, Memory>
     where
         A: Copy,
         requires { AreSound self.now }
-        ensures { IfOk result (λ resolved. view resolved ≡ apply (subst_of self.now) (view term.now)) }
+        ensures { IfOk result (λ resolved.
+            view resolved ≡ apply (subst_of self.now) (view term.now)) }
     {
-        match self.seen(term) {
-            Seen::Free(_, name) => Ok(Term::Var(name)),
-            Seen::Int(z) => Ok(Term::Int(z)),
-            Seen::Node(sym, args) => Ok(Term::Node(sym, self.resolved_all(alloc, args)?)),
+        match self.root(term) {
+            Root::Free(_, name) => Ok(Term::Var(name)),
+            Root::Int(z) => Ok(Term::Int(z)),
+            Root::Node(sym, args) => Ok(Term::Node(sym, self.resolve_all(alloc, args)?)),
         }
     }
 
     #[cycle(resolve)]
-    fn resolved_all(&self, alloc: A, terms: &'t [Term<A>]) -> Result<Vec<Term<A>, A>, Memory>
+    fn resolve_all(&self, alloc: A, terms: &'t [Term<A>]) -> Result<Vec<Term<A>, A>, Memory>
     where
         A: Copy,
         requires { AreSound self.now }
-        ensures { IfOk result (λ resolved. trees_view resolved.items ≡ instances (value_at (subst_of self.now)) (trees_view terms.now)) }
+        ensures { IfOk result (λ resolved. trees_view resolved.items
+            ≡ instances (value_at (subst_of self.now)) (trees_view terms.now)) }
     {
         let mut items = Vec::with_capacity(alloc, terms.len())?;
         for term in terms {
-            items.push(self.resolved(alloc, term)?)?;
+            items.push(self.resolve(alloc, term)?)?;
         }
         Ok(items)
     }
@@ -142,17 +145,18 @@ impl<'l, 't, A: Allocator> Chains<'l, 't, A> {
         requires { AreSound self.now }
         ensures { result ≡ is_ground_tree (apply (subst_of self.now) (view term.now)) }
     {
-        match self.seen(term) {
-            Seen::Free(_, _) => false,
-            Seen::Int(_) => true,
-            Seen::Node(_, args) => self.are_ground(args),
+        match self.root(term) {
+            Root::Free(_, _) => false,
+            Root::Int(_) => true,
+            Root::Node(_, args) => self.are_ground(args),
         }
     }
 
     #[cycle(ground)]
     fn are_ground(&self, terms: &'t [Term<A>]) -> bool
         requires { AreSound self.now }
-        ensures { result ≡ is_ground_trees (instances (value_at (subst_of self.now)) (trees_view terms.now)) }
+        ensures { result
+            ≡ is_ground_trees (instances (value_at (subst_of self.now)) (trees_view terms.now)) }
     {
         for term in terms {
             if !self.is_ground(term) {
@@ -168,10 +172,10 @@ impl<'l, 't, A: Allocator> Chains<'l, 't, A> {
         requires { AreSound self.now }
         ensures { IsTrue result ↔ (apply (subst_of self.now) (view term.now) ≡ view other.now) }
     {
-        match (self.seen(term), other) {
-            (Seen::Free(_, name), Term::Var(x)) => name == *x,
-            (Seen::Int(y), Term::Int(z)) => y == *z,
-            (Seen::Node(f, args), Term::Node(g, others)) => f.0 == g.0
+        match (self.root(term), other) {
+            (Root::Free(_, name), Term::Var(x)) => name == *x,
+            (Root::Int(y), Term::Int(z)) => y == *z,
+            (Root::Node(f, args), Term::Node(g, others)) => f == *g
                 && self.resolve_to(args, others.as_slice()),
             _ => false,
         }
@@ -180,7 +184,8 @@ impl<'l, 't, A: Allocator> Chains<'l, 't, A> {
     #[cycle(matches)]
     fn resolve_to(&self, terms: &'t [Term<A>], others: &[Term<A>]) -> bool
         requires { AreSound self.now }
-        ensures { IsTrue result ↔ (instances (value_at (subst_of self.now)) (trees_view terms.now) ≡ trees_view others.now) }
+        ensures { IsTrue result ↔ (instances (value_at (subst_of self.now)) (trees_view terms.now)
+            ≡ trees_view others.now) }
     {
         if terms.len() != others.len() {
             return false;
@@ -199,17 +204,18 @@ impl<'l, 't, A: Allocator> Chains<'l, 't, A> {
         requires { AreSound self.now }
         ensures { result ≡ occurs var (apply (subst_of self.now) (view term.now)) }
     {
-        match self.seen(term) {
-            Seen::Free(_, name) => var == name,
-            Seen::Int(_) => false,
-            Seen::Node(_, args) => self.occurs_any(var, args),
+        match self.root(term) {
+            Root::Free(_, name) => var == name,
+            Root::Int(_) => false,
+            Root::Node(_, args) => self.occurs_any(var, args),
         }
     }
 
     #[cycle(occurs)]
     fn occurs_any(&self, var: u64, terms: &'t [Term<A>]) -> bool
         requires { AreSound self.now }
-        ensures { result ≡ occurs_any var (instances (value_at (subst_of self.now)) (trees_view terms.now)) }
+        ensures { result
+            ≡ occurs_any var (instances (value_at (subst_of self.now)) (trees_view terms.now)) }
     {
         for term in terms {
             if self.occurs(var, term) {

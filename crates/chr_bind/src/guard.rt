@@ -1,14 +1,16 @@
 //! Guards over what the variables of a rule are matched to.
-ghost use Rattle.std.specs.Prelude.{◌≡◌, IfOk};
-ghost use Rattle.chr_semantics.specs.Guard.{comparison_holds, entailed, value_comparison_holds, is_int};
+ghost use Rattle.std.specs.Prelude.{◌≡◌, IfOk, map};
+ghost use Rattle.chr_semantics.specs.Guard.{all_entailed, entailed, value_comparison_holds, is_int};
 ghost use Rattle.chr_semantics.specs.Subst.{Subst, apply, instances, value_at};
 ghost use Rattle.chr_semantics.specs.Value.{value as value_of};
-ghost use Rattle.chr_term.specs.View.{trees_view, view};
-ghost use Rattle.chr_bind.specs.Guards.{comparison_view, shown_view, test_view};
+ghost use Rattle.chr_term.specs.TermView.{trees_view, view};
+ghost use Rattle.chr_bind.specs.Comparison.{comparison_view};
+ghost use Rattle.chr_bind.specs.Guards.{instance_view, test_view};
 ghost use Rattle.chr_bind.specs.Matching.{AgreesWith};
 
 use crate::Memory;
 use crate::arithmetic::value;
+use crate::comparison::Comparison;
 use crate::matching::Match;
 use crate::renaming::are_unifiable;
 use chr_term::{Term, copy, is_ground, same};
@@ -41,48 +43,50 @@ pub enum Test<A: Allocator = Global> {
 
 /// What a pattern is under a match: lent where that is a whole term, else made.
 #[derive(Drop)]
-enum Shown<'t, A: Allocator> {
+enum Instance<'t, A: Allocator> {
     Lent(&'t Term<A>),
     Made(Term<A>),
 }
 
-impl<'t, A: Allocator> Shown<'t, A> {
+impl<'t, A: Allocator> Instance<'t, A> {
     fn term(&self) -> &Term<A>
-        ensures { view result.now ≡ shown_view self.now }
+        ensures { view result.now ≡ instance_view self.now }
     {
         match self {
-            Shown::Lent(term) => term,
-            Shown::Made(term) => term,
+            Instance::Lent(term) => term,
+            Instance::Made(term) => term,
         }
     }
 }
 
 /// The pattern under the match. A pattern that is one variable is not copied.
-fn under<'t, A: Allocator + Copy>(
+fn instance_of<'t, A: Allocator + Copy>(
     alloc: A,
     matching: &Match<'t, A>,
     pattern: &'t Term<A>,
-) -> Result<Shown<'t, A>, Memory>
-    ensures { IfOk result (λ shown. (m : Subst) → AgreesWith matching.now m → shown_view shown ≡ apply m (view pattern.now)) }
+) -> Result<Instance<'t, A>, Memory>
+    ensures { IfOk result (λ instance. (m : Subst) → AgreesWith matching.now m →
+        instance_view instance ≡ apply m (view pattern.now)) }
 {
     match pattern {
         Term::Var(x) => match matching.get(*x) {
-            Some(matched) => Ok(Shown::Lent(matched)),
-            None => Ok(Shown::Lent(pattern)),
+            Some(matched) => Ok(Instance::Lent(matched)),
+            None => Ok(Instance::Lent(pattern)),
         },
-        Term::Int(_) => Ok(Shown::Lent(pattern)),
-        Term::Node(_, _) => Ok(Shown::Made(instance(alloc, matching, pattern)?)),
+        Term::Int(_) => Ok(Instance::Lent(pattern)),
+        Term::Node(_, _) => Ok(Instance::Made(made_instance(alloc, matching, pattern)?)),
     }
 }
 
 /// The pattern with what its variables are matched to put in.
 #[cycle(instance)]
-fn instance<A: Allocator + Copy>(
+fn made_instance<A: Allocator + Copy>(
     alloc: A,
     matching: &Match<'_, A>,
     pattern: &Term<A>,
 ) -> Result<Term<A>, Memory>
-    ensures { IfOk result (λ made. (m : Subst) → AgreesWith matching.now m → view made ≡ apply m (view pattern.now)) }
+    ensures { IfOk result (λ made. (m : Subst) → AgreesWith matching.now m →
+        view made ≡ apply m (view pattern.now)) }
 {
     match pattern {
         Term::Var(x) => match matching.get(*x) {
@@ -92,49 +96,25 @@ fn instance<A: Allocator + Copy>(
         Term::Int(number) => Ok(Term::Int(*number)),
         Term::Node(sym, patterns) => Ok(Term::Node(
             *sym,
-            instances(alloc, matching, patterns.as_slice())?,
+            made_instances(alloc, matching, patterns.as_slice())?,
         )),
     }
 }
 
 #[cycle(instance)]
-fn instances<A: Allocator + Copy>(
+fn made_instances<A: Allocator + Copy>(
     alloc: A,
     matching: &Match<'_, A>,
     patterns: &[Term<A>],
 ) -> Result<Vec<Term<A>, A>, Memory>
-    ensures { IfOk result (λ made. (m : Subst) → AgreesWith matching.now m → trees_view made.items ≡ instances (value_at m) (trees_view patterns.now)) }
+    ensures { IfOk result (λ made. (m : Subst) → AgreesWith matching.now m →
+        trees_view made.items ≡ instances (value_at m) (trees_view patterns.now)) }
 {
     let mut items = Vec::with_capacity(alloc, patterns.len())?;
     for pattern in patterns {
-        items.push(instance(alloc, matching, pattern)?)?;
+        items.push(made_instance(alloc, matching, pattern)?)?;
     }
     Ok(items)
-}
-
-/// How two numbers are compared.
-#[derive(Clone, Copy, Drop)]
-enum Comparison {
-    Less,
-    Greater,
-    AtMost,
-    AtLeast,
-    Equals,
-    Differs,
-}
-
-/// Whether the comparison holds of two numbers.
-fn is_so(comparison: Comparison, left: i128, right: i128) -> bool
-    ensures { result ≡ comparison_holds (comparison_view comparison) left right }
-{
-    match comparison {
-        Comparison::Less => left < right,
-        Comparison::Greater => right < left,
-        Comparison::AtMost => !(right < left),
-        Comparison::AtLeast => !(left < right),
-        Comparison::Equals => left == right,
-        Comparison::Differs => left != right,
-    }
 }
 
 /// Whether both sides have values, and the comparison holds of them.
@@ -145,12 +125,14 @@ fn compares<A: Allocator + Copy>(
     left: &Term<A>,
     right: &Term<A>,
 ) -> Result<bool, Memory>
-    ensures { IfOk result (λ so. (m : Subst) → AgreesWith matching.now m → so ≡ value_comparison_holds (comparison_view comparison) (value_of (apply m (view left.now))) (value_of (apply m (view right.now)))) }
+    ensures { IfOk result (λ so. (m : Subst) → AgreesWith matching.now m →
+        so ≡ value_comparison_holds (comparison_view comparison)
+        (value_of (apply m (view left.now))) (value_of (apply m (view right.now)))) }
 {
-    let left = under(alloc, matching, left)?;
-    let right = under(alloc, matching, right)?;
+    let left = instance_of(alloc, matching, left)?;
+    let right = instance_of(alloc, matching, right)?;
     match (value(left.term()), value(right.term())) {
-        (Ok(left), Ok(right)) => Ok(is_so(comparison, left, right)),
+        (Ok(left), Ok(right)) => Ok(comparison.holds(left, right)),
         (Ok(_), Err(_)) => Ok(false),
         (Err(_), Ok(_)) => Ok(false),
         (Err(_), Err(_)) => Ok(false),
@@ -174,17 +156,18 @@ pub fn holds<A: Allocator + Copy>(
     test: &Test<A>,
     matching: &Match<'_, A>,
 ) -> Result<bool, Memory>
-    ensures { IfOk result (λ so. (m : Subst) → AgreesWith matching.now m → so ≡ entailed m (test_view test.now)) }
+    ensures { IfOk result (λ so. (m : Subst) → AgreesWith matching.now m →
+        so ≡ entailed m (test_view test.now)) }
 {
     match test {
         Test::Identical(left, right) => {
-            let left = under(alloc, matching, left)?;
-            let right = under(alloc, matching, right)?;
+            let left = instance_of(alloc, matching, left)?;
+            let right = instance_of(alloc, matching, right)?;
             Ok(same(left.term(), right.term()))
         }
         Test::NotUnifiable(left, right) => {
-            let left = under(alloc, matching, left)?;
-            let right = under(alloc, matching, right)?;
+            let left = instance_of(alloc, matching, left)?;
+            let right = instance_of(alloc, matching, right)?;
             Ok(!are_unifiable(alloc, left.term(), right.term())?)
         }
         Test::Less(left, right) => compares(alloc, matching, Comparison::Less, left, right),
@@ -193,7 +176,24 @@ pub fn holds<A: Allocator + Copy>(
         Test::AtLeast(left, right) => compares(alloc, matching, Comparison::AtLeast, left, right),
         Test::Equals(left, right) => compares(alloc, matching, Comparison::Equals, left, right),
         Test::Differs(left, right) => compares(alloc, matching, Comparison::Differs, left, right),
-        Test::Integer(term) => Ok(is_integer(under(alloc, matching, term)?.term())),
-        Test::Ground(term) => Ok(is_ground(under(alloc, matching, term)?.term())),
+        Test::Integer(term) => Ok(is_integer(instance_of(alloc, matching, term)?.term())),
+        Test::Ground(term) => Ok(is_ground(instance_of(alloc, matching, term)?.term())),
     }
+}
+
+/// Whether each test of a guard is entailed by the match.
+pub fn guard_holds<A: Allocator + Copy>(
+    alloc: A,
+    tests: &[Test<A>],
+    matching: &Match<'_, A>,
+) -> Result<bool, Memory>
+    ensures { IfOk result (λ so. (m : Subst) → AgreesWith matching.now m →
+        so ≡ all_entailed m (map test_view tests.now)) }
+{
+    for test in tests {
+        if !holds(alloc, test, matching)? {
+            return Ok(false);
+        }
+    }
+    Ok(true)
 }

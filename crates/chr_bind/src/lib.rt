@@ -5,16 +5,20 @@ mod arithmetic;
 mod below;
 mod bindings;
 mod chains;
+mod comparison;
+mod fault;
 mod guard;
 mod matching;
 mod renaming;
 mod unification;
 
-pub use arithmetic::{Fault, value};
+pub use arithmetic::value;
 pub use below::{are_below, is_below};
 pub use bindings::{Bindings, Unified};
 pub use chr_term::Memory;
-pub use guard::{Test, holds};
+pub use comparison::Comparison;
+pub use fault::Fault;
+pub use guard::{Test, guard_holds, holds};
 pub use matching::{Match, fit};
 
 #[cfg(test)]

@@ -1,17 +1,18 @@
 //! One-way matching of patterns with resolved terms.
-ghost use Rattle.std.specs.Prelude.{◌≡◌, ◌<◌, [], option_map, slice_get};
+ghost use Rattle.std.specs.Prelude.{◌≡◌, ◌<◌, [], option_map};
 ghost use Rattle.chr_semantics.specs.Tree.{var as variable};
-ghost use Rattle.chr_term.specs.View.{trees_view, view};
-ghost use Rattle.chr_bind.specs.Matching.{Agrees, AgreesWith, FitsAs, FitsTo, FitsTermTo, slot_tree};
+ghost use Rattle.chr_term.specs.TermView.{trees_view, view};
+ghost use Rattle.chr_bind.specs.Matching.{Agrees, AgreesWith, FitsAs, FitsTo, FitsTermTo, matched_tree};
 ghost use Rattle.chr_bind.specs.Terms.{AreBelow, IsBelow};
 
+use chr_semantics::limits::MAX_RULE_VARIABLES;
 use chr_term::{Term, same};
 use std::alloc::{Allocator, Global};
 
-/// What the variables of a rule, from 0 to 63, are matched to: references to terms, of which none is copied.
+/// What the variables of a rule are matched to: references to terms, of which none is copied.
 #[derive(Clone, Copy)]
 pub struct Match<'t, A: Allocator = Global> {
-    slots: [Option<&'t Term<A>>; 64],
+    slots: [Option<&'t Term<A>>; MAX_RULE_VARIABLES],
 }
 
 impl<'t, A: Allocator> Match<'t, A> {
@@ -24,7 +25,7 @@ impl<'t, A: Allocator> Match<'t, A> {
 
     /// What a variable is matched to.
     pub fn get(&self, var: u64) -> Option<&'t Term<A>>
-        ensures { option_map (λ term. view term.now) result ≡ slot_tree (slice_get self.now.slots var) }
+        ensures { option_map (λ term. view term.now) result ≡ matched_tree self.now var }
     {
         let slots = &self.slots[..];
         if (var as usize) < slots.len() {
@@ -36,10 +37,10 @@ impl<'t, A: Allocator> Match<'t, A> {
 }
 
 /// Slots with nothing in them.
-fn empty<'t, A: Allocator>() -> [Option<&'t Term<A>>; 64]
+fn empty<'t, A: Allocator>() -> [Option<&'t Term<A>>; MAX_RULE_VARIABLES]
     ensures { Agrees result [] }
 {
-    [None; 64]
+    [None; MAX_RULE_VARIABLES]
 }
 
 /// Matches the patterns with the terms, one with one, and says whether that is possible: the variables of the patterns are matched, where
@@ -50,8 +51,9 @@ pub fn fit<'t, A: Allocator + Copy>(
     terms: &'t [Term<A>],
     matching: &mut Match<'t, A>,
 ) -> bool
-    requires { AreBelow 64 (trees_view patterns.now) }
-    ensures { FitsAs result (trees_view patterns.now) (trees_view terms.now) matching.old matching.new }
+    requires { AreBelow MAX_RULE_VARIABLES (trees_view patterns.now) }
+    ensures { FitsAs result
+        (trees_view patterns.now) (trees_view terms.now) matching.old matching.new }
 {
     let before = *matching;
     if fit_all(patterns, terms, &mut matching.slots) {
@@ -66,9 +68,9 @@ pub fn fit<'t, A: Allocator + Copy>(
 fn fit_all<'t, A: Allocator>(
     patterns: &[Term<A>],
     terms: &'t [Term<A>],
-    slots: &mut [Option<&'t Term<A>>; 64],
+    slots: &mut [Option<&'t Term<A>>; MAX_RULE_VARIABLES],
 ) -> bool
-    requires { AreBelow 64 (trees_view patterns.now) }
+    requires { AreBelow MAX_RULE_VARIABLES (trees_view patterns.now) }
     ensures { FitsTo result (trees_view patterns.now) (trees_view terms.now) slots.old slots.new }
 {
     if patterns.len() != terms.len() {
@@ -86,9 +88,9 @@ fn fit_all<'t, A: Allocator>(
 fn fit_term<'t, A: Allocator>(
     pattern: &Term<A>,
     term: &'t Term<A>,
-    slots: &mut [Option<&'t Term<A>>; 64],
+    slots: &mut [Option<&'t Term<A>>; MAX_RULE_VARIABLES],
 ) -> bool
-    requires { IsBelow 64 (view pattern.now) }
+    requires { IsBelow MAX_RULE_VARIABLES (view pattern.now) }
     ensures { FitsTermTo result (view pattern.now) (view term.now) slots.old slots.new }
 {
     match pattern {
@@ -109,9 +111,9 @@ fn fit_term<'t, A: Allocator>(
 fn fit_var<'t, A: Allocator>(
     var: usize,
     term: &'t Term<A>,
-    slots: &mut [Option<&'t Term<A>>; 64],
+    slots: &mut [Option<&'t Term<A>>; MAX_RULE_VARIABLES],
 ) -> bool
-    requires { var < 64 }
+    requires { var < MAX_RULE_VARIABLES }
     ensures { FitsTermTo result (variable var) (view term.now) slots.old slots.new }
 {
     match slots[var] {

@@ -1,8 +1,9 @@
 //! Whether two terms have a unifier, whatever numbers their variables have.
 ghost use Rattle.std.specs.Prelude.{◌≡◌, [], IfOk, OnOk, length, is_some, ℕ};
 ghost use Rattle.chr_semantics.specs.Mgu.{mgu};
-ghost use Rattle.chr_term.specs.View.{trees_view, view};
-ghost use Rattle.chr_bind.specs.Renamed.{AreRenamed, Extends, IsNames, IsRenamed};
+ghost use Rattle.chr_term.specs.TermView.{trees_view, view};
+ghost use Rattle.chr_term.specs.Extension.{IsExtension};
+ghost use Rattle.chr_bind.specs.Renamed.{AreRenamed, IsNames, IsRenamed};
 
 use crate::Memory;
 use crate::bindings::{Bindings, Unified};
@@ -20,11 +21,12 @@ pub(crate) fn are_unifiable<A: Allocator + Copy>(
     left: &Term<A>,
     right: &Term<A>,
 ) -> Result<bool, Memory>
-    ensures { IfOk result (λ unifiable. unifiable ≡ is_some (mgu [] (view left.now) (view right.now))) }
+    ensures { IfOk result (λ unifiable.
+        unifiable ≡ is_some (mgu [] (view left.now) (view right.now))) }
 {
     let mut numbers = IndexSet::new(alloc);
-    let left = renumbered(alloc, &mut numbers, left)?;
-    let right = renumbered(alloc, &mut numbers, right)?;
+    let left = renumber(alloc, &mut numbers, left)?;
+    let right = renumber(alloc, &mut numbers, right)?;
     let mut bindings = Bindings::new(alloc);
     bindings.fresh(numbers.len())?;
     match bindings.unify(&left, &right)? {
@@ -36,15 +38,16 @@ pub(crate) fn are_unifiable<A: Allocator + Copy>(
 
 /// The term with its variables numbered anew.
 #[cycle(renumber)]
-fn renumbered<A: Allocator + Copy>(
+fn renumber<A: Allocator + Copy>(
     alloc: A,
     numbers: &mut Numbers<A>,
     term: &Term<A>,
 ) -> Result<Term<A>, Memory>
     requires { IsNames numbers.old.keys }
-    ensures renamed { IfOk result (λ renamed. IsRenamed numbers.new.keys (view renamed) (view term.now)) }
+    ensures renamed { IfOk result (λ renamed.
+        IsRenamed numbers.new.keys (view renamed) (view term.now)) }
     ensures names { OnOk result (IsNames numbers.new.keys) }
-    ensures extends { OnOk result (Extends numbers.old.keys numbers.new.keys) }
+    ensures extends { OnOk result (IsExtension numbers.old.keys numbers.new.keys) }
 {
     match term {
         Term::Var(x) => {
@@ -54,25 +57,26 @@ fn renumbered<A: Allocator + Copy>(
         Term::Int(number) => Ok(Term::Int(*number)),
         Term::Node(sym, args) => Ok(Term::Node(
             *sym,
-            renumbered_all(alloc, numbers, args.as_slice())?,
+            renumber_all(alloc, numbers, args.as_slice())?,
         )),
     }
 }
 
 #[cycle(renumber)]
-fn renumbered_all<A: Allocator + Copy>(
+fn renumber_all<A: Allocator + Copy>(
     alloc: A,
     numbers: &mut Numbers<A>,
     terms: &[Term<A>],
 ) -> Result<Vec<Term<A>, A>, Memory>
     requires { IsNames numbers.old.keys }
-    ensures renamed { IfOk result (λ renamed. AreRenamed numbers.new.keys (trees_view renamed.items) (trees_view terms.now)) }
+    ensures renamed { IfOk result (λ renamed.
+        AreRenamed numbers.new.keys (trees_view renamed.items) (trees_view terms.now)) }
     ensures names { OnOk result (IsNames numbers.new.keys) }
-    ensures extends { OnOk result (Extends numbers.old.keys numbers.new.keys) }
+    ensures extends { OnOk result (IsExtension numbers.old.keys numbers.new.keys) }
 {
     let mut items = Vec::with_capacity(alloc, terms.len())?;
     for term in terms {
-        items.push(renumbered(alloc, numbers, term)?)?;
+        items.push(renumber(alloc, numbers, term)?)?;
     }
     Ok(items)
 }

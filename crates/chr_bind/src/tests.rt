@@ -1,4 +1,5 @@
 use super::*;
+use chr_semantics::limits::MAX_RULE_VARIABLES;
 use chr_term::{Sym, Term, same};
 use refusing_alloc::Refusing;
 use std::alloc::{Allocator, Global};
@@ -119,7 +120,7 @@ fn functors_unify(rt: HostRuntime) -> Result<(), Fail> {
     Ok(())
 }
 
-/// After a clash that comes behind a binding, nothing is bound.
+/// After a clash that comes after a binding, nothing is bound.
 #[test]
 fn clash_leaves_nothing(rt: HostRuntime) -> Result<(), Fail> {
     let alloc = rt.alloc();
@@ -186,6 +187,7 @@ fn fault_words(rt: HostRuntime) -> Result<(), Fail> {
     ] {
         let text = format!(in rt.alloc(); "{fault}")?;
         assert_eq!(&rt; text.as_str(), word);
+        assert_eq!(&rt; fault.word(), word);
     }
     Ok(())
 }
@@ -197,7 +199,7 @@ fn fits<'t>(
     terms: &'t [Term],
     matching: &mut Match<'t>,
 ) -> bool {
-    assert!(rt; are_below(64, patterns));
+    assert!(rt; are_below(MAX_RULE_VARIABLES as u64, patterns));
     fit(patterns, terms, matching)
 }
 
@@ -264,7 +266,7 @@ fn matched<'t, A: Allocator + Copy>(
         patterns.push(Term::Var(var as u64))?;
     }
     let mut matching = Match::new();
-    assert!(rt; are_below(64, &patterns));
+    assert!(rt; are_below(MAX_RULE_VARIABLES as u64, &patterns));
     assert!(rt; fit(&patterns, terms, &mut matching));
     Ok(matching)
 }
@@ -277,6 +279,43 @@ fn guard_calls(rt: HostRuntime) -> Result<(), Fail> {
         let terms = Vec::from_array(alloc, [term])?;
         let matching = matched(&rt, alloc, &terms)?;
         assert_eq!(&rt; holds(alloc, &test, &matching)?, answer);
+    }
+    Ok(())
+}
+
+/// A guard holds where each of its tests does.
+#[test]
+fn guard_of_two_tests(rt: HostRuntime) -> Result<(), Fail> {
+    let alloc = rt.alloc();
+    for (number, answer) in [(2, false), (3, true), (5, false)] {
+        let terms = Vec::from_array(alloc, [Term::Int(number)])?;
+        let matching = matched(&rt, alloc, &terms)?;
+        let guard = Vec::from_array(
+            alloc,
+            [
+                Test::Greater(Term::Var(0), Term::Int(2)),
+                Test::Less(Term::Var(0), Term::Int(5)),
+            ],
+        )?;
+        assert_eq!(&rt; guard_holds(alloc, &guard, &matching)?, answer);
+        assert!(&rt; guard_holds(alloc, &guard[..0], &matching)?);
+    }
+    Ok(())
+}
+
+#[test]
+fn comparisons(rt: HostRuntime) -> Result<(), Fail> {
+    for (comparison, answers) in [
+        (Comparison::Less, [true, false, false]),
+        (Comparison::Greater, [false, false, true]),
+        (Comparison::AtMost, [true, true, false]),
+        (Comparison::AtLeast, [false, true, true]),
+        (Comparison::Equals, [false, true, false]),
+        (Comparison::Differs, [true, false, true]),
+    ] {
+        for (left, answer) in [-1, 0, 1].iter().zip(answers) {
+            assert_eq!(&rt; comparison.holds(*left, 0), answer, "{comparison:?}");
+        }
     }
     Ok(())
 }
@@ -372,7 +411,7 @@ fn guards_of_values(rt: HostRuntime) -> Result<(), Fail> {
 }
 
 /// Five variables, of which 0 is f(1) and 3 is 2.
-fn told<A: Allocator + Copy>(alloc: A, rt: &impl Abort) -> Result<Bindings<A>, Memory> {
+fn bound<A: Allocator + Copy>(alloc: A, rt: &impl Abort) -> Result<Bindings<A>, Memory> {
     let mut bindings = variables(alloc, 5)?;
     let inside = one(alloc, F, Term::Var(1))?;
     unify(rt, &mut bindings, &Term::Var(0), &inside)?;
@@ -380,8 +419,8 @@ fn told<A: Allocator + Copy>(alloc: A, rt: &impl Abort) -> Result<Bindings<A>, M
     Ok(bindings)
 }
 
-/// What the variables of `told` stand for.
-fn is_as_told<A: Allocator + Copy>(
+/// What the variables of `bound` stand for.
+fn is_as_bound<A: Allocator + Copy>(
     alloc: A,
     rt: &impl Abort,
     bindings: &Bindings<A>,
@@ -400,19 +439,20 @@ fn unify_refused(rt: HostRuntime) -> Result<(), Fail> {
     let mut refused = 0;
     for left in 0..100u64 {
         meter.allow(1000);
-        let mut bindings = told(&meter, &rt)?;
+        let mut bindings = bound(&meter, &rt)?;
         let first = node(&meter, F, [Term::Var(0), Term::Var(2), Term::Var(4)])?;
         let seven = node(&meter, F, [Term::Int(7)])?;
         let second = node(&meter, F, [seven, Term::Var(1), node(&meter, A, [])?])?;
         meter.allow(left);
         let answer = unify(&rt, &mut bindings, &first, &second);
+        assert_eq!(&rt; answer.is_err(), meter.asked() > left, "{left}");
         meter.allow(1000);
         if answer.is_ok() {
             assert_eq!(&rt; answer, Ok(Unified::Bound));
             resolves(&rt, &bindings, &Term::Var(3), &Term::Int(7))?;
             break;
         }
-        is_as_told(&meter, &rt, &bindings)?;
+        is_as_bound(&meter, &rt, &bindings)?;
         assert_eq!(&rt; unify(&rt, &mut bindings, &first, &second)?, Unified::Bound);
         resolves(&rt, &bindings, &Term::Var(3), &Term::Int(7))?;
         refused = left + 1;
@@ -425,16 +465,23 @@ fn unify_refused(rt: HostRuntime) -> Result<(), Fail> {
 fn resolve_refused(rt: HostRuntime) -> Result<(), Fail> {
     let meter = Refusing::new(rt.alloc(), 0);
     meter.allow(1000);
-    let bindings = told(&meter, &rt)?;
+    let bindings = bound(&meter, &rt)?;
     let term = node(&meter, F, [Term::Var(0), Term::Var(3)])?;
     let wanted = node(&meter, F, [node(&meter, F, [Term::Var(1)])?, Term::Var(2)])?;
-    for left in 0..2u64 {
+    let mut refused = 0;
+    for left in 0..100u64 {
         meter.allow(left);
-        assert!(&rt; bindings.resolve(&term).is_err());
+        let is_refused = bindings.resolve(&term).is_err();
+        assert_eq!(&rt; is_refused, meter.asked() > left, "{left}");
         meter.allow(1000);
-        is_as_told(&meter, &rt, &bindings)?;
+        is_as_bound(&meter, &rt, &bindings)?;
         resolves(&rt, &bindings, &term, &wanted)?;
+        if !is_refused {
+            break;
+        }
+        refused = left + 1;
     }
+    assert_eq!(&rt; refused, 2);
     Ok(())
 }
 
@@ -442,23 +489,26 @@ fn resolve_refused(rt: HostRuntime) -> Result<(), Fail> {
 fn room_and_fresh_refused(rt: HostRuntime) -> Result<(), Fail> {
     let meter = Refusing::new(rt.alloc(), 0);
     meter.allow(1000);
-    let mut bindings = told(&meter, &rt)?;
+    let mut bindings = bound(&meter, &rt)?;
     meter.allow(0);
     assert!(&rt; bindings.room(1000).is_err());
+    assert_eq!(&rt; meter.asked(), 1);
     assert!(&rt; bindings.fresh(1000).is_err());
+    assert_eq!(&rt; meter.asked(), 2);
     meter.allow(1000);
-    is_as_told(&meter, &rt, &bindings)?;
+    is_as_bound(&meter, &rt, &bindings)?;
     bindings.room(1000)?;
     meter.allow(0);
     assert_eq!(&rt; bindings.fresh(1000)?, 5);
+    assert_eq!(&rt; meter.asked(), 0);
     assert_eq!(&rt; bindings.len(), 1005);
     assert!(&rt; bindings.fresh(usize::MAX).is_err());
     Ok(())
 }
 
-/// Each growth of `holds` refused in turn leaves the match as it was.
+/// Each growth of `guard_holds` refused in turn leaves the match as it was.
 #[test]
-fn holds_refused(rt: HostRuntime) -> Result<(), Fail> {
+fn guard_refused(rt: HostRuntime) -> Result<(), Fail> {
     let meter = Refusing::new(rt.alloc(), 0);
     meter.allow(1000);
     let terms = guarded(&meter)?;
@@ -467,10 +517,12 @@ fn holds_refused(rt: HostRuntime) -> Result<(), Fail> {
         one(&meter, F, one(&meter, F, Term::Var(2))?)?,
         one(&meter, F, one(&meter, F, Term::Var(0))?)?,
     );
+    let guard = Vec::from_array(&meter, [test])?;
     let mut refused = 0;
     for left in 0..100u64 {
         meter.allow(left);
-        let answer = holds(&meter, &test, &matching);
+        let answer = guard_holds(&meter, &guard, &matching);
+        assert_eq!(&rt; answer.is_err(), meter.asked() > left, "{left}");
         meter.allow(1000);
         for (var, term) in terms.iter().enumerate() {
             assert!(&rt;
@@ -483,7 +535,7 @@ fn holds_refused(rt: HostRuntime) -> Result<(), Fail> {
             assert_eq!(&rt; answer, Ok(true));
             break;
         }
-        assert!(&rt; holds(&meter, &test, &matching)?);
+        assert!(&rt; guard_holds(&meter, &guard, &matching)?);
         refused = left + 1;
     }
     assert!(&rt; refused > 3 && refused < 100, "{refused}");

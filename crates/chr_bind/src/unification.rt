@@ -1,15 +1,16 @@
 //! Unification by an agenda of lists of terms that are still to be made equal, so that no comparison begins anew after a binding.
 ghost use Rattle.std.specs.Prelude.{◌≡◌, ◌≢◌, ◌<◌, ◌≤◌, ◌+◌, ◌++◌, ◌∷◌, [], false, true, ℕ, IfOk, OnErr, OnOk, IsTrue, Ok, Some, None, length, set, slice_get, vec_len, vec_capacity};
 ghost use Rattle.chr_semantics.specs.Subst.{Subst, apply, occurs};
-ghost use Rattle.chr_semantics.specs.Mgu.{apart, both, elimination_from};
-ghost use Rattle.chr_term.specs.View.{view, trees_view};
-ghost use Rattle.chr_bind.specs.Terms.{IsBelow, AreBelow, size};
-ghost use Rattle.chr_bind.specs.Chains.{AreSound, IsAttached, IsJoined, IsSound, lent_pairs, name_of, owned_pairs, pairs_in, solution, subst_of, undone};
-ghost use Rattle.chr_bind.specs.Agenda.{Differs, IsAllDone, IsBelowAgenda, IsBinding, IsBound, IsCompared, IsTold, agenda_size, lists_apart, lists_size, rest_apart};
+ghost use Rattle.chr_semantics.specs.Mgu.{both};
+ghost use Rattle.chr_term.specs.TermView.{view, trees_view};
+ghost use Rattle.chr_bind.specs.Terms.{IsBelow, AreBelow};
+ghost use Rattle.chr_term.specs.Size.{size};
+ghost use Rattle.chr_bind.specs.Chains.{AreSound, IsAttached, IsJoined, IsSound, lent_pairs, name_of, owned_pairs, pairs_in, solution, subst_of, links_before};
+ghost use Rattle.chr_bind.specs.Agenda.{Differs, IsAllDone, IsBelowAgenda, IsBinding, IsBound, IsRootComparison, Eliminates, agenda_size, lists_apart, lists_size, rest_apart, terms_apart};
 ghost use Rattle.chr_bind.specs.Unified.{IsUnification};
 
 use crate::Memory;
-use crate::chains::{Chains, Link, Seen};
+use crate::chains::{Chains, Link, Root};
 use chr_term::{Term, copy};
 use std::alloc::Allocator;
 
@@ -23,7 +24,7 @@ struct Binding<'t, A: Allocator> {
 
 /// What the roots of two terms come to.
 #[derive(Drop)]
-enum Compared<'t, A: Allocator> {
+enum RootComparison<'t, A: Allocator> {
     Same,
     Clash,
     Bind(Binding<'t, A>),
@@ -42,13 +43,21 @@ enum Difference<'t, A: Allocator> {
 /// Lists of terms that are still to be made equal, the next ones last.
 type Agenda<'t, A> = Vec<(&'t [Term<A>], &'t [Term<A>]), A>;
 
-/// What a unification has told, and what it changed.
+/// What a unification has added, and what it changed.
 #[derive(Drop)]
 struct Progress<'t, A: Allocator> {
     /// The bindings in their order.
-    told: Vec<(u64, &'t Term<A>), A>,
+    added: Vec<(u64, &'t Term<A>), A>,
     /// The links that were changed, each as it was before.
     before: Vec<(usize, Link), A>,
+}
+
+/// The variable at the end of a class is to be bound to the term.
+fn to_bind<'t, A: Allocator>(end: usize, name: u64, term: &'t Term<A>) -> RootComparison<'t, A>
+    ensures { result
+        ≡ RootComparison.Bind (record { end = end; name = name; term = term.entry }) }
+{
+    RootComparison::Bind(Binding { end, name, term })
 }
 
 /// Compares the roots of two terms. Of two free variables the greater is to be bound to the lesser.
@@ -56,45 +65,30 @@ fn compare<'t, A: Allocator>(
     chains: &Chains<'_, 't, A>,
     left: &'t Term<A>,
     right: &'t Term<A>,
-) -> Compared<'t, A>
+) -> RootComparison<'t, A>
     requires sound { AreSound chains.now }
     requires left { IsBelow (length chains.now.links.now) (view left.now) }
     requires right { IsBelow (length chains.now.links.now) (view right.now) }
-    ensures { IsCompared chains.now.links.now (subst_of chains.now) (view left.now) (view right.now) result }
+    ensures { IsRootComparison chains.now.links.now (subst_of chains.now)
+        (view left.now) (view right.now) result }
 {
-    match (chains.seen(left), chains.seen(right)) {
-        (Seen::Free(end, x), Seen::Free(other, y)) => {
+    match (chains.root(left), chains.root(right)) {
+        (Root::Free(end, x), Root::Free(other, y)) => {
             if x == y {
-                Compared::Same
+                RootComparison::Same
             } else if x < y {
-                Compared::Bind(Binding {
-                    end: other,
-                    name: y,
-                    term: left,
-                })
+                to_bind(other, y, left)
             } else {
-                Compared::Bind(Binding {
-                    end,
-                    name: x,
-                    term: right,
-                })
+                to_bind(end, x, right)
             }
         }
-        (Seen::Free(end, name), _) => Compared::Bind(Binding {
-            end,
-            name,
-            term: right,
-        }),
-        (_, Seen::Free(end, name)) => Compared::Bind(Binding {
-            end,
-            name,
-            term: left,
-        }),
-        (Seen::Int(x), Seen::Int(y)) if x == y => Compared::Same,
-        (Seen::Node(f, lefts), Seen::Node(g, rights)) if f.0 == g.0 => {
-            Compared::Arguments(lefts, rights)
+        (Root::Free(end, name), _) => to_bind(end, name, right),
+        (_, Root::Free(end, name)) => to_bind(end, name, left),
+        (Root::Int(x), Root::Int(y)) if x == y => RootComparison::Same,
+        (Root::Node(f, lefts), Root::Node(g, rights)) if f.0 == g.0 => {
+            RootComparison::Arguments(lefts, rights)
         }
-        _ => Compared::Clash,
+        _ => RootComparison::Clash,
     }
 }
 
@@ -104,9 +98,13 @@ fn put<'t, A: Allocator>(
     lefts: &'t [Term<A>],
     rights: &'t [Term<A>],
 ) -> Result<(), Memory>
-    ensures below { (n : ℕ) → AreBelow n (trees_view lefts.now) → AreBelow n (trees_view rights.now) → IsBelowAgenda n agenda.old.items → IsBelowAgenda n agenda.new.items }
-    ensures apart { OnOk result ((s : Subst) → rest_apart s agenda.new.items ≡ both (lists_apart s lefts.now rights.now) (rest_apart s agenda.old.items)) }
-    ensures size { OnOk result ((s : Subst) → agenda_size s agenda.new.items ≤ agenda_size s agenda.old.items + lists_size s lefts.now) }
+    ensures below { (n : ℕ) → AreBelow n (trees_view lefts.now) →
+        AreBelow n (trees_view rights.now) →
+        IsBelowAgenda n agenda.old.items → IsBelowAgenda n agenda.new.items }
+    ensures apart { OnOk result ((s : Subst) → rest_apart s agenda.new.items
+        ≡ both (lists_apart s lefts.now rights.now) (rest_apart s agenda.old.items)) }
+    ensures size { OnOk result ((s : Subst) → agenda_size s agenda.new.items
+        ≤ agenda_size s agenda.old.items + lists_size s lefts.now) }
 {
     if lefts.is_empty() && rights.is_empty() {
         return Ok(());
@@ -127,14 +125,17 @@ fn descend<'t, A: Allocator>(
     requires left { IsBelow (length chains.now.links.now) (view left.now) }
     requires right { IsBelow (length chains.now.links.now) (view right.now) }
     ensures below { IsBelowAgenda (length chains.now.links.now) agenda.new.items }
-    ensures step { IfOk result (Differs chains.now.links.now (subst_of chains.now) (both (apart (apply (subst_of chains.now) (view left.now)) (apply (subst_of chains.now) (view right.now))) (rest_apart (subst_of chains.now) agenda.old.items)) agenda.new.items) }
-    ensures smaller { OnOk result (agenda_size (subst_of chains.now) agenda.new.items < agenda_size (subst_of chains.now) agenda.old.items + size (apply (subst_of chains.now) (view left.now))) }
+    ensures step { let s = subst_of chains.now in IfOk result (Differs chains.now.links.now s
+        (both (terms_apart s left.now right.now) (rest_apart s agenda.old.items))
+        agenda.new.items) }
+    ensures smaller { let s = subst_of chains.now in OnOk result (agenda_size s agenda.new.items
+        < agenda_size s agenda.old.items + size (apply s (view left.now))) }
 {
     match compare(chains, left, right) {
-        Compared::Same => Ok(Difference::None),
-        Compared::Clash => Ok(Difference::Clash),
-        Compared::Bind(binding) => Ok(Difference::Bind(binding)),
-        Compared::Arguments(lefts, rights) => {
+        RootComparison::Same => Ok(Difference::None),
+        RootComparison::Clash => Ok(Difference::Clash),
+        RootComparison::Bind(binding) => Ok(Difference::Bind(binding)),
+        RootComparison::Arguments(lefts, rights) => {
             put(agenda, lefts, rights)?;
             Ok(Difference::None)
         }
@@ -153,8 +154,11 @@ fn advance<'t, A: Allocator>(
     requires lefts { AreBelow (length chains.now.links.now) (trees_view lefts.now) }
     requires rights { AreBelow (length chains.now.links.now) (trees_view rights.now) }
     ensures below { IsBelowAgenda (length chains.now.links.now) agenda.new.items }
-    ensures step { IfOk result (Differs chains.now.links.now (subst_of chains.now) (both (lists_apart (subst_of chains.now) lefts.now rights.now) (rest_apart (subst_of chains.now) agenda.old.items)) agenda.new.items) }
-    ensures smaller { OnOk result (agenda_size (subst_of chains.now) agenda.new.items < agenda_size (subst_of chains.now) agenda.old.items + lists_size (subst_of chains.now) lefts.now) }
+    ensures step { let s = subst_of chains.now in IfOk result (Differs chains.now.links.now s
+        (both (lists_apart s lefts.now rights.now) (rest_apart s agenda.old.items))
+        agenda.new.items) }
+    ensures smaller { let s = subst_of chains.now in OnOk result (agenda_size s agenda.new.items
+        < agenda_size s agenda.old.items + lists_size s lefts.now) }
 {
     match (lefts.split_first(), rights.split_first()) {
         (Some((left, lefts)), Some((right, rights))) => {
@@ -175,7 +179,8 @@ fn next_difference<'t, A: Allocator>(
     requires sound { AreSound chains.now }
     requires agenda { IsBelowAgenda (length chains.now.links.now) agenda.old.items }
     ensures below { IsBelowAgenda (length chains.now.links.now) agenda.new.items }
-    ensures step { IfOk result (Differs chains.now.links.now (subst_of chains.now) (rest_apart (subst_of chains.now) agenda.old.items) agenda.new.items) }
+    ensures step { let s = subst_of chains.now in IfOk result
+        (Differs chains.now.links.now s (rest_apart s agenda.old.items) agenda.new.items) }
     ensures none { IfOk result (IsAllDone agenda.new.items) }
 {
     while let Some((lefts, rights)) = agenda.pop() {
@@ -200,7 +205,8 @@ fn first_difference<'t, A: Allocator>(
     requires left { IsBelow (length chains.now.links.now) (view left.now) }
     requires right { IsBelow (length chains.now.links.now) (view right.now) }
     ensures below { IsBelowAgenda (length chains.now.links.now) agenda.new.items }
-    ensures step { IfOk result (Differs chains.now.links.now (subst_of chains.now) (apart (apply (subst_of chains.now) (view left.now)) (apply (subst_of chains.now) (view right.now))) agenda.new.items) }
+    ensures step { let s = subst_of chains.now in IfOk result
+        (Differs chains.now.links.now s (terms_apart s left.now right.now) agenda.new.items) }
     ensures none { IfOk result (IsAllDone agenda.new.items) }
 {
     match descend(chains, agenda, left, right)? {
@@ -220,7 +226,8 @@ fn change<A: Allocator>(
     requires known { place < length links.old }
     requires room { vec_len before.old < vec_capacity before.old }
     ensures links { links.new ≡ set links.old place link }
-    ensures undone { undone before.new.items links.new ≡ undone before.old.items links.old }
+    ensures undone { links_before before.new.items links.new
+        ≡ links_before before.old.items links.old }
     ensures len { vec_len before.new ≡ vec_len before.old + 1 }
     ensures capacity { vec_capacity before.new ≡ vec_capacity before.old }
 {
@@ -230,7 +237,7 @@ fn change<A: Allocator>(
 
 /// Makes the links what they were before all changes.
 pub(crate) fn undo<A: Allocator>(links: &mut [Link], before: Vec<(usize, Link), A>)
-    ensures { links.new ≡ undone before.items links.old }
+    ensures { links.new ≡ links_before before.items links.old }
 {
     let mut before = before;
     while let Some((place, link)) = before.pop() {
@@ -261,7 +268,8 @@ fn join<A: Allocator>(
     requires other { other < length links.old }
     requires room { vec_len before.old + 2 ≤ vec_capacity before.old }
     ensures joined { IsJoined links.old links.new end other number }
-    ensures undone { undone before.new.items links.new ≡ undone before.old.items links.old }
+    ensures undone { links_before before.new.items links.new
+        ≡ links_before before.old.items links.old }
 {
     match links[other] {
         Link::Free(name, many) => {
@@ -285,21 +293,24 @@ fn attach<'t, A: Allocator>(
     links: &mut [Link],
     before: &mut Vec<(usize, Link), A>,
     made: &'t [(u64, Term<A>)],
-    told: &[(u64, &'t Term<A>)],
+    added: &[(u64, &'t Term<A>)],
     binding: &Binding<'t, A>,
 )
-    requires sound { IsSound links.old (pairs_in made.now told.now) }
+    requires sound { IsSound links.old (pairs_in made.now added.now) }
     requires end { name_of (slice_get links.old binding.now.end) ≡ Some binding.now.name }
     requires below { IsBelow (length links.old) (view binding.now.term.now) }
-    requires absent { occurs binding.now.name (apply (solution (pairs_in made.now told.now)) (view binding.now.term.now)) ≡ false }
+    requires absent { let s = solution (pairs_in made.now added.now) in
+        occurs binding.now.name (apply s (view binding.now.term.now)) ≡ false }
     requires room { vec_len before.old + 2 ≤ vec_capacity before.old }
-    ensures bound { IsAttached links.old links.new (pairs_in made.now told.now) (binding.now.name, view binding.now.term.now) }
-    ensures undone { undone before.new.items links.new ≡ undone before.old.items links.old }
+    ensures bound { IsAttached links.old links.new (pairs_in made.now added.now)
+        (binding.now.name, view binding.now.term.now) }
+    ensures undone { links_before before.new.items links.new
+        ≡ links_before before.old.items links.old }
 {
-    let number = made.len() + told.len();
+    let number = made.len() + added.len();
     match binding.term {
         Term::Var(x) => {
-            let other = Chains { links, made, told }.end(*x as usize);
+            let other = Chains { links, made, added }.end(*x as usize);
             join(links, before, binding.end, other, number);
         }
         Term::Int(_) => change(links, before, binding.end, Link::Bound(number)),
@@ -314,19 +325,24 @@ fn bind<'t, A: Allocator>(
     progress: &mut Progress<'t, A>,
     binding: &Binding<'t, A>,
 ) -> Result<(), Memory>
-    requires sound { IsSound links.old (pairs_in made.now progress.old.told.items) }
+    requires sound { IsSound links.old (pairs_in made.now progress.old.added.items) }
     requires end { name_of (slice_get links.old binding.now.end) ≡ Some binding.now.name }
     requires below { IsBelow (length links.old) (view binding.now.term.now) }
-    requires absent { occurs binding.now.name (apply (solution (pairs_in made.now progress.old.told.items)) (view binding.now.term.now)) ≡ false }
-    ensures bound { OnOk result (IsAttached links.old links.new (pairs_in made.now progress.old.told.items) (binding.now.name, view binding.now.term.now)) }
-    ensures told { OnOk result (progress.new.told.items ≡ progress.old.told.items ++ (binding.now.name, binding.now.term) ∷ []) }
-    ensures undone { undone progress.new.before.items links.new ≡ undone progress.old.before.items links.old }
+    requires absent { let s = solution (pairs_in made.now progress.old.added.items) in
+        occurs binding.now.name (apply s (view binding.now.term.now)) ≡ false }
+    ensures bound { OnOk result (IsAttached links.old links.new
+        (pairs_in made.now progress.old.added.items)
+        (binding.now.name, view binding.now.term.now)) }
+    ensures added { OnOk result (progress.new.added.items
+        ≡ progress.old.added.items ++ (binding.now.name, binding.now.term) ∷ []) }
+    ensures undone { links_before progress.new.before.items links.new
+        ≡ links_before progress.old.before.items links.old }
 {
-    progress.told.reserve(1)?;
+    progress.added.reserve(1)?;
     progress.before.reserve(2)?;
-    let told = progress.told.as_slice();
-    attach(links, &mut progress.before, made, told, binding);
-    progress.told.push_reserved((binding.name, binding.term));
+    let added = progress.added.as_slice();
+    attach(links, &mut progress.before, made, added, binding);
+    progress.added.push_reserved((binding.name, binding.term));
     Ok(())
 }
 
@@ -337,37 +353,45 @@ fn try_bind<'t, A: Allocator>(
     progress: &mut Progress<'t, A>,
     binding: &Binding<'t, A>,
 ) -> Result<bool, Memory>
-    requires sound { IsSound links.old (pairs_in made.now progress.old.told.items) }
+    requires sound { IsSound links.old (pairs_in made.now progress.old.added.items) }
     requires binding { IsBinding links.old binding.now }
-    ensures bound { IfOk result (IsBound links.old links.new (pairs_in made.now progress.old.told.items) binding.now) }
-    ensures told { result ≡ Ok true → progress.new.told.items ≡ progress.old.told.items ++ (binding.now.name, binding.now.term) ∷ [] }
-    ensures undone { undone progress.new.before.items links.new ≡ undone progress.old.before.items links.old }
+    ensures bound { IfOk result (IsBound links.old links.new
+        (pairs_in made.now progress.old.added.items) binding.now) }
+    ensures added { result ≡ Ok true → progress.new.added.items
+        ≡ progress.old.added.items ++ (binding.now.name, binding.now.term) ∷ [] }
+    ensures undone { links_before progress.new.before.items links.new
+        ≡ links_before progress.old.before.items links.old }
 {
-    let told = progress.told.as_slice();
-    if (Chains { links, made, told }).occurs(binding.name, binding.term) {
+    let added = progress.added.as_slice();
+    if (Chains { links, made, added }).occurs(binding.name, binding.term) {
         return Ok(false);
     }
     bind(links, made, progress, binding)?;
     Ok(true)
 }
 
-/// Tells bindings until nothing on the agenda differs, and says whether that is possible. Where it is not, or memory is refused, the
+/// Adds bindings until nothing on the agenda differs, and says whether that is possible. Where it is not, or memory is refused, the
 /// links are to be undone.
-fn tell_rest<'t, A: Allocator>(
+fn make_rest_equal<'t, A: Allocator>(
     links: &mut [Link],
     made: &'t [(u64, Term<A>)],
     progress: &mut Progress<'t, A>,
     agenda: &mut Agenda<'t, A>,
 ) -> Result<bool, Memory>
-    requires sound { IsSound links.old (pairs_in made.now progress.old.told.items) }
+    requires sound { IsSound links.old (pairs_in made.now progress.old.added.items) }
     requires agenda { IsBelowAgenda (length links.old) agenda.old.items }
-    ensures told { IfOk result (IsTold (solution (pairs_in made.now progress.old.told.items)) (rest_apart (solution (pairs_in made.now progress.old.told.items)) agenda.old.items) (length progress.old.told.items) (length progress.new.told.items) (solution (pairs_in made.now progress.new.told.items))) }
-    ensures sound { result ≡ Ok true → IsSound links.new (pairs_in made.now progress.new.told.items) }
-    ensures undone { undone progress.new.before.items links.new ≡ undone progress.old.before.items links.old }
+    ensures added { let s = solution (pairs_in made.now progress.old.added.items) in
+        IfOk result (Eliminates s (rest_apart s agenda.old.items)
+        (length progress.old.added.items) (length progress.new.added.items)
+        (solution (pairs_in made.now progress.new.added.items))) }
+    ensures sound { result ≡ Ok true →
+        IsSound links.new (pairs_in made.now progress.new.added.items) }
+    ensures undone { links_before progress.new.before.items links.new
+        ≡ links_before progress.old.before.items links.old }
 {
     loop {
-        let told = progress.told.as_slice();
-        let binding = match next_difference(&Chains { links, made, told }, agenda)? {
+        let added = progress.added.as_slice();
+        let binding = match next_difference(&Chains { links, made, added }, agenda)? {
             Difference::None => return Ok(true),
             Difference::Clash => return Ok(false),
             Difference::Bind(binding) => binding,
@@ -378,9 +402,9 @@ fn tell_rest<'t, A: Allocator>(
     }
 }
 
-/// Makes two terms equal by telling bindings, and says whether that is possible. Where it is not, or memory is refused, the links are to
+/// Makes two terms equal by adding bindings, and says whether that is possible. Where it is not, or memory is refused, the links are to
 /// be undone.
-fn tell<'t, A: Allocator + Copy>(
+fn make_equal<'t, A: Allocator + Copy>(
     alloc: A,
     links: &mut [Link],
     made: &'t [(u64, Term<A>)],
@@ -388,16 +412,21 @@ fn tell<'t, A: Allocator + Copy>(
     left: &'t Term<A>,
     right: &'t Term<A>,
 ) -> Result<bool, Memory>
-    requires sound { IsSound links.old (pairs_in made.now progress.old.told.items) }
+    requires sound { IsSound links.old (pairs_in made.now progress.old.added.items) }
     requires left { IsBelow (length links.old) (view left.now) }
     requires right { IsBelow (length links.old) (view right.now) }
-    ensures told { IfOk result (IsTold (solution (pairs_in made.now progress.old.told.items)) (apart (apply (solution (pairs_in made.now progress.old.told.items)) (view left.now)) (apply (solution (pairs_in made.now progress.old.told.items)) (view right.now))) (length progress.old.told.items) (length progress.new.told.items) (solution (pairs_in made.now progress.new.told.items))) }
-    ensures sound { result ≡ Ok true → IsSound links.new (pairs_in made.now progress.new.told.items) }
-    ensures undone { undone progress.new.before.items links.new ≡ undone progress.old.before.items links.old }
+    ensures added { let s = solution (pairs_in made.now progress.old.added.items) in
+        IfOk result (Eliminates s (terms_apart s left.now right.now)
+        (length progress.old.added.items) (length progress.new.added.items)
+        (solution (pairs_in made.now progress.new.added.items))) }
+    ensures sound { result ≡ Ok true →
+        IsSound links.new (pairs_in made.now progress.new.added.items) }
+    ensures undone { links_before progress.new.before.items links.new
+        ≡ links_before progress.old.before.items links.old }
 {
     let mut agenda = Vec::new(alloc);
-    let told = progress.told.as_slice();
-    let chains = Chains { links, made, told };
+    let added = progress.added.as_slice();
+    let chains = Chains { links, made, added };
     let binding = match first_difference(&chains, &mut agenda, left, right)? {
         Difference::None => return Ok(true),
         Difference::Clash => return Ok(false),
@@ -406,43 +435,44 @@ fn tell<'t, A: Allocator + Copy>(
     if !try_bind(links, made, progress, &binding)? {
         return Ok(false);
     }
-    tell_rest(links, made, progress, &mut agenda)
+    make_rest_equal(links, made, progress, &mut agenda)
 }
 
-/// What a unification told, and the links that it changed, each as it was before.
+/// What a unification added, and the links that it changed, each as it was before.
 #[derive(Drop)]
-pub(crate) struct Told<A: Allocator> {
+pub(crate) struct Additions<A: Allocator> {
     pub pairs: Vec<(u64, Term<A>), A>,
     pub before: Vec<(usize, Link), A>,
 }
 
 /// The bindings with copies of their terms.
-fn owned<A: Allocator + Copy>(
+fn copy_pairs<A: Allocator + Copy>(
     alloc: A,
-    told: &[(u64, &Term<A>)],
+    added: &[(u64, &Term<A>)],
 ) -> Result<Vec<(u64, Term<A>), A>, Memory>
-    ensures { IfOk result (λ owned. owned_pairs owned.items ≡ lent_pairs told.now) }
+    ensures { IfOk result (λ owned. owned_pairs owned.items ≡ lent_pairs added.now) }
 {
-    let mut items = Vec::with_capacity(alloc, told.len())?;
-    for pair in told {
+    let mut items = Vec::with_capacity(alloc, added.len())?;
+    for pair in added {
         items.push((pair.0, copy(alloc, pair.1)?))?;
     }
     Ok(items)
 }
 
-/// Hands out what was told. Where memory is refused, the links are as they were before.
+/// Hands out what was added. Where memory is refused, the links are as they were before.
 fn keep<A: Allocator + Copy>(
     alloc: A,
     links: &mut [Link],
     progress: Progress<'_, A>,
-) -> Result<Told<A>, Memory>
+) -> Result<Additions<A>, Memory>
     ensures kept { OnOk result (links.new ≡ links.old) }
-    ensures pairs { IfOk result (λ told. owned_pairs told.pairs.items ≡ lent_pairs progress.entry.told.items) }
-    ensures before { IfOk result (λ told. told.before.items ≡ progress.entry.before.items) }
-    ensures undone { OnErr result (links.new ≡ undone progress.entry.before.items links.old) }
+    ensures pairs { IfOk result (λ added.
+        owned_pairs added.pairs.items ≡ lent_pairs progress.entry.added.items) }
+    ensures before { IfOk result (λ added. added.before.items ≡ progress.entry.before.items) }
+    ensures undone { OnErr result (links.new ≡ links_before progress.entry.before.items links.old) }
 {
-    match owned(alloc, progress.told.as_slice()) {
-        Ok(pairs) => Ok(Told {
+    match copy_pairs(alloc, progress.added.as_slice()) {
+        Ok(pairs) => Ok(Additions {
             pairs,
             before: progress.before,
         }),
@@ -453,26 +483,27 @@ fn keep<A: Allocator + Copy>(
     }
 }
 
-/// Makes two terms equal, and hands out what was told for that: the links are then those with it. They are as before where nothing makes
+/// Makes two terms equal, and hands out what was added for that: the links are then those with it. They are as before where nothing makes
 /// the terms equal, and where memory is refused.
-pub(crate) fn unified<A: Allocator + Copy>(
+pub(crate) fn unify_terms<A: Allocator + Copy>(
     alloc: A,
     links: &mut [Link],
     made: &[(u64, Term<A>)],
     left: &Term<A>,
     right: &Term<A>,
-) -> Result<Option<Told<A>>, Memory>
+) -> Result<Option<Additions<A>>, Memory>
     requires sound { IsSound links.old (owned_pairs made.now) }
     requires left { IsBelow (length links.old) (view left.now) }
     requires right { IsBelow (length links.old) (view right.now) }
-    ensures unified { IfOk result (IsUnification links.old links.new (owned_pairs made.now) (view left.now) (view right.now)) }
+    ensures unified { IfOk result (IsUnification links.old links.new (owned_pairs made.now)
+        (view left.now) (view right.now)) }
     ensures refused { OnErr result (links.new ≡ links.old) }
 {
     let mut progress = Progress {
-        told: Vec::new(alloc),
+        added: Vec::new(alloc),
         before: Vec::new(alloc),
     };
-    match tell(alloc, links, made, &mut progress, left, right) {
+    match make_equal(alloc, links, made, &mut progress, left, right) {
         Ok(true) => Ok(Some(keep(alloc, links, progress)?)),
         Ok(false) => {
             undo(links, progress.before);
@@ -485,22 +516,22 @@ pub(crate) fn unified<A: Allocator + Copy>(
     }
 }
 
-/// Appends what was told to the bindings, or undoes the links that it changed where memory is refused.
+/// Appends what was added to the bindings, or undoes the links that it changed where memory is refused.
 pub(crate) fn take_over<A: Allocator>(
     links: &mut [Link],
     made: &mut Vec<(u64, Term<A>), A>,
-    told: Told<A>,
+    added: Additions<A>,
 ) -> Result<(), Memory>
-    ensures made { OnOk result (made.new.items ≡ made.old.items ++ told.pairs.items) }
+    ensures made { OnOk result (made.new.items ≡ made.old.items ++ added.pairs.items) }
     ensures kept { OnOk result (links.new ≡ links.old) }
     ensures refused { OnErr result (made.new.items ≡ made.old.items) }
-    ensures undone { OnErr result (links.new ≡ undone told.before.items links.old) }
+    ensures undone { OnErr result (links.new ≡ links_before added.before.items links.old) }
 {
-    let mut told = told;
-    match made.append(&mut told.pairs) {
+    let mut added = added;
+    match made.append(&mut added.pairs) {
         Ok(()) => Ok(()),
         Err(error) => {
-            undo(links, told.before);
+            undo(links, added.before);
             Err(error)
         }
     }

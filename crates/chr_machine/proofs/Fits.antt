@@ -8,8 +8,8 @@ use Rattle.chr_semantics.specs.Program.{Atom, Head}
 use Rattle.chr_semantics.specs.Match.{fit, fit_all, fits}
 use Rattle.chr_term.specs.declared.term.Sym.{Sym}
 use Rattle.chr_term.specs.declared.term.Term.{Term}
-use Rattle.chr_term.specs.View.{trees_view}
-use Rattle.chr_rules.specs.View.{atom_view, flag_at, heads_view}
+use Rattle.chr_term.specs.TermView.{atom_view, trees_view}
+use Rattle.chr_rules.specs.RuleView.{flag_at, heads_view}
 use Rattle.chr_machine.specs.Fragment.{is_fit, is_one_ground_head}
 use Rattle.chr_machine.proofs.Resolved.{both-left, both-right}
 

@@ -1,7 +1,8 @@
 -- A transition of the execution whose top was taken off is one of the execution that had it.
 use Rattle.std.proofs.Common.{◌≡◌, ◌<◌, ◌++◌, ◌∷◌, [], Vec, ap, subst}
+use Rattle.chr_semantics.specs.declared.limits.TheConstants.{MAX_TRANSITIONS}
 use Rattle.chr_machine.specs.Fragment.{IsThin}
-use Rattle.chr_machine.specs.Loaded.{rules_of}
+use Rattle.chr_rules.specs.ProgramView.{rules_of}
 use Rattle.chr_machine.specs.State.{elem_view, state_of}
 use Rattle.chr_machine.specs.Step.{Made, Moves, Kept, topped}
 use Rattle.chr_machine.proofs.Stacks.{stack_put}
@@ -10,7 +11,7 @@ use Rattle.chr_machine.specs.declared.state.Elem.{Elem}
 use Rattle.chr_machine.specs.declared.state.Status.TheVariants.{Running}
 use Rattle.chr_machine.specs.declared.state.Execution.{Execution}
 
-pub moved : {A : Type 0} (old new : Execution A) (v : Vec (Elem A) A) (e : Elem A) → old.stack.items ≡ v.items ++ e ∷ [] → old.status ≡ Running → old.steps < 1000000 → Made (elem_view e) (record old { stack = v }) new → Moves old new
+pub moved : {A : Type 0} (old new : Execution A) (v : Vec (Elem A) A) (e : Elem A) → old.stack.items ≡ v.items ++ e ∷ [] → old.status ≡ Running → old.steps < MAX_TRANSITIONS → Made (elem_view e) (record old { stack = v }) new → Moves old new
 moved old new v e is runs few made = record {
   running = rw runs;
   few = few;

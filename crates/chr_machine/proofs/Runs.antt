@@ -6,13 +6,13 @@ use Rattle.std.proofs.lemmas.Simd.{map-map}
 use Rattle.chr_semantics.specs.Match.{Row}
 use Rattle.chr_semantics.specs.Search.{History}
 use Rattle.chr_semantics.specs.State.{State, Element, Status, running, done, failed, faulted, goal, start, with_stack}
-use Rattle.chr_rules.specs.View.{goal_view}
-use Rattle.chr_rules.specs.declared.rule.Goal.{Goal}
+use Rattle.chr_rules.specs.RuleView.{goal_view}
+use Rattle.chr_rules.specs.declared.goal.Goal.{Goal}
 use Rattle.chr_semantics.specs.Step.{step, after, count_steps, is_running, step_at, steps}
 use Rattle.chr_semantics.proofs.Counts.{count-add}
 use Rattle.chr_semantics.specs.Trace.{line}
 use Rattle.chr_semantics.specs.Text.{line_texts, trace}
-use Rattle.chr_machine.specs.Loaded.{names_of, rules_of}
+use Rattle.chr_rules.specs.ProgramView.{names_of, rules_of}
 use Rattle.chr_machine.specs.State.{state_of, texts}
 use Rattle.chr_machine.specs.Step.{Moves, Kept, Ran}
 use Rattle.chr_machine.specs.declared.state.Execution.{Execution}

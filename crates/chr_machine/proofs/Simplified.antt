@@ -11,13 +11,13 @@ use Rattle.chr_semantics.specs.Step.{search_at, search_step}
 use Rattle.chr_semantics.specs.Trace.{simplifies, search_line}
 use Rattle.chr_semantics.specs.Text.{line_text}
 use Rattle.chr_machine.specs.Fragment.{IsFiring, IsThinRule}
-use Rattle.chr_machine.specs.Loaded.{names_of, rules_of}
-use Rattle.chr_rules.specs.View.{goal_view}
+use Rattle.chr_rules.specs.ProgramView.{names_of, rules_of}
+use Rattle.chr_rules.specs.RuleView.{goal_view}
 use Rattle.chr_machine.specs.Slots.{next_of, rows_of}
 use Rattle.chr_machine.specs.State.{state_of, texts}
 use Rattle.chr_machine.specs.Step.{Committed, Kept, Made, topped}
 use Rattle.chr_machine.proofs.Stays.{fired_thin}
-use Rattle.chr_rules.specs.declared.rule.Goal.{Goal}
+use Rattle.chr_rules.specs.declared.goal.Goal.{Goal}
 use Rattle.chr_machine.specs.declared.store.Store.{Store}
 use Rattle.chr_machine.specs.declared.state.Execution.{Execution}
 

@@ -1,10 +1,10 @@
 -- The stack as the definitions see it, an element at a time.
 use Rattle.std.proofs.Common.{◌≡◌, List, [], ◌∷◌, ◌++◌, length, refl, ◌<◌, arith, ap, map}
 use Rattle.chr_semantics.specs.State.{Element, status_at, running, goal}
-use Rattle.chr_rules.specs.View.{goal_view}
+use Rattle.chr_rules.specs.RuleView.{goal_view}
 use Rattle.chr_machine.specs.State.{elem_view, stack_onto, stack_view}
 use Rattle.chr_machine.specs.declared.state.Elem.{Elem}
-use Rattle.chr_rules.specs.declared.rule.Goal.{Goal}
+use Rattle.chr_rules.specs.declared.goal.Goal.{Goal}
 
 stack_onto-put : {A : Type 0} (es : List (Elem A)) (e : Elem A) (below : List Element) → stack_onto (es ++ e ∷ []) below ≡ elem_view e ∷ stack_onto es below
 stack_onto-put [] e below = refl

@@ -1,7 +1,6 @@
-pub mod Loaded
 pub mod Rows
 pub mod Slots
 pub mod State
 pub mod Fragment
 pub mod Step
-pub mod Standing
+pub mod MachineView

@@ -2,7 +2,7 @@
 use Rattle.std.specs.Prelude.{◌≡◌, ℕ, ◌+◌, ◌==◌, not, filter, List, [], ◌∷◌, Option, Some, None}
 use Rattle.chr_semantics.specs.Search.{atom_of}
 use Rattle.chr_semantics.specs.Program.{Atom}
-use Rattle.chr_rules.specs.View.{atom_view}
+use Rattle.chr_term.specs.TermView.{atom_view}
 use Rattle.chr_semantics.specs.Match as semantics
 use Rattle.chr_machine.specs.declared.store.Row.{Row}
 

@@ -1,16 +1,15 @@
 -- What the parts of an execution state stand for.
 use Rattle.std.specs.Prelude.{ℕ, List, [], ◌∷◌, map, length, Vec}
-use Rattle.chr_semantics.specs.Value as semantics
 use Rattle.chr_semantics.specs.State as semantics'
 use Rattle.chr_semantics.specs.State.{Element, goal, known, active, State}
-use Rattle.chr_rules.specs.View.{atom_view, goal_view}
+use Rattle.chr_term.specs.TermView.{atom_view}
+use Rattle.chr_bind.specs.Values.{fault_view}
+use Rattle.chr_rules.specs.RuleView.{goal_view}
 use Rattle.chr_machine.specs.Slots.{rows_of, next_of}
 use Rattle.chr_machine.specs.declared.store.Id.{Id}
 use Rattle.chr_machine.specs.declared.state.Elem.{Elem}
 use Rattle.chr_machine.specs.declared.state.Elem.TheVariants.{Goal as On, Known, Active}
 use Rattle.chr_machine.specs.declared.state.Fired.{Fired}
-use Rattle.chr_machine.specs.declared.state.Fault.{Fault}
-use Rattle.chr_machine.specs.declared.state.Fault.TheVariants.{Unbound, NotNumber, Overflow, ZeroDivisor}
 use Rattle.chr_machine.specs.declared.state.Status.{Status}
 use Rattle.chr_machine.specs.declared.state.Status.TheVariants.{Running, Done, Failed, Faulted}
 use Rattle.chr_machine.specs.declared.state.Execution.{Execution}
@@ -33,12 +32,6 @@ ids_view is = map (λ (i : Id). i.0) is
 
 abbrev pub fired_view : {A : Type 0} → Fired A → ℕ × List ℕ
 fired_view f = (f.rule, ids_view f.ids.items)
-
-abbrev pub fault_view : Fault → semantics.Fault
-fault_view Unbound = semantics.unbound
-fault_view NotNumber = semantics.not_number
-fault_view Overflow = semantics.overflow
-fault_view ZeroDivisor = semantics.zero_divisor
 
 abbrev pub status_view : Status → semantics'.Status
 status_view Running = semantics'.running

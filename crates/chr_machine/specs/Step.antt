@@ -1,14 +1,15 @@
 -- What a transition of the machine does.
 use Rattle.std.specs.Prelude.{◌≡◌, ◌≢◌, ℕ, ◌+◌, ◌<◌, ◌≤◌, ◌==◌, not, List, [], ◌∷◌, ◌++◌, map, filter, vec_len}
+use Rattle.chr_semantics.specs.declared.limits.TheConstants.{MAX_TRANSITIONS}
 use Rattle.chr_semantics.specs.Text.{line_texts, trace}
 use Rattle.chr_semantics.specs.State.{Element, State, goal, running, with_stack}
 use Rattle.chr_semantics.specs.Match.{Row}
 use Rattle.chr_semantics.specs.Trace.{line, line_top}
 use Rattle.chr_semantics.specs.Step.{step, step_top, after, steps as step_count}
-use Rattle.chr_machine.specs.Loaded.{names_of, rules_of}
-use Rattle.chr_rules.specs.View.{goal_view}
+use Rattle.chr_rules.specs.ProgramView.{names_of, rules_of}
+use Rattle.chr_rules.specs.RuleView.{goal_view}
 use Rattle.chr_machine.specs.Slots.{next_of, rows_of}
-use Rattle.chr_rules.specs.declared.rule.Goal.{Goal}
+use Rattle.chr_rules.specs.declared.goal.Goal.{Goal}
 use Rattle.chr_machine.specs.State.{state_of, status_view, texts}
 use Rattle.chr_machine.specs.declared.state.Execution.{Execution}
 use Rattle.chr_machine.specs.declared.state.Stepped.{Stepped}
@@ -55,7 +56,7 @@ pub record Committed {A : Type 0} (i n : ℕ) (goals : List (Goal A)) (line : Li
 -- a transition of a running execution, with its line
 pub record Moves {A : Type 0} (old new : Execution A) : Type 0 where
   pub running : (state_of old).status ≡ running
-  pub few : old.steps < 1000000
+  pub few : old.steps < MAX_TRANSITIONS
   pub state : state_of new ≡ step (rules_of old.program.now) (state_of old)
   pub lines : texts new.lines.items ≡ texts old.lines.items ++ line_texts (names_of old.program.now) old.var_names (old.steps + 1) (line (rules_of old.program.now) (state_of old))
   pub steps : new.steps ≡ old.steps + 1
@@ -67,7 +68,7 @@ pub record Moves {A : Type 0} (old new : Execution A) : Type 0 where
 abbrev pub StepIs : {A : Type 0} → Stepped → Execution A → Execution A → Type 0
 StepIs Moved old new = Moves old new
 StepIs Ended old new = ((state_of old).status ≢ running) × Kept old new
-StepIs Spent old new = ((state_of old).status ≡ running) × (1000000 ≤ old.steps) × Kept old new
+StepIs Spent old new = ((state_of old).status ≡ running) × (MAX_TRANSITIONS ≤ old.steps) × Kept old new
 
 -- the new execution is n transitions further, each made from a running state, and has their lines
 pub record Ran {A : Type 0} (n : ℕ) (old new : Execution A) : Type 0 where
@@ -81,4 +82,4 @@ pub record Ran {A : Type 0} (n : ℕ) (old new : Execution A) : Type 0 where
 abbrev pub RunIs : {A : Type 0} → Stepped → ℕ → ℕ → Execution A → Execution A → Type 0
 RunIs Moved n k old new = (k ≡ n) × ((state_of new).status ≡ running)
 RunIs Ended n k old new = (k ≤ n) × (k ≡ step_count (rules_of old.program.now) (state_of old) n) × ((state_of new).status ≢ running)
-RunIs Spent n k old new = (k < n) × ((state_of new).status ≡ running) × (1000000 ≤ new.steps)
+RunIs Spent n k old new = (k < n) × ((state_of new).status ≡ running) × (MAX_TRANSITIONS ≤ new.steps)

@@ -1,11 +1,13 @@
 //! The search and the firing of an active constraint.
+ghost use Rattle.chr_semantics.specs.declared.limits.TheConstants.{MAX_TRANSITIONS};
 ghost use Rattle.std.specs.Prelude.{◌≡◌, ◌<◌, ◌≤◌, ◌+◌, ◌++◌, ◌∷◌, ◌==◌, [], IfErr, IfOk, OnErr, OnOk, filter, map, not, vec_capacity, vec_len, true, IsTrue};
 ghost use Rattle.chr_semantics.specs.Search.{atom_of};
 ghost use Rattle.chr_semantics.specs.State.{active, goal, with_stack};
 ghost use Rattle.chr_semantics.specs.Step.{search_at};
 ghost use Rattle.chr_machine.specs.Fragment.{IsFiring, IsThin, IsThinRule, is_fit, is_one_ground_head};
-ghost use Rattle.chr_machine.specs.Loaded.{rules_of};
-ghost use Rattle.chr_rules.specs.View.{atom_view, goal_view, rule_view};
+ghost use Rattle.chr_rules.specs.ProgramView.{rules_of};
+ghost use Rattle.chr_term.specs.TermView.{atom_view};
+ghost use Rattle.chr_rules.specs.RuleView.{goal_view, rule_view};
 ghost use Rattle.chr_machine.specs.Slots.{next_of, rows_of};
 ghost use Rattle.chr_machine.specs.State.{elem_view, ids_view, stack_view, state_of, texts};
 ghost use Rattle.chr_machine.specs.Step.{IsReady, Kept, Made, SameRun, topped};
@@ -59,7 +61,7 @@ impl<'p, A: Allocator + Copy> Execution<'p, A> {
         rule: &Rule<A>,
     ) -> Result<(), Elem<A>>
         requires room { vec_len self.old.stack < vec_capacity self.old.stack }
-        requires few { self.old.steps < 1000000 }
+        requires few { self.old.steps < MAX_TRANSITIONS }
         requires thin { IsThinRule (rule_view rule.now) }
         requires found { IsFiring (search_at (rules_of self.old.program.now) (topped (active id.0 number (atom_view sym args.items)) (state_of self.old)) id.0 number (atom_view sym args.items)) index (rule_view rule.now) id.0 }
         ensures ok { OnOk result (Made (active id.0 number (atom_view sym args.items)) self.old self.new) }
@@ -118,7 +120,7 @@ impl<'p, A: Allocator + Copy> Execution<'p, A> {
         requires stack { vec_len self.old.stack + vec_len goals ≤ vec_capacity self.old.stack }
         requires lines { vec_len self.old.lines < vec_capacity self.old.lines }
         requires history { vec_len self.old.history < vec_capacity self.old.history }
-        requires few { self.old.steps < 1000000 }
+        requires few { self.old.steps < MAX_TRANSITIONS }
         requires one { ids_view ids.items ≡ id.0 ∷ [] }
         ensures state { state_of self.new ≡ with_stack (record (state_of self.old) { store = filter (λ row. not (row.0 == id.0)) (rows_of self.old.store); history = (state_of self.old).history ++ (index, id.0 ∷ []) ∷ [] }) (map (λ g. goal (goal_view g)) goals.items ++ stack_view self.old.stack.items) }
         ensures lines { texts self.new.lines.items ≡ texts self.old.lines.items ++ line.items ∷ [] }
@@ -144,7 +146,7 @@ impl<'p, A: Allocator + Copy> Execution<'p, A> {
         args: Vec<Term<A>, A>,
     ) -> Result<(), Elem<A>>
         requires room { vec_len self.old.stack < vec_capacity self.old.stack }
-        requires few { self.old.steps < 1000000 }
+        requires few { self.old.steps < MAX_TRANSITIONS }
         requires thin { IsThin (rules_of self.old.program.now) (topped (active id.0 number (atom_view sym args.items)) (state_of self.old)) }
         ensures ok { OnOk result (Made (active id.0 number (atom_view sym args.items)) self.old self.new) }
         ensures err { IfErr result (λ top. elem_view top ≡ active id.0 number (atom_view sym args.items)) }

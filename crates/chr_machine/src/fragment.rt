@@ -2,8 +2,8 @@
 ghost use Rattle.std.specs.Prelude.{◌≡◌, map};
 ghost use Rattle.std.specs.List.{list_all};
 ghost use Rattle.chr_machine.specs.Fragment.{is_constraint, is_ground_constraint, is_one_ground_head, is_thin_program, is_thin_query, is_thin_rule};
-ghost use Rattle.chr_machine.specs.Loaded.{rules_of};
-ghost use Rattle.chr_rules.specs.View.{goal_view, heads_view, query_view, rule_view};
+ghost use Rattle.chr_rules.specs.ProgramView.{rules_of};
+ghost use Rattle.chr_rules.specs.RuleView.{goal_view, heads_view, query_view, rule_view};
 
 use chr_rules::{Goal, Program, Query, Rule};
 use chr_term::are_ground;

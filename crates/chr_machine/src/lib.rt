@@ -12,9 +12,10 @@ mod state;
 mod steps;
 mod store;
 
+pub use chr_bind::Fault;
 pub use fragment::{is_thin_program, is_thin_query};
 pub use machine::Machine;
-pub use state::{Elem, Fault, Fired, Status, Stepped};
+pub use state::{Elem, Fired, Status, Stepped};
 pub use store::{Id, Row, Store};
 
 #[cfg(test)]

@@ -1,48 +1,34 @@
 //! The lines of the trace, without their line feeds.
-ghost use Rattle.std.specs.Prelude.{◌≡◌, ◌<◌, ◌+◌, ◌++◌, ◌∷◌, ◌^◌, [], IfOk, OnOk, string_bytes};
+ghost use Rattle.std.specs.Prelude.{◌≡◌, ◌<◌, ◌+◌, ◌++◌, ◌∷◌, ◌^◌, [], IfOk, string_bytes};
 ghost use Rattle.std.specs.Fmt.{decimal};
 ghost use Rattle.chr_semantics.specs.State.{resolved_atom};
-ghost use Rattle.chr_semantics.specs.Text.{active_text, firing_text, ids_text, known_text, line_text, more_ids_text};
+ghost use Rattle.chr_semantics.specs.Text.{active_text, firing_text, known_text, line_text};
 ghost use Rattle.chr_semantics.specs.Trace.{activates, defaults, drops, reactivates, simplifies};
-ghost use Rattle.chr_machine.specs.Loaded.{names_of};
-ghost use Rattle.chr_rules.specs.View.{atom_view};
+ghost use Rattle.chr_rules.specs.ProgramView.{names_of};
+ghost use Rattle.chr_term.specs.TermView.{atom_view};
 ghost use Rattle.chr_machine.specs.State.{ids_view};
 
 use crate::state::Execution;
 use crate::store::Id;
 use chr_rules::Rule;
-use chr_term::{Memory, Sym, Term, print_atom, print_number};
+use chr_term::{Memory, Sym, Term, print_active, print_known, print_number, print_numbers};
 use std::alloc::Allocator;
 
-/// Appends the identities with commas between them.
-fn write_ids<A: Allocator + Copy>(alloc: A, ids: &[Id], line: &mut Vec<u8, A>) -> Result<(), Memory>
-    ensures { OnOk result (line.new.items ≡ line.old.items ++ ids_text (ids_view ids.now)) }
-{
-    match ids {
-        [] => Ok(()),
-        [first, others @ ..] => {
-            print_number(alloc, first.0, line)?;
-            write_more_ids(alloc, others, line)
-        }
-    }
-}
-
-/// Appends the identities, each with a comma before it.
-fn write_more_ids<A: Allocator + Copy>(
-    alloc: A,
-    ids: &[Id],
-    line: &mut Vec<u8, A>,
-) -> Result<(), Memory>
-    ensures { OnOk result (line.new.items ≡ line.old.items ++ more_ids_text (ids_view ids.now)) }
-{
-    for id in ids {
-        line.push(b',')?;
-        print_number(alloc, id.0, line)?;
-    }
-    Ok(())
-}
+/// The room that a line begins with, in bytes. Most lines need no more.
+const LINE: usize = 64;
 
 impl<'p, A: Allocator + Copy> Execution<'p, A> {
+    /// The number of the next transition, and the word.
+    fn line_start(&self, word: &str) -> Result<Vec<u8, A>, Memory>
+        requires { self.now.steps < 2 ^ 63 }
+        ensures { IfOk result (λ line. line.items ≡ decimal (self.now.steps + 1) ++ word.now) }
+    {
+        let mut line = Vec::with_capacity(self.alloc, LINE)?;
+        print_number(self.steps + 1, &mut line)?;
+        line.extend_from_slice(word.as_bytes())?;
+        Ok(line)
+    }
+
     /// The number of the next transition, the word, and the constraint with its identity.
     fn known_line(
         &self,
@@ -54,19 +40,15 @@ impl<'p, A: Allocator + Copy> Execution<'p, A> {
         requires { self.now.steps < 2 ^ 63 }
         ensures { IfOk result (λ line. line.items ≡ decimal (self.now.steps + 1) ++ (word.now ++ known_text (names_of self.now.program.now) self.now.var_names (resolved_atom [] (atom_view sym args.now)) id.0)) }
     {
-        let mut line = Vec::new(self.alloc);
-        print_number(self.alloc, self.steps + 1, &mut line)?;
-        line.extend_from_slice(word.as_bytes())?;
-        print_atom(
-            self.alloc,
+        let mut line = self.line_start(word)?;
+        print_known(
             self.program.names(),
             &self.var_names,
             sym,
             args,
+            id.0,
             &mut line,
         )?;
-        line.push(b'#')?;
-        print_number(self.alloc, id.0, &mut line)?;
         Ok(line)
     }
 
@@ -82,9 +64,17 @@ impl<'p, A: Allocator + Copy> Execution<'p, A> {
         requires { self.now.steps < 2 ^ 63 }
         ensures { IfOk result (λ line. line.items ≡ decimal (self.now.steps + 1) ++ (word.now ++ active_text (names_of self.now.program.now) self.now.var_names (resolved_atom [] (atom_view sym args.now)) id.0 occurrence)) }
     {
-        let mut line = self.known_line(word, id, sym, args)?;
-        line.push(b':')?;
-        print_number(self.alloc, occurrence as u64, &mut line)?;
+        let mut line = self.line_start(word)?;
+        let occurrence = occurrence as u64;
+        print_active(
+            self.program.names(),
+            &self.var_names,
+            sym,
+            args,
+            id.0,
+            occurrence,
+            &mut line,
+        )?;
         Ok(line)
     }
 
@@ -149,7 +139,7 @@ impl<'p, A: Allocator + Copy> Execution<'p, A> {
         line.push(b' ')?;
         line.extend_from_slice(rule.label.as_bytes())?;
         line.push(b' ')?;
-        write_ids(self.alloc, ids, &mut line)?;
+        print_numbers(ids, &mut line)?;
         Ok(line)
     }
 }

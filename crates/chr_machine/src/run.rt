@@ -2,8 +2,8 @@
 ghost use Rattle.std.specs.Prelude.{◌≡◌, ◌<◌, ◌≤◌, ◌+◌, ◌-◌, ◌^◌, [], IfErr, IfOk, OnErr, OnOk, vec_capacity, vec_len};
 ghost use Rattle.chr_semantics.specs.State.{start};
 ghost use Rattle.chr_machine.specs.Fragment.{IsThin};
-ghost use Rattle.chr_machine.specs.Loaded.{rules_of};
-ghost use Rattle.chr_rules.specs.View.{query_view};
+ghost use Rattle.chr_rules.specs.ProgramView.{rules_of};
+ghost use Rattle.chr_rules.specs.RuleView.{query_view};
 ghost use Rattle.chr_machine.specs.Slots.{next_of};
 ghost use Rattle.chr_machine.specs.State.{elem_view, state_of};
 ghost use Rattle.chr_machine.specs.Step.{IsReady, Kept, Made, Ran, RunIs, StepIs, topped};
@@ -12,11 +12,9 @@ use crate::firing::put_goals;
 use crate::state::{Elem, Execution, Status, Stepped};
 use crate::store::Store;
 use chr_rules::{Goal, Program, Query};
+use chr_semantics::limits::MAX_TRANSITIONS;
 use chr_term::Memory;
 use std::alloc::{AllocError, Allocator};
-
-/// The greatest number of transitions of one machine.
-const LIMIT: u64 = 1_000_000;
 
 impl<'p, A: Allocator + Copy> Execution<'p, A> {
     /// The state of a query before its first transition.
@@ -53,7 +51,7 @@ impl<'p, A: Allocator + Copy> Execution<'p, A> {
     /// The transition of the element that was on top.
     fn step_top(&mut self, top: Elem<A>) -> Result<(), Elem<A>>
         requires room { vec_len self.old.stack < vec_capacity self.old.stack }
-        requires few { self.old.steps < 1000000 }
+        requires few { self.old.steps < MAX_TRANSITIONS }
         requires small { next_of self.old.store < 2 ^ 63 }
         requires thin { IsThin (rules_of self.old.program.now) (topped (elem_view top) (state_of self.old)) }
         ensures ok { OnOk result (Made (elem_view top) self.old self.new) }
@@ -88,7 +86,7 @@ impl<'p, A: Allocator + Copy> Execution<'p, A> {
             Status::Failed => Ok(Stepped::Ended),
             Status::Faulted(_) => Ok(Stepped::Ended),
             Status::Running => {
-                if self.steps >= LIMIT {
+                if self.steps >= MAX_TRANSITIONS {
                     return Ok(Stepped::Spent);
                 }
                 match self.stack.pop() {
@@ -108,14 +106,14 @@ impl<'p, A: Allocator + Copy> Execution<'p, A> {
     /// Makes n transitions, or fewer where the run ends or the limit stands. Memory leaves the whole steps before it.
     pub fn run_alone(&mut self, n: u64) -> Result<Stepped, Memory>
         requires ready { IsReady self.old }
-        requires limit { self.old.steps ≤ 1000000 }
+        requires limit { self.old.steps ≤ MAX_TRANSITIONS }
         requires small { next_of self.old.store ≤ self.old.steps + 1 }
         requires thin { IsThin (rules_of self.old.program.now) (state_of self.old) }
         ensures ran { Ran (self.new.steps - self.old.steps) self.old self.new }
         ensures ok { IfOk result (λ stepped. RunIs stepped n (self.new.steps - self.old.steps) self.old self.new) }
         ensures err { OnErr result (self.new.steps - self.old.steps < n) }
         ensures ready { IsReady self.new }
-        ensures limit { self.new.steps ≤ 1000000 }
+        ensures limit { self.new.steps ≤ MAX_TRANSITIONS }
         ensures small { next_of self.new.store ≤ self.new.steps + 1 }
         ensures thin { IsThin (rules_of self.new.program.now) (state_of self.new) }
     {

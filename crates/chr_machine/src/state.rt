@@ -1,5 +1,6 @@
 //! The parts of the state of a run.
 use crate::store::{Id, Store};
+use chr_bind::Fault;
 use chr_rules::{Goal, Program};
 use chr_term::{Sym, Term, VarNames};
 use std::alloc::{Allocator, Global};
@@ -18,15 +19,6 @@ pub enum Elem<A: Allocator = Global> {
 pub struct Fired<A: Allocator = Global> {
     pub rule: usize,
     pub ids: Vec<Id, A>,
-}
-
-/// Why a term has no value.
-#[derive(Clone, Copy, PartialEq, Eq, Debug, Drop)]
-pub enum Fault {
-    Unbound,
-    NotNumber,
-    Overflow,
-    ZeroDivisor,
 }
 
 /// How a run stands.

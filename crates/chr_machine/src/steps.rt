@@ -1,14 +1,16 @@
 //! The transitions, each for the element that was taken off the top of the stack.
 //!
 //! A transition makes all its growths first. Where one is refused, it gives the top back and has changed nothing.
+ghost use Rattle.chr_semantics.specs.declared.limits.TheConstants.{MAX_TRANSITIONS};
 ghost use Rattle.std.specs.Prelude.{◌≡◌, ◌<◌, ◌≤◌, ◌+◌, ◌++◌, ◌∷◌, ◌^◌, [], IfErr, OnErr, OnOk, IsTrue, Some, None, vec_capacity, vec_len, is_some, map, slice_get, length};
 ghost use Rattle.chr_semantics.specs.Program.{constraint, occurrence};
 ghost use Rattle.chr_semantics.specs.Search.{atom_of, firing, no_firing, no_occurrence};
 ghost use Rattle.chr_semantics.specs.State.{active, goal, known, with_stack};
 ghost use Rattle.chr_semantics.specs.Step.{search_at};
 ghost use Rattle.chr_machine.specs.Fragment.{IsThin};
-ghost use Rattle.chr_machine.specs.Loaded.{rules_of};
-ghost use Rattle.chr_rules.specs.View.{atom_view, rule_view};
+ghost use Rattle.chr_rules.specs.ProgramView.{rules_of};
+ghost use Rattle.chr_term.specs.TermView.{atom_view};
+ghost use Rattle.chr_rules.specs.RuleView.{rule_view};
 ghost use Rattle.chr_machine.specs.Slots.{next_of, rows_of};
 ghost use Rattle.chr_machine.specs.State.{elem_view, stack_view, state_of, texts};
 ghost use Rattle.chr_machine.specs.Step.{IsReady, Kept, Made, SameRun, topped};
@@ -53,7 +55,7 @@ impl<'p, A: Allocator + Copy> Execution<'p, A> {
     /// Reactivate: the constraint is active at its first occurrence.
     pub fn reactivate(&mut self, id: Id, sym: Sym, args: Vec<Term<A>, A>) -> Result<(), Elem<A>>
         requires room { vec_len self.old.stack < vec_capacity self.old.stack }
-        requires few { self.old.steps < 1000000 }
+        requires few { self.old.steps < MAX_TRANSITIONS }
         ensures ok { OnOk result (Made (known id.0 (atom_view sym args.items)) self.old self.new) }
         ensures err { IfErr result (λ top. elem_view top ≡ known id.0 (atom_view sym args.items)) }
         ensures kept { OnErr result (Kept self.old self.new) }
@@ -74,7 +76,7 @@ impl<'p, A: Allocator + Copy> Execution<'p, A> {
     /// Activate: the constraint enters the store under the next identity.
     pub fn activate(&mut self, sym: Sym, args: Vec<Term<A>, A>) -> Result<(), Elem<A>>
         requires room { vec_len self.old.stack < vec_capacity self.old.stack }
-        requires few { self.old.steps < 1000000 }
+        requires few { self.old.steps < MAX_TRANSITIONS }
         requires small { next_of self.old.store < 2 ^ 63 }
         ensures ok { OnOk result (Made (goal (constraint (atom_view sym args.items))) self.old self.new) }
         ensures err { IfErr result (λ top. elem_view top ≡ goal (constraint (atom_view sym args.items))) }
@@ -110,7 +112,7 @@ impl<'p, A: Allocator + Copy> Execution<'p, A> {
         args: Vec<Term<A>, A>,
     ) -> Result<(), Elem<A>>
         requires room { vec_len self.old.stack < vec_capacity self.old.stack }
-        requires few { self.old.steps < 1000000 }
+        requires few { self.old.steps < MAX_TRANSITIONS }
         requires none { search_at (rules_of self.old.program.now) (topped (active id.0 number (atom_view sym args.items)) (state_of self.old)) id.0 number (atom_view sym args.items) ≡ no_occurrence }
         ensures ok { OnOk result (Made (active id.0 number (atom_view sym args.items)) self.old self.new) }
         ensures err { IfErr result (λ top. elem_view top ≡ active id.0 number (atom_view sym args.items)) }
@@ -138,7 +140,7 @@ impl<'p, A: Allocator + Copy> Execution<'p, A> {
         args: Vec<Term<A>, A>,
     ) -> Result<(), Elem<A>>
         requires room { vec_len self.old.stack < vec_capacity self.old.stack }
-        requires few { self.old.steps < 1000000 }
+        requires few { self.old.steps < MAX_TRANSITIONS }
         requires small { number < 2 ^ 31 }
         requires none { search_at (rules_of self.old.program.now) (topped (active id.0 number (atom_view sym args.items)) (state_of self.old)) id.0 number (atom_view sym args.items) ≡ no_firing }
         ensures ok { OnOk result (Made (active id.0 number (atom_view sym args.items)) self.old self.new) }

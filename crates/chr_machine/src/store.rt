@@ -1,15 +1,23 @@
 //! The store: constraints by their identities.
 ghost use Rattle.std.specs.Prelude.{◌≡◌, ◌<◌, ◌++◌, ◌∷◌, ◌==◌, ◌^◌, ◌+◌, [], vec_len, vec_capacity, length, IfNone, IfSome, IfErr, IfOk, OnErr, OnOk, filter, is_some, not, option_map};
 ghost use Rattle.chr_semantics.specs.Search.{atom_of};
-ghost use Rattle.chr_rules.specs.View.{atom_view};
+ghost use Rattle.chr_term.specs.TermView.{atom_view};
 ghost use Rattle.chr_machine.specs.Rows.{IsAbsent, row_atom, rows_from};
 
-use chr_term::{Memory, Sym, Term};
+use chr_term::{Memory, Numbered, Sym, Term};
 use std::alloc::{Allocator, Global};
 
 /// The identity of a constraint, counted from 1 in the order of Activate.
 #[derive(Clone, Copy, PartialEq, Eq, Debug, Drop)]
 pub struct Id(pub u64);
+
+impl Numbered for Id {
+    ghost number = { λ id. id.0 };
+
+    fn number(&self) -> u64 {
+        self.0
+    }
+}
 
 /// A constraint as it was stored.
 #[derive(Drop)]

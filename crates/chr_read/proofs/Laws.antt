@@ -1,47 +1,48 @@
--- From what the machine comes to, to what a caller learns.
+-- From what the automaton comes to, to what a caller learns.
 use Rattle.std.proofs.Common.{◌≡◌, ℕ, ◌<◌, ◌≤◌, List, [], ◌∷◌, None, Bool, true, false, length, refl, sym, subst, ap, ◌∙◌, arith, if◌then◌else◌}
 use Rattle.std.specs.Str.{IsUtf8, chars}
 use Rattle.chr_semantics.specs.Tokens as token
 use Rattle.chr_semantics.specs.Tokens.{Place, Placed, at, Token, tokens}
 use Rattle.chr_semantics.specs.Syntax.{Program, Query}
+use Rattle.chr_semantics.specs.declared.limits.TheConstants.{MAX_TEXT_BYTES}
 use Rattle.chr_semantics.specs.Grammar.{IsProgram, IsQuery, is_number}
 use Rattle.chr_semantics.specs.Reading.{ReadErrorKind, IsRead, IsRefused, IsTooDeep, IsUnexpected, Within, bad_char, expected, kind_of, not_utf8, number_too_large, open_comment, too_deep, too_long}
-use Rattle.chr_tokens.specs.View.{IsEnded, IsLast, placed_views}
+use Rattle.chr_tokens.specs.TokenView.{IsEnded, IsLast, placed_views}
 use Rattle.chr_tokens.specs.declared.token.Placed as code
-use Rattle.chr_read.specs.Machine as m
-use Rattle.chr_read.specs.Machine.{Language, Text, Verdict, accept, programs, queries, read, run, free, start, Spells}
+use Rattle.chr_read.specs.Automaton as m
+use Rattle.chr_read.specs.Automaton.{Language, SyntaxTree, Verdict, accept, programs, queries, verdict_of, run, any_room, first_state, Spells}
 use Rattle.chr_read.specs.Reads.{HaltIs}
-use Rattle.chr_read.specs.Refusals.{IsFault, IsFirst, IsHalted, IsRefusal, IsRefusedAs, Points, kind_view, place_of}
+use Rattle.chr_read.specs.Refusals.{IsErrorAt, IsErrorAtFirst, IsErrorOfHalt, IsRefusal, IsRefusedAs, PointsToToken, kind_view, place_of}
 use Rattle.chr_read.specs.declared.error.ReadError.{ReadError}
-use Rattle.chr_read.specs.declared.error.ReadFault.{ReadFault}
-use Rattle.chr_read.specs.declared.error.ReadFault.TheVariants as Fault
+use Rattle.chr_read.specs.declared.error.ReadErrorKind as written
+use Rattle.chr_read.specs.declared.error.ReadErrorKind.TheVariants as Written
 use Rattle.chr_read.specs.declared.halt.Halt.{Halt}
 use Rattle.chr_read.specs.declared.halt.Halt.TheVariants.{Memory, Expected, TooDeep}
 use Rattle.chr_read.proofs.Complete.{program_runs, query_runs}
 use Rattle.chr_read.proofs.Sound.{accepted_spells}
 use Rattle.chr_read.proofs.Limits as limits
 
-pub programs_run : (ts : List Placed) (ps : Program) → IsProgram ts ps → run free (start programs) ts ≡ accept (m.program ps)
+pub programs_run : (ts : List Placed) (ps : Program) → IsProgram ts ps → run any_room (first_state programs) ts ≡ accept (m.program ps)
 programs_run ts ps h = program_runs h
 
-program_of : (ts : List Placed) (x : Text) → Spells programs ts x → (ps : Program) × (x ≡ m.program ps) × IsProgram ts ps
+program_of : (ts : List Placed) (x : SyntaxTree) → Spells programs ts x → (ps : Program) × (x ≡ m.program ps) × IsProgram ts ps
 program_of ts (m.program ps) h = (ps, refl, h)
 program_of ts (m.query q) h = absurd h
 
-pub programs_spell : (ts : List Placed) (x : Text) → run free (start programs) ts ≡ accept x → (ps : Program) × (x ≡ m.program ps) × IsProgram ts ps
+pub programs_spell : (ts : List Placed) (x : SyntaxTree) → run any_room (first_state programs) ts ≡ accept x → (ps : Program) × (x ≡ m.program ps) × IsProgram ts ps
 programs_spell ts x e = program_of ts x (accepted_spells programs ts x e)
 
 pub program_same : (p q : Program) → m.program p ≡ m.program q → p ≡ q
 program_same p q e = cc
 
-pub queries_run : (ts : List Placed) (q : Query) → IsQuery ts q → run free (start queries) ts ≡ accept (m.query q)
+pub queries_run : (ts : List Placed) (q : Query) → IsQuery ts q → run any_room (first_state queries) ts ≡ accept (m.query q)
 queries_run ts q h = query_runs h
 
-query_of : (ts : List Placed) (x : Text) → Spells queries ts x → (q : Query) × (x ≡ m.query q) × IsQuery ts q
+query_of : (ts : List Placed) (x : SyntaxTree) → Spells queries ts x → (q : Query) × (x ≡ m.query q) × IsQuery ts q
 query_of ts (m.program ps) h = absurd h
 query_of ts (m.query q) h = (q, refl, h)
 
-pub queries_spell : (ts : List Placed) (x : Text) → run free (start queries) ts ≡ accept x → (q : Query) × (x ≡ m.query q) × IsQuery ts q
+pub queries_spell : (ts : List Placed) (x : SyntaxTree) → run any_room (first_state queries) ts ≡ accept x → (q : Query) × (x ≡ m.query q) × IsQuery ts q
 queries_spell ts x e = query_of ts x (accepted_spells queries ts x e)
 
 pub query_same : (p q : Query) → m.query p ≡ m.query q → p ≡ q
@@ -65,45 +66,45 @@ of_token (token.relation r) k e a b c d = d (sym e)
 of_token (token.sign s) k e a b c d = d (sym e)
 of_token token.over k e a b c d = d (sym e)
 
-no_kind : (k : ReadFault) → kind_view k ≡ None → k ≡ Fault.Memory
-no_kind Fault.Memory e = refl
+no_kind : (k : written.ReadErrorKind) → kind_view k ≡ None → k ≡ Written.Memory
+no_kind Written.Memory e = refl
 no_kind _ e = cc
 
-module _ {S : Type 0} (Spelled : List Placed → S → Type 0) (l : Language) (text : S → Text)
-    (runs : (ts : List Placed) (s : S) → Spelled ts s → run free (start l) ts ≡ accept (text s))
-    (spells : (ts : List Placed) (x : Text) → run free (start l) ts ≡ accept x → (s : S) × (x ≡ text s) × Spelled ts s)
-    (same : (r s : S) → text r ≡ text s → r ≡ s)
-    (bytes : List ℕ) (utf8 : IsUtf8 bytes) (short : length bytes ≤ 1048576) (ts : List Placed) (are : ts ≡ tokens (chars bytes)) where
-  pub read_so : (s : S) → read l ts ≡ accept (text s) → IsRead Spelled bytes s
+module _ {S : Type 0} (Spelled : List Placed → S → Type 0) (l : Language) (tree : S → SyntaxTree)
+    (runs : (ts : List Placed) (s : S) → Spelled ts s → run any_room (first_state l) ts ≡ accept (tree s))
+    (spells : (ts : List Placed) (x : SyntaxTree) → run any_room (first_state l) ts ≡ accept x → (s : S) × (x ≡ tree s) × Spelled ts s)
+    (same : (r s : S) → tree r ≡ tree s → r ≡ s)
+    (bytes : List ℕ) (utf8 : IsUtf8 bytes) (short : length bytes ≤ MAX_TEXT_BYTES) (ts : List Placed) (are : ts ≡ tokens (chars bytes)) where
+  pub read_so : (s : S) → verdict_of l ts ≡ accept (tree s) → IsRead Spelled bytes s
   read_so s e =
-      let a = limits.accepted Spelled l text runs spells ts (text s) e in
+      let a = limits.accepted Spelled l tree runs spells ts (tree s) e in
       let spelled : Spelled ts s = subst (Spelled ts) (sym (same s a.0.0 a.0.1)) a.0.2 in
       record { is_utf8 = utf8; is_short = short; spells = subst (λ x. Spelled x s) are spelled; within = subst (Within 0) are a.1 }
 
-  accepted : (s : S) → IsRead Spelled bytes s → read l ts ≡ accept (text s)
-  accepted s h = limits.accepts Spelled l text runs spells ts s (subst (λ x. Spelled x s) (sym are) h.spells) (subst (Within 0) (sym are) h.within)
+  accepted : (s : S) → IsRead Spelled bytes s → verdict_of l ts ≡ accept (tree s)
+  accepted s h = limits.accepts Spelled l tree runs spells ts s (subst (λ x. Spelled x s) (sym are) h.spells) (subst (Within 0) (sym are) h.within)
 
-  accept_same : (x y : Text) → accept x ≡ accept y → x ≡ y
+  accept_same : (x y : SyntaxTree) → accept x ≡ accept y → x ≡ y
   accept_same x y e = cc
 
-  pub only_so : (r : S) → read l ts ≡ accept (text r) → (s : S) → IsRead Spelled bytes s → r ≡ s
-  only_so r e s h = same r s (accept_same (text r) (text s) (sym e ∙ accepted s h))
+  pub only_so : (r : S) → verdict_of l ts ≡ accept (tree r) → (s : S) → IsRead Spelled bytes s → r ≡ s
+  only_so r e s h = same r s (accept_same (tree r) (tree s) (sym e ∙ accepted s h))
 
-  not_expected : (x : Text) (rest : List Placed) (v : Verdict) → v ≡ accept x → v ≡ m.expected rest → ⊥
+  not_expected : (x : SyntaxTree) (rest : List Placed) (v : Verdict) → v ≡ accept x → v ≡ m.expected rest → ⊥
   not_expected x rest v e f = let g : accept x ≡ m.expected rest = sym e ∙ f in cc
 
-  not_deep : (x : Text) (rest : List Placed) (v : Verdict) → v ≡ accept x → v ≡ m.too_deep rest → ⊥
+  not_deep : (x : SyntaxTree) (rest : List Placed) (v : Verdict) → v ≡ accept x → v ≡ m.too_deep rest → ⊥
   not_deep x rest v e f = let g : accept x ≡ m.too_deep rest = sym e ∙ f in cc
 
   -- nothing that is spelled is refused
-  pub only_memory : (h : Halt) (e : ReadError) → HaltIs h (read l ts) → IsHalted h e → (s : S) → IsRead Spelled bytes s → e.kind ≡ Fault.Memory
+  pub only_memory : (h : Halt) (e : ReadError) → HaltIs h (verdict_of l ts) → IsErrorOfHalt h e → (s : S) → IsRead Spelled bytes s → e.kind ≡ Written.Memory
   only_memory Memory e i k s r = no_kind e.kind k.0
-  only_memory (Expected rest) e i k s r = absurd (not_expected (text s) (placed_views rest.now) (read l ts) (accepted s r) i)
-  only_memory (TooDeep rest) e i k s r = absurd (not_deep (text s) (placed_views rest.now) (read l ts) (accepted s r) i)
+  only_memory (Expected rest) e i k s r = absurd (not_expected (tree s) (placed_views rest.now) (verdict_of l ts) (accepted s r) i)
+  only_memory (TooDeep rest) e i k s r = absurd (not_deep (tree s) (placed_views rest.now) (verdict_of l ts) (accepted s r) i)
 
   -- a halt has a token that it points to
-  expected_points : IsEnded ts → (xs : List code.Placed) → read l ts ≡ m.expected (placed_views xs) → 0 < length xs
-  expected_points d [] e = absurd (limits.never_over (start l) d.front d.place d.last (last_token d.last d.is_last) (ap (read l) (sym d.split) ∙ e))
+  expected_points : IsEnded ts → (xs : List code.Placed) → verdict_of l ts ≡ m.expected (placed_views xs) → 0 < length xs
+  expected_points d [] e = absurd (limits.never_over (first_state l) d.before d.place d.last (last_token d.last d.is_last) (ap (verdict_of l) (sym d.are) ∙ e))
     where
       last_token : (t : Token) → IsLast t → limits.IsLast t
       last_token token.over h = tt
@@ -111,11 +112,11 @@ module _ {S : Type 0} (Spelled : List Placed → S → Type 0) (l : Language) (t
       last_token _ h = absurd h
   expected_points d (x ∷ xs) e = omega arith
 
-  deep_points : (xs : List code.Placed) → read l ts ≡ m.too_deep (placed_views xs) → 0 < length xs
-  deep_points [] e = absurd (limits.never_deep Spelled l text runs spells ts e)
+  deep_points : (xs : List code.Placed) → verdict_of l ts ≡ m.too_deep (placed_views xs) → 0 < length xs
+  deep_points [] e = absurd (limits.never_deep Spelled l tree runs spells ts e)
   deep_points (x ∷ xs) e = omega arith
 
-  pub points : IsEnded ts → (h : Halt) → HaltIs h (read l ts) → Points h
+  pub points : IsEnded ts → (h : Halt) → HaltIs h (verdict_of l ts) → PointsToToken h
   points d Memory i = tt
   points d (Expected rest) i = expected_points d rest.now i
   points d (TooDeep rest) i = deep_points rest.now i
@@ -130,18 +131,18 @@ module _ {S : Type 0} (Spelled : List Placed → S → Type 0) (l : Language) (t
   refused_at number_too_large t p e u = (utf8, short, (t, e, u))
   refused_at expected t p e u = (utf8, short, (t, e, u))
 
-  refused_as : (e : ReadError) (k : ReadErrorKind) (p : Place) → IsFault k p e → IsRefused Spelled bytes k p → IsRefusal Spelled bytes e
+  refused_as : (e : ReadError) (k : ReadErrorKind) (p : Place) → IsErrorAt k p e → IsRefused Spelled bytes k p → IsRefusal Spelled bytes e
   refused_as e k p f r = subst (IsRefusedAs Spelled bytes (place_of e)) (sym f.0) (subst (IsRefused Spelled bytes k) (sym f.1) r)
 
-  expected_refusal : (e : ReadError) (xs : List Placed) → read l ts ≡ m.expected xs → IsFirst kind_of xs e → IsRefusal Spelled bytes e
+  expected_refusal : (e : ReadError) (xs : List Placed) → verdict_of l ts ≡ m.expected xs → IsErrorAtFirst kind_of xs e → IsRefusal Spelled bytes e
   expected_refusal e [] i k = absurd k
-  expected_refusal e (at p t ∷ xs) i k = refused_as e (kind_of t) p k (refused_at (kind_of t) t p refl (subst (λ x. IsUnexpected Spelled x p t) are (limits.unexpected Spelled l text runs spells ts p t xs i)))
+  expected_refusal e (at p t ∷ xs) i k = refused_as e (kind_of t) p k (refused_at (kind_of t) t p refl (subst (λ x. IsUnexpected Spelled x p t) are (limits.unexpected Spelled l tree runs spells ts p t xs i)))
 
-  deep_refusal : (e : ReadError) (xs : List Placed) → read l ts ≡ m.too_deep xs → IsFirst (λ t. too_deep) xs e → IsRefusal Spelled bytes e
+  deep_refusal : (e : ReadError) (xs : List Placed) → verdict_of l ts ≡ m.too_deep xs → IsErrorAtFirst (λ t. too_deep) xs e → IsRefusal Spelled bytes e
   deep_refusal e [] i k = absurd k
-  deep_refusal e (at p t ∷ xs) i k = refused_as e too_deep p k (utf8, short, subst (λ x. IsTooDeep Spelled x p) are (limits.deep_at Spelled l text runs spells ts p t xs i))
+  deep_refusal e (at p t ∷ xs) i k = refused_as e too_deep p k (utf8, short, subst (λ x. IsTooDeep Spelled x p) are (limits.deep_at Spelled l tree runs spells ts p t xs i))
 
-  pub refused : (h : Halt) (e : ReadError) → HaltIs h (read l ts) → IsHalted h e → IsRefusal Spelled bytes e
+  pub refused : (h : Halt) (e : ReadError) → HaltIs h (verdict_of l ts) → IsErrorOfHalt h e → IsRefusal Spelled bytes e
   refused Memory e i k = subst (IsRefusedAs Spelled bytes (place_of e)) (sym k.0) k.1
   refused (Expected rest) e i k = expected_refusal e (placed_views rest.now) i k
   refused (TooDeep rest) e i k = deep_refusal e (placed_views rest.now) i k

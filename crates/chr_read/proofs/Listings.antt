@@ -1,28 +1,28 @@
--- Steps of the limited machine in a directive, that the reader takes at once.
+-- Steps of the limited automaton in a directive, that the reader takes at once.
 use Rattle.std.proofs.Common.{◌≡◌, ℕ, List, [], ◌∷◌, true, false, refl, length, ◌<◌, arith}
 use Rattle.chr_semantics.specs.Tokens.{Place, closes_list, comma, name, over, sign, stop, Placed, at}
 use Rattle.chr_semantics.specs.Tokens as token
 use Rattle.chr_semantics.specs.Syntax.{Declaration, Item, Program, Query}
 use Rattle.chr_semantics.specs.Grammar.{line_of}
-use Rattle.chr_read.specs.Machine.{Text, accept, answered, asked, asking, declared, done, expected, exporting, limited, run, symbol, wants}
-use Rattle.chr_read.specs.Reads.{Lacks, items_closing}
-use Rattle.chr_read.specs.Parts.{BeginsRule, IsOver, NoOver, listing}
+use Rattle.chr_read.specs.Automaton.{SyntaxTree, accept, answered, asked, asking, declared, done, expected, exporting, limited_room, run, symbol, state_before_item}
+use Rattle.chr_read.specs.Reads.{Lacks, items_verdict}
+use Rattle.chr_read.specs.Parts.{BeginsRule, NoOver, listing}
 
 -- a first token that symbols do not go on with
-pub declared_refuses : (l : ℕ) (ps : Program) (ds : List Declaration) (ts : List Placed) → Lacks comma ts → Lacks stop ts → run limited (declared (listing false l ps ds)) ts ≡ expected ts
+pub declared_refuses : (l : ℕ) (ps : Program) (ds : List Declaration) (ts : List Placed) → Lacks comma ts → Lacks stop ts → run limited_room (declared (listing false l ps ds)) ts ≡ expected ts
 declared_refuses l ps ds [] c a = refl
 declared_refuses l ps ds (at p (sign comma) ∷ ts) c a = absurd (c refl)
 declared_refuses l ps ds (at p (sign stop) ∷ ts) c a = absurd (a refl)
 declared_refuses l ps ds (at p t ∷ ts) c a = refl
 
-pub exported_refuses : (l : ℕ) (ps : Program) (ds : List Declaration) (ts : List Placed) → Lacks comma ts → Lacks closes_list ts → run limited (declared (listing true l ps ds)) ts ≡ expected ts
+pub exported_refuses : (l : ℕ) (ps : Program) (ds : List Declaration) (ts : List Placed) → Lacks comma ts → Lacks closes_list ts → run limited_room (declared (listing true l ps ds)) ts ≡ expected ts
 exported_refuses l ps ds [] c a = refl
 exported_refuses l ps ds (at p (sign comma) ∷ ts) c a = absurd (c refl)
 exported_refuses l ps ds (at p (sign closes_list) ∷ ts) c a = absurd (a refl)
 exported_refuses l ps ds (at p t ∷ ts) c a = refl
 
 -- exports that do not end at once are symbols
-pub exporting_begins : (l : ℕ) (ps : Program) (ts : List Placed) → Lacks closes_list ts → run limited (exporting l ps) ts ≡ run limited (symbol (listing true l ps [])) ts
+pub exporting_begins : (l : ℕ) (ps : Program) (ts : List Placed) → Lacks closes_list ts → run limited_room (exporting l ps) ts ≡ run limited_room (symbol (listing true l ps [])) ts
 exporting_begins l ps [] h = refl
 exporting_begins l ps (at p (sign closes_list) ∷ ts) h = absurd (h refl)
 exporting_begins l ps (at p (name w) ∷ ts) h = refl
@@ -31,7 +31,7 @@ exporting_begins l ps (at p t ∷ ts) h = refl
 pub ruleset directive_steps = (declared_refuses, exported_refuses, exporting_begins)
 
 -- a query begins with its items
-pub asking_begins : (ts : List Placed) → run limited asking ts ≡ run limited (wants (asked (line_of ts) []) []) ts
+pub asking_begins : (ts : List Placed) → run limited_room asking ts ≡ run limited_room (state_before_item (asked (line_of ts) []) []) ts
 asking_begins [] = refl
 asking_begins (at p t ∷ ts) = refl
 
@@ -42,30 +42,23 @@ begins_rule (at p over ∷ ts) h i = absurd h
 begins_rule (at p (sign token.declares) ∷ ts) h i = absurd (i refl)
 begins_rule (at p t ∷ ts) h i = tt
 
-pub ruleset part_steps = (asking_begins, begins_rule)
-
 -- what does not end a query
-pub asked_refuses : (l : ℕ) (is : List Item) (ps : Program) (ts : List Placed) → Lacks comma ts → Lacks stop ts → items_closing (asked l is) ps ts ≡ expected ts
+pub asked_refuses : (l : ℕ) (is : List Item) (ps : Program) (ts : List Placed) → Lacks comma ts → Lacks stop ts → items_verdict (asked l is) ps ts ≡ expected ts
 asked_refuses l is ps [] c a = refl
 asked_refuses l is ps (at p (sign comma) ∷ ts) c a = absurd (c refl)
 asked_refuses l is ps (at p (sign stop) ∷ ts) c a = absurd (a refl)
 asked_refuses l is ps (at p t ∷ ts) c a = refl
 
-pub answered_refuses : (q : Query) (ts : List Placed) → NoOver ts → run limited (answered q) ts ≡ expected ts
+pub answered_refuses : (q : Query) (ts : List Placed) → NoOver ts → run limited_room (answered q) ts ≡ expected ts
 answered_refuses q [] h = refl
 answered_refuses q (at p over ∷ ts) h = absurd h
 answered_refuses q (at p t ∷ ts) h = refl
 
--- behind the end of a text there is nothing
-pub done_ends : (x : Text) (ts : List Placed) → length ts ≡ 0 → run limited (done x) ts ≡ accept x
+-- after the end of a text there is nothing
+pub done_ends : (x : SyntaxTree) (ts : List Placed) → length ts ≡ 0 → run limited_room (done x) ts ≡ accept x
 done_ends x [] h = refl
 done_ends x (t ∷ ts) h = absurd (omega (arith, h))
 
-pub done_refuses : (x : Text) (ts : List Placed) → 0 < length ts → run limited (done x) ts ≡ expected ts
+pub done_refuses : (x : SyntaxTree) (ts : List Placed) → 0 < length ts → run limited_room (done x) ts ≡ expected ts
 done_refuses x [] h = absurd (omega arith)
 done_refuses x (at p t ∷ ts) h = refl
-
-pub over_or_not : (ts : List Placed) → IsOver ts → NoOver ts → ⊥
-over_or_not [] h i = h
-over_or_not (at p over ∷ ts) h i = i
-over_or_not (at p t ∷ ts) h i = absurd h

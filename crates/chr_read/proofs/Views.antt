@@ -2,18 +2,18 @@
 use Rattle.std.proofs.Common.{◌≡◌, ℕ, zero, suc, ◌==◌, true, false, List, [], ◌∷◌, ◌++◌, rules, Vec, Box, box_value, String, string_bytes, refl, ap, sym, ◌∙◌, map, length, ◌<◌, arith}
 use Rattle.std.proofs.lemmas.Bool.Decides.{Decides-eqb}
 use Rattle.chr_semantics.specs.Syntax as s
-use Rattle.chr_tokens.specs.View.{additive_view, multiplicative_view, placed_views}
+use Rattle.chr_tokens.specs.TokenView.{placed_views}
 use Rattle.chr_tokens.specs.declared.token.Placed.{Placed}
 use Rattle.chr_tokens.specs.declared.token.Additive.{Additive}
 use Rattle.chr_tokens.specs.declared.token.Multiplicative.{Multiplicative}
-use Rattle.chr_read.specs.View.{additive_operands, multiplicative_operands, products, sums, view, views}
+use Rattle.chr_read.specs.SyntaxView.{chain, operand_views, products, sums, view, views}
 use Rattle.chr_read.specs.declared.syntax.Expr.{Expr, the_lemmas}
 use Rattle.chr_read.specs.declared.syntax.Expr.TheVariants.{Call, List as Listed, ListWithEnd, Sum, Product}
 
-pub view-Sum : (A : Type 0) (e : Box (Expr A) A) (es : Vec (Additive × Expr A) A) → view {A = A} (Sum e es) ≡ sums (view (box_value e)) (additive_operands es.items)
+pub view-Sum : (A : Type 0) (e : Box (Expr A) A) (es : Vec (Additive × Expr A) A) → view {A = A} (Sum e es) ≡ sums (view (box_value e)) (operand_views es.items)
 view-Sum A e es = search (rules, the_lemmas)
 
-pub view-Product : (A : Type 0) (e : Box (Expr A) A) (es : Vec (Multiplicative × Expr A) A) → view {A = A} (Product e es) ≡ products (view (box_value e)) (multiplicative_operands es.items)
+pub view-Product : (A : Type 0) (e : Box (Expr A) A) (es : Vec (Multiplicative × Expr A) A) → view {A = A} (Product e es) ≡ products (view (box_value e)) (operand_views es.items)
 view-Product A e es = search (rules, the_lemmas)
 
 pub view-Call : (A : Type 0) (w : String A) (es : Vec (Expr A) A) → view {A = A} (Call w es) ≡ s.call (string_bytes w) (s.exprs_of (views es.items))
@@ -25,21 +25,13 @@ view-List A es = search (rules, the_lemmas)
 pub view-ListWithEnd : (A : Type 0) (es : Vec (Expr A) A) (e : Box (Expr A) A) → view {A = A} (ListWithEnd es e) ≡ s.list (views es.items) (view (box_value e))
 view-ListWithEnd A es e = search (rules, the_lemmas)
 
--- one more operand
-pub sums_pushed : {A : Type 0} (e : s.Expr) (es : List (Additive × Expr A)) (x : Additive × Expr A) → sums e (additive_operands (es ++ x ∷ [])) ≡ s.sum (additive_view x.0) (sums e (additive_operands es)) (view x.1)
-sums_pushed e [] x = refl
-sums_pushed e (y ∷ es) x = sums_pushed (s.sum (additive_view y.0) e (view y.1)) es x
+-- one more operand, of a list that is one longer
+chain_pushed : {A O : Type 0} (join : O → s.Expr → s.Expr → s.Expr) (e : s.Expr) (es : List (O × Expr A)) (x : O × Expr A) → chain join e (operand_views (es ++ x ∷ [])) ≡ join x.0 (chain join e (operand_views es)) (view x.1)
+chain_pushed join e [] x = refl
+chain_pushed join e (y ∷ es) x = chain_pushed join (join y.0 e (view y.1)) es x
 
-pub products_pushed : {A : Type 0} (e : s.Expr) (es : List (Multiplicative × Expr A)) (x : Multiplicative × Expr A) → products e (multiplicative_operands (es ++ x ∷ [])) ≡ s.product (multiplicative_view x.0) (products e (multiplicative_operands es)) (view x.1)
-products_pushed e [] x = refl
-products_pushed e (y ∷ es) x = products_pushed (s.product (multiplicative_view y.0) e (view y.1)) es x
-
--- the same of a list that is one longer
-pub sums_grown : {A : Type 0} (e : s.Expr) (es longer : List (Additive × Expr A)) (x : Additive × Expr A) → longer ≡ es ++ x ∷ [] → s.sum (additive_view x.0) (sums e (additive_operands es)) (view x.1) ≡ sums e (additive_operands longer)
-sums_grown e es longer x h = sym (ap (λ os. sums e (additive_operands os)) h ∙ sums_pushed e es x)
-
-pub products_grown : {A : Type 0} (e : s.Expr) (es longer : List (Multiplicative × Expr A)) (x : Multiplicative × Expr A) → longer ≡ es ++ x ∷ [] → s.product (multiplicative_view x.0) (products e (multiplicative_operands es)) (view x.1) ≡ products e (multiplicative_operands longer)
-products_grown e es longer x h = sym (ap (λ os. products e (multiplicative_operands os)) h ∙ products_pushed e es x)
+pub chain_grown : {A O : Type 0} (join : O → s.Expr → s.Expr → s.Expr) (e : s.Expr) (es longer : List (O × Expr A)) (x : O × Expr A) → longer ≡ es ++ x ∷ [] → join x.0 (chain join e (operand_views es)) (view x.1) ≡ chain join e (operand_views longer)
+chain_grown join e es longer x h = sym (ap (λ os. chain join e (operand_views os)) h ∙ chain_pushed join e es x)
 
 pub map_pushed : {X Y : Type 0} (f : X → Y) (xs : List X) (x : X) → map f (xs ++ x ∷ []) ≡ map f xs ++ f x ∷ []
 map_pushed f [] x = refl

@@ -1,5 +1,6 @@
-pub mod Machine
-pub mod View
+pub mod Automaton
+pub mod SyntaxView
 pub mod Reads
 pub mod Parts
+pub mod ErrorText
 pub mod Refusals

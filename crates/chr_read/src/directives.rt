@@ -1,17 +1,17 @@
 //! Directives.
 ghost use Rattle.std.specs.Prelude.{◌≡◌, ◌<◌, ◌≤◌, IfOk, length};
 ghost use Rattle.chr_semantics.specs.Tokens.{comma};
-ghost use Rattle.chr_tokens.specs.View.{placed_views};
+ghost use Rattle.chr_tokens.specs.TokenView.{placed_views};
 ghost use Rattle.chr_read.specs.Parts.{ReadsDeclared, ReadsDirective, ReadsExports, ReadsFixed, ReadsLibrary, ReadsModule, ReadsSymbol, ReadsSymbols, ReadsWanted, wanted_view, wanted_views};
 ghost use Rattle.chr_read.specs.Reads.{Lacks};
 
 use crate::halt::Halt;
 use crate::syntax::{Declaration, Part};
-use crate::words::{behind, is_word, name, number, spelled, split};
+use crate::words::{after_sign, is_word, name, number, split_first, string_of};
 use chr_tokens::{Placed, Sign, Token};
 use std::alloc::Allocator;
 
-/// A directive that begins in this line, behind its `:-`.
+/// A directive that begins in this line, after its `:-`.
 #[tactic(auto, using(crate::proofs::Listings::directive_steps))]
 pub(crate) fn directive<'a, A: Allocator + Copy>(
     alloc: A,
@@ -21,11 +21,11 @@ pub(crate) fn directive<'a, A: Allocator + Copy>(
     ensures reads { ReadsDirective line (placed_views text.now) result }
     ensures shorter { IfOk result (λ x. length x.1.now < length text.now) }
 {
-    let Some((_, word, after)) = name(text) else {
+    let Some((word, after)) = name(text) else {
         return Err(Halt::Expected(text));
     };
     if is_word(word, b"chr_constraint") {
-        return declared(alloc, line, after);
+        return constraint_declaration(alloc, line, after);
     }
     if is_word(word, b"use_module") {
         let rest = use_module(after)?;
@@ -40,7 +40,7 @@ pub(crate) fn directive<'a, A: Allocator + Copy>(
 
 /// The symbols that are declared, and the END.
 #[tactic(auto, using(crate::proofs::Listings::directive_steps))]
-fn declared<'a, A: Allocator + Copy>(
+fn constraint_declaration<'a, A: Allocator + Copy>(
     alloc: A,
     line: u64,
     text: &'a [Placed<'a>],
@@ -49,8 +49,8 @@ fn declared<'a, A: Allocator + Copy>(
     ensures shorter { IfOk result (λ x. length x.1.now < length text.now) }
 {
     let (found, end) = symbols(alloc, text)?;
-    match behind(end, Sign::Stop) {
-        Some((_, after)) => Ok((Part::Declares(line, found), after)),
+    match after_sign(end, Sign::Stop) {
+        Some(after) => Ok((Part::Declares(line, found), after)),
         None => Err(Halt::Expected(end)),
     }
 }
@@ -69,7 +69,7 @@ fn use_module<'a>(text: &'a [Placed<'a>]) -> Result<&'a [Placed<'a>], Halt<'a>>
         Wanted::Sign(Sign::Close),
         Wanted::Sign(Sign::Stop),
     ];
-    fixed(text, &wanted)
+    after_all(text, &wanted)
 }
 
 /// `(name, [symbols]).`
@@ -80,16 +80,16 @@ fn module<'a, A: Allocator + Copy>(
     ensures reads { ReadsModule (placed_views text.now) result }
     ensures shorter { IfOk result (λ after. length after.now ≤ length text.now) }
 {
-    let before = [
+    let beginning = [
         Wanted::Sign(Sign::Open),
         Wanted::Name,
         Wanted::Sign(Sign::Comma),
         Wanted::Sign(Sign::OpenList),
     ];
-    let rest = fixed(text, &before)?;
+    let rest = after_all(text, &beginning)?;
     let rest = exports(alloc, rest)?;
-    let behind = [Wanted::Sign(Sign::Close), Wanted::Sign(Sign::Stop)];
-    fixed(rest, &behind)
+    let end = [Wanted::Sign(Sign::Close), Wanted::Sign(Sign::Stop)];
+    after_all(rest, &end)
 }
 
 /// The symbols that a module exports, if any, and the closing bracket.
@@ -101,12 +101,12 @@ fn exports<'a, A: Allocator + Copy>(
     ensures reads { ReadsExports (placed_views text.now) result }
     ensures shorter { IfOk result (λ after. length after.now < length text.now) }
 {
-    if let Some((_, after)) = behind(text, Sign::CloseList) {
+    if let Some(after) = after_sign(text, Sign::CloseList) {
         return Ok(after);
     }
     let (_, end) = symbols(alloc, text)?;
-    match behind(end, Sign::CloseList) {
-        Some((_, after)) => Ok(after),
+    match after_sign(end, Sign::CloseList) {
+        Some(after) => Ok(after),
         None => Err(Halt::Expected(end)),
     }
 }
@@ -122,7 +122,7 @@ fn symbols<'a, A: Allocator + Copy>(
 {
     let mut symbols = Vec::new(alloc);
     let (mut last, mut rest) = symbol(alloc, text)?;
-    while let Some((_, after)) = behind(rest, Sign::Comma) {
+    while let Some(after) = after_sign(rest, Sign::Comma) {
         symbols.push(last)?;
         let (next, others) = symbol(alloc, after)?;
         last = next;
@@ -140,19 +140,19 @@ fn symbol<'a, A: Allocator + Copy>(
     ensures reads { ReadsSymbol (placed_views text.now) result }
     ensures shorter { IfOk result (λ x. length x.1.now < length text.now) }
 {
-    let Some((_, word, rest)) = name(text) else {
+    let Some((word, rest)) = name(text) else {
         return Err(Halt::Expected(text));
     };
-    let Some((_, digits)) = behind(rest, Sign::Slash) else {
+    let Some(digits) = after_sign(rest, Sign::Slash) else {
         return Err(Halt::Expected(rest));
     };
-    let Some((first, after)) = split(digits) else {
+    let Some((first, after)) = split_first(digits) else {
         return Err(Halt::Expected(digits));
     };
     match first.token {
         Token::Number { signed: _, value } => match number(value) {
             Some(_) => {
-                let name = spelled(alloc, word)?;
+                let name = string_of(alloc, word)?;
                 Ok((Declaration { name, arity: value }, after))
             }
             None => Err(Halt::Expected(digits)),
@@ -169,33 +169,39 @@ enum Wanted<'w> {
     Name,
 }
 
-/// What stands behind these tokens, which have to come.
-#[cycle(fixed)]
-fn fixed<'a>(text: &'a [Placed<'a>], wanted: &[Wanted<'_>]) -> Result<&'a [Placed<'a>], Halt<'a>>
+/// What stands after these tokens, which have to come.
+#[cycle(after_all)]
+fn after_all<'a>(
+    text: &'a [Placed<'a>],
+    wanted: &[Wanted<'_>],
+) -> Result<&'a [Placed<'a>], Halt<'a>>
     ensures reads { ReadsFixed (wanted_views wanted.now) (placed_views text.now) result }
     ensures shorter { IfOk result (λ after. length after.now ≤ length text.now) }
 {
     match wanted {
         [] => Ok(text),
         [first, others @ ..] => {
-            let rest = one(text, *first)?;
-            fixed(rest, others)
+            let rest = after_wanted(text, *first)?;
+            after_all(rest, others)
         }
     }
 }
 
-/// What stands behind this token, which has to come.
-fn one<'a>(text: &'a [Placed<'a>], wanted: Wanted<'_>) -> Result<&'a [Placed<'a>], Halt<'a>>
+/// What stands after this token, which has to come.
+fn after_wanted<'a>(
+    text: &'a [Placed<'a>],
+    wanted: Wanted<'_>,
+) -> Result<&'a [Placed<'a>], Halt<'a>>
     ensures reads { ReadsWanted (wanted_view wanted.entry) (placed_views text.now) result }
     ensures shorter { IfOk result (λ after. length after.now < length text.now) }
 {
     match wanted {
-        Wanted::Sign(sign) => match behind(text, sign) {
-            Some((_, after)) => Ok(after),
+        Wanted::Sign(sign) => match after_sign(text, sign) {
+            Some(after) => Ok(after),
             None => Err(Halt::Expected(text)),
         },
         Wanted::Word(word) => match name(text) {
-            Some((_, found, after)) => {
+            Some((found, after)) => {
                 if is_word(found, word) {
                     Ok(after)
                 } else {
@@ -205,7 +211,7 @@ fn one<'a>(text: &'a [Placed<'a>], wanted: Wanted<'_>) -> Result<&'a [Placed<'a>
             None => Err(Halt::Expected(text)),
         },
         Wanted::Name => match name(text) {
-            Some((_, _, after)) => Ok(after),
+            Some((_, after)) => Ok(after),
             None => Err(Halt::Expected(text)),
         },
     }

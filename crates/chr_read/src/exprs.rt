@@ -1,15 +1,18 @@
-//! Expressions, by recursive descent. The depth is that of the brackets, of which at most 256 are open at once.
+//! Expressions, by recursive descent. The depth is that of the brackets, of which at most `MAX_OPEN_BRACKETS` are open at once.
 ghost use Rattle.std.specs.Prelude.{◌≡◌, ◌<◌, ◌≤◌, IfOk, length, map};
 ghost use Rattle.std.specs.Str.{encode_utf8_all};
 ghost use Rattle.chr_semantics.specs.Syntax.{call, exprs_of, list as syntax_list, nil};
 ghost use Rattle.chr_semantics.specs.Tokens.{comma};
-ghost use Rattle.chr_tokens.specs.View.{placed_views};
+ghost use Rattle.chr_tokens.specs.TokenView.{placed_views};
 ghost use Rattle.chr_read.specs.Reads.{Lacks, NoAdditive, NoMultiplicative, ReadsElements, ReadsInParens, ReadsList, ReadsNamed, ReadsPrimary, ReadsProduct, ReadsSigned, ReadsSum};
-ghost use Rattle.chr_read.specs.View.{additive_operands, multiplicative_operands, products, sums, view, views};
+ghost use Rattle.chr_read.specs.SyntaxView.{operand_views, products, sums, view, views};
 
 use crate::halt::Halt;
 use crate::syntax::Expr;
-use crate::words::{additive, behind, multiplicative, negative, number, spelled, split};
+use crate::words::{
+    additive, after_sign, multiplicative, negative, number, split_first, string_of,
+};
+use chr_semantics::limits::MAX_OPEN_BRACKETS;
 use chr_tokens::{Additive, Memory, Multiplicative, Placed, Sign, Token};
 use std::alloc::Allocator;
 
@@ -21,34 +24,34 @@ pub(crate) fn sum<'a, A: Allocator + Copy>(
     text: &'a [Placed<'a>],
     room: usize,
 ) -> Result<(Expr<A>, &'a [Placed<'a>]), Halt<'a>>
-    requires { room ≤ 256 }
+    requires { room ≤ MAX_OPEN_BRACKETS }
     ensures reads { ReadsSum room (placed_views text.now) result }
     ensures shorter { IfOk result (λ x. length x.1.now < length text.now) }
     ensures no_sum { IfOk result (λ x. NoAdditive (placed_views x.1.now)) }
     ensures no_product { IfOk result (λ x. NoMultiplicative (placed_views x.1.now)) }
 {
     let (first, mut rest) = product(alloc, text, room)?;
-    let mut others = Vec::new(alloc);
-    while let Some((_, operator, after)) = additive(rest) {
-        let (operand, behind) = product(alloc, after, room)?;
-        others.push((operator, operand))?;
-        rest = behind;
+    let mut operands = Vec::new(alloc);
+    while let Some((operator, after)) = additive(rest) {
+        let (operand, others) = product(alloc, after, room)?;
+        operands.push((operator, operand))?;
+        rest = others;
     }
-    Ok((sum_of(alloc, first, others)?, rest))
+    Ok((sum_of(alloc, first, operands)?, rest))
 }
 
 /// A sum, or its only operand.
 fn sum_of<A: Allocator + Copy>(
     alloc: A,
     first: Expr<A>,
-    others: Vec<(Additive, Expr<A>), A>,
+    operands: Vec<(Additive, Expr<A>), A>,
 ) -> Result<Expr<A>, Memory>
-    ensures { IfOk result (λ e. view e ≡ sums (view first) (additive_operands others.items)) }
+    ensures { IfOk result (λ e. view e ≡ sums (view first) (operand_views operands.items)) }
 {
-    if others.is_empty() {
+    if operands.is_empty() {
         Ok(first)
     } else {
-        Ok(Expr::Sum(Box::new(alloc, first)?, others))
+        Ok(Expr::Sum(Box::new(alloc, first)?, operands))
     }
 }
 
@@ -60,33 +63,33 @@ fn product<'a, A: Allocator + Copy>(
     text: &'a [Placed<'a>],
     room: usize,
 ) -> Result<(Expr<A>, &'a [Placed<'a>]), Halt<'a>>
-    requires { room ≤ 256 }
+    requires { room ≤ MAX_OPEN_BRACKETS }
     ensures reads { ReadsProduct room (placed_views text.now) result }
     ensures shorter { IfOk result (λ x. length x.1.now < length text.now) }
     ensures no_product { IfOk result (λ x. NoMultiplicative (placed_views x.1.now)) }
 {
     let (first, mut rest) = primary(alloc, text, room)?;
-    let mut others = Vec::new(alloc);
-    while let Some((_, operator, after)) = multiplicative(rest) {
-        let (operand, behind) = primary(alloc, after, room)?;
-        others.push((operator, operand))?;
-        rest = behind;
+    let mut operands = Vec::new(alloc);
+    while let Some((operator, after)) = multiplicative(rest) {
+        let (operand, others) = primary(alloc, after, room)?;
+        operands.push((operator, operand))?;
+        rest = others;
     }
-    Ok((product_of(alloc, first, others)?, rest))
+    Ok((product_of(alloc, first, operands)?, rest))
 }
 
 /// A product, or its only operand.
 fn product_of<A: Allocator + Copy>(
     alloc: A,
     first: Expr<A>,
-    others: Vec<(Multiplicative, Expr<A>), A>,
+    operands: Vec<(Multiplicative, Expr<A>), A>,
 ) -> Result<Expr<A>, Memory>
-    ensures { IfOk result (λ e. view e ≡ products (view first) (multiplicative_operands others.items)) }
+    ensures { IfOk result (λ e. view e ≡ products (view first) (operand_views operands.items)) }
 {
-    if others.is_empty() {
+    if operands.is_empty() {
         Ok(first)
     } else {
-        Ok(Expr::Product(Box::new(alloc, first)?, others))
+        Ok(Expr::Product(Box::new(alloc, first)?, operands))
     }
 }
 
@@ -98,21 +101,21 @@ fn primary<'a, A: Allocator + Copy>(
     text: &'a [Placed<'a>],
     room: usize,
 ) -> Result<(Expr<A>, &'a [Placed<'a>]), Halt<'a>>
-    requires { room ≤ 256 }
+    requires { room ≤ MAX_OPEN_BRACKETS }
     ensures reads { ReadsPrimary room (placed_views text.now) result }
     ensures shorter { IfOk result (λ x. length x.1.now < length text.now) }
 {
-    let Some((first, after)) = split(text) else {
+    let Some((first, after)) = split_first(text) else {
         return Err(Halt::Expected(text));
     };
     match first.token {
-        Token::Variable(word) => Ok((Expr::Variable(spelled(alloc, word)?), after)),
+        Token::Variable(word) => Ok((Expr::Variable(string_of(alloc, word)?), after)),
         Token::Number { signed: _, value } => match number(value) {
             Some(number) => Ok((Expr::Number(number), after)),
             None => Err(Halt::Expected(text)),
         },
-        Token::Additive(Additive::Minus) => signed(after),
-        Token::Name(word) => named(alloc, word, after, room),
+        Token::Additive(Additive::Minus) => negative_number(after),
+        Token::Name(word) => name_or_call(alloc, word, after, room),
         Token::Sign(Sign::Open) => {
             if room == 0 {
                 return Err(Halt::TooDeep(text));
@@ -129,12 +132,14 @@ fn primary<'a, A: Allocator + Copy>(
     }
 }
 
-/// The digits of a number behind its `-`.
-fn signed<'a, A: Allocator>(text: &'a [Placed<'a>]) -> Result<(Expr<A>, &'a [Placed<'a>]), Halt<'a>>
+/// The digits of a number after its `-`.
+fn negative_number<'a, A: Allocator>(
+    text: &'a [Placed<'a>],
+) -> Result<(Expr<A>, &'a [Placed<'a>]), Halt<'a>>
     ensures reads { ReadsSigned (placed_views text.now) result }
     ensures shorter { IfOk result (λ x. length x.1.now < length text.now) }
 {
-    let Some((first, after)) = split(text) else {
+    let Some((first, after)) = split_first(text) else {
         return Err(Halt::Expected(text));
     };
     match first.token {
@@ -152,25 +157,25 @@ fn signed<'a, A: Allocator>(text: &'a [Placed<'a>]) -> Result<(Expr<A>, &'a [Pla
 /// A name's arguments, if it has some.
 #[cycle(expr)]
 #[tactic(auto, using(crate::proofs::Steps::steps))]
-fn named<'a, A: Allocator + Copy>(
+fn name_or_call<'a, A: Allocator + Copy>(
     alloc: A,
     word: &'a [char],
     text: &'a [Placed<'a>],
     room: usize,
 ) -> Result<(Expr<A>, &'a [Placed<'a>]), Halt<'a>>
-    requires { room ≤ 256 }
+    requires { room ≤ MAX_OPEN_BRACKETS }
     ensures reads { ReadsNamed word.now room (placed_views text.now) result }
     ensures shorter { IfOk result (λ x. length x.1.now ≤ length text.now) }
 {
-    let Some((_, inside)) = behind(text, Sign::Open) else {
+    let Some(inside) = after_sign(text, Sign::Open) else {
         return Ok((call_of(alloc, word, Vec::new(alloc))?, text));
     };
     if room == 0 {
         return Err(Halt::TooDeep(text));
     }
     let (args, end) = elements(alloc, inside, room - 1)?;
-    match behind(end, Sign::Close) {
-        Some((_, after)) => Ok((call_of(alloc, word, args)?, after)),
+    match after_sign(end, Sign::Close) {
+        Some(after) => Ok((call_of(alloc, word, args)?, after)),
         None => Err(Halt::Expected(end)),
     }
 }
@@ -181,9 +186,10 @@ fn call_of<A: Allocator + Copy>(
     word: &[char],
     args: Vec<Expr<A>, A>,
 ) -> Result<Expr<A>, Memory>
-    ensures { IfOk result (λ e. view e ≡ call (encode_utf8_all word.now) (exprs_of (views args.items))) }
+    ensures { IfOk result
+        (λ e. view e ≡ call (encode_utf8_all word.now) (exprs_of (views args.items))) }
 {
-    Ok(Expr::Call(spelled(alloc, word)?, args))
+    Ok(Expr::Call(string_of(alloc, word)?, args))
 }
 
 /// An expression and its closing parenthesis.
@@ -194,18 +200,18 @@ fn in_parens<'a, A: Allocator + Copy>(
     text: &'a [Placed<'a>],
     room: usize,
 ) -> Result<(Expr<A>, &'a [Placed<'a>]), Halt<'a>>
-    requires { room < 256 }
+    requires { room < MAX_OPEN_BRACKETS }
     ensures reads { ReadsInParens room (placed_views text.now) result }
     ensures shorter { IfOk result (λ x. length x.1.now < length text.now) }
 {
     let (inner, end) = sum(alloc, text, room)?;
-    match behind(end, Sign::Close) {
-        Some((_, after)) => Ok((inner, after)),
+    match after_sign(end, Sign::Close) {
+        Some(after) => Ok((inner, after)),
         None => Err(Halt::Expected(end)),
     }
 }
 
-/// A list, behind its bracket.
+/// A list, after its bracket.
 #[cycle(expr)]
 #[tactic(auto, using(crate::proofs::Steps::steps))]
 fn list<'a, A: Allocator + Copy>(
@@ -213,23 +219,23 @@ fn list<'a, A: Allocator + Copy>(
     text: &'a [Placed<'a>],
     room: usize,
 ) -> Result<(Expr<A>, &'a [Placed<'a>]), Halt<'a>>
-    requires { room < 256 }
+    requires { room < MAX_OPEN_BRACKETS }
     ensures reads { ReadsList room (placed_views text.now) result }
     ensures shorter { IfOk result (λ x. length x.1.now < length text.now) }
 {
-    if let Some((_, after)) = behind(text, Sign::CloseList) {
+    if let Some(after) = after_sign(text, Sign::CloseList) {
         return Ok((list_of(Vec::new(alloc)), after));
     }
     let (items, end) = elements(alloc, text, room)?;
-    if let Some((_, after)) = behind(end, Sign::CloseList) {
+    if let Some(after) = after_sign(end, Sign::CloseList) {
         return Ok((list_of(items), after));
     }
-    let Some((_, after)) = behind(end, Sign::Bar) else {
+    let Some(after) = after_sign(end, Sign::Bar) else {
         return Err(Halt::Expected(end));
     };
     let (last, end) = sum(alloc, after, room)?;
-    match behind(end, Sign::CloseList) {
-        Some((_, after)) => Ok((list_with_end(alloc, items, last)?, after)),
+    match after_sign(end, Sign::CloseList) {
+        Some(after) => Ok((list_with_end(alloc, items, last)?, after)),
         None => Err(Halt::Expected(end)),
     }
 }
@@ -260,14 +266,14 @@ fn elements<'a, A: Allocator + Copy>(
     text: &'a [Placed<'a>],
     room: usize,
 ) -> Result<(Vec<Expr<A>, A>, &'a [Placed<'a>]), Halt<'a>>
-    requires { room ≤ 256 }
+    requires { room ≤ MAX_OPEN_BRACKETS }
     ensures reads { ReadsElements (λ v. v.items) room (placed_views text.now) result }
     ensures shorter { IfOk result (λ x. length x.1.now < length text.now) }
     ensures no_comma { IfOk result (λ x. Lacks comma (placed_views x.1.now)) }
 {
     let mut items = Vec::new(alloc);
     let (mut last, mut rest) = sum(alloc, text, room)?;
-    while let Some((_, after)) = behind(rest, Sign::Comma) {
+    while let Some(after) = after_sign(rest, Sign::Comma) {
         items.push(last)?;
         let (next, others) = sum(alloc, after, room)?;
         last = next;

@@ -1,6 +1,6 @@
 //! Why a text is not read.
 ghost use Rattle.std.specs.Prelude.{◌≡◌};
-ghost use Rattle.chr_read.specs.declared.halt.Halt.TheVariants.{Memory as WantOfMemory};
+ghost use Rattle.chr_read.specs.declared.halt.Halt.TheVariants.{Memory as OutOfMemory};
 
 use chr_tokens::Placed;
 use std::alloc::{AllocError, AllocFailed};
@@ -17,7 +17,7 @@ pub(crate) enum Halt<'a> {
 }
 
 impl From<AllocError> for Halt<'_> {
-    ghost from_gives = { λ _ e. e ≡ WantOfMemory };
+    ghost from_gives = { λ _ e. e ≡ OutOfMemory };
 
     fn from(_error: AllocError) -> Self {
         Halt::Memory
@@ -25,7 +25,7 @@ impl From<AllocError> for Halt<'_> {
 }
 
 impl<T: Drop> From<AllocFailed<T>> for Halt<'_> {
-    ghost from_gives = { λ _ e. e ≡ WantOfMemory };
+    ghost from_gives = { λ _ e. e ≡ OutOfMemory };
 
     fn from(_error: AllocFailed<T>) -> Self {
         Halt::Memory

@@ -2,15 +2,16 @@
 ghost use Rattle.std.specs.Prelude.{◌≡◌, ◌<◌, IfOk, List, Option, length, ℕ};
 ghost use Rattle.chr_semantics.specs.Syntax.{Head as SyntaxHead, Item as SyntaxItem};
 ghost use Rattle.chr_semantics.specs.Tokens.{comma, hash};
-ghost use Rattle.chr_tokens.specs.View.{placed_views};
-ghost use Rattle.chr_read.specs.Machine.{Start};
+ghost use Rattle.chr_tokens.specs.TokenView.{placed_views};
+ghost use Rattle.chr_read.specs.Automaton.{RuleStart};
 ghost use Rattle.chr_read.specs.Reads.{Lacks, in_behind, in_body, in_guarded, in_heads, in_query, ReadsHead, ReadsHeads, ReadsItem, ReadsItems, ReadsMark, Side, Slot};
-ghost use Rattle.chr_read.specs.View.{item_view};
+ghost use Rattle.chr_read.specs.SyntaxView.{item_view};
 
 use crate::exprs::sum;
 use crate::halt::Halt;
 use crate::syntax::{Head, Item};
-use crate::words::{behind, is_word, name, relation};
+use crate::words::{after_sign, is_word, name, relation};
+use chr_semantics::limits::MAX_OPEN_BRACKETS;
 use chr_tokens::{Placed, Sign};
 use std::alloc::Allocator;
 
@@ -23,11 +24,11 @@ fn item<'a, A: Allocator + Copy>(
     ensures reads { ReadsItem (placed_views text.now) result }
     ensures shorter { IfOk result (λ x. length x.1.now < length text.now) }
 {
-    let (left, end) = sum(alloc, text, 256)?;
+    let (left, end) = sum(alloc, text, MAX_OPEN_BRACKETS)?;
     match relation(end) {
         None => Ok((Item::Plain(left), end)),
-        Some((_, relation, after)) => {
-            let (right, end) = sum(alloc, after, 256)?;
+        Some((relation, after)) => {
+            let (right, end) = sum(alloc, after, MAX_OPEN_BRACKETS)?;
             Ok((Item::Related(relation, left, right), end))
         }
     }
@@ -38,9 +39,12 @@ pub(crate) fn items<'a, A: Allocator + Copy>(
     alloc: A,
     text: &'a [Placed<'a>],
 ) -> Result<(Vec<Item<A>, A>, &'a [Placed<'a>]), Halt<'a>>
-    ensures in_body { (s : Start) → ReadsItems (λ v. v.items) (in_body s) (placed_views text.now) result }
-    ensures in_guarded { (s : Start) (guard : List SyntaxItem) → ReadsItems (λ v. v.items) (in_guarded s guard) (placed_views text.now) result }
-    ensures in_query { (line : ℕ) → ReadsItems (λ v. v.items) (in_query line) (placed_views text.now) result }
+    ensures in_body { (s : RuleStart)
+        → ReadsItems (λ v. v.items) (in_body s) (placed_views text.now) result }
+    ensures in_guarded { (s : RuleStart) (guard : List SyntaxItem)
+        → ReadsItems (λ v. v.items) (in_guarded s guard) (placed_views text.now) result }
+    ensures in_query { (line : ℕ)
+        → ReadsItems (λ v. v.items) (in_query line) (placed_views text.now) result }
     ensures shorter { IfOk result (λ x. length x.1.now < length text.now) }
     ensures no_comma { IfOk result (λ x. Lacks comma (placed_views x.1.now)) }
 {
@@ -59,7 +63,7 @@ fn item_list<'a, A: Allocator + Copy>(
 {
     let mut items = Vec::new(alloc);
     let (mut last, mut rest) = item(alloc, text)?;
-    while let Some((_, after)) = behind(rest, Sign::Comma) {
+    while let Some(after) = after_sign(rest, Sign::Comma) {
         items.push(last)?;
         let (next, others) = item(alloc, after)?;
         last = next;
@@ -79,34 +83,26 @@ fn head<'a, A: Allocator + Copy>(
     ensures shorter { IfOk result (λ x. length x.1.now < length text.now) }
 {
     let (item, end) = item(alloc, text)?;
-    match behind(end, Sign::Hash) {
-        None => Ok((
-            Head {
-                item,
-                passive: false,
-            },
-            end,
-        )),
-        Some((_, mark)) => {
-            let after = marked(mark)?;
-            Ok((
-                Head {
-                    item,
-                    passive: true,
-                },
-                after,
-            ))
+    match after_sign(end, Sign::Hash) {
+        None => {
+            let passive = false;
+            Ok((Head { item, passive }, end))
+        }
+        Some(mark) => {
+            let after = after_passive(mark)?;
+            let passive = true;
+            Ok((Head { item, passive }, after))
         }
     }
 }
 
-/// What stands behind `passive`.
-fn marked<'a>(text: &'a [Placed<'a>]) -> Result<&'a [Placed<'a>], Halt<'a>>
+/// What stands after `passive`.
+fn after_passive<'a>(text: &'a [Placed<'a>]) -> Result<&'a [Placed<'a>], Halt<'a>>
     ensures reads { ReadsMark (placed_views text.now) result }
     ensures shorter { IfOk result (λ after. length after.now < length text.now) }
 {
     match name(text) {
-        Some((_, word, after)) => {
+        Some((word, after)) => {
             if is_word(word, b"passive") {
                 Ok(after)
             } else {
@@ -117,13 +113,16 @@ fn marked<'a>(text: &'a [Placed<'a>]) -> Result<&'a [Placed<'a>], Halt<'a>>
     }
 }
 
-/// Heads with commas between them, before a `\` or behind it.
+/// Heads with commas between them, before a `\` or after it.
 pub(crate) fn heads<'a, A: Allocator + Copy>(
     alloc: A,
     text: &'a [Placed<'a>],
 ) -> Result<(Vec<Head<A>, A>, &'a [Placed<'a>]), Halt<'a>>
-    ensures in_heads { (line : ℕ) (label : Option (List ℕ)) → ReadsHeads (λ v. v.items) (in_heads line label) (placed_views text.now) result }
-    ensures in_behind { (line : ℕ) (label : Option (List ℕ)) (first : List SyntaxHead) → ReadsHeads (λ v. v.items) (in_behind line label first) (placed_views text.now) result }
+    ensures in_heads { (line : ℕ) (label : Option (List ℕ))
+        → ReadsHeads (λ v. v.items) (in_heads line label) (placed_views text.now) result }
+    ensures in_behind { (line : ℕ) (label : Option (List ℕ)) (first : List SyntaxHead)
+        → ReadsHeads (λ v. v.items) (in_behind line label first)
+        (placed_views text.now) result }
     ensures shorter { IfOk result (λ x. length x.1.now < length text.now) }
     ensures no_comma { IfOk result (λ x. Lacks comma (placed_views x.1.now)) }
 {
@@ -142,7 +141,7 @@ fn head_list<'a, A: Allocator + Copy>(
 {
     let mut heads = Vec::new(alloc);
     let (mut last, mut rest) = head(alloc, text)?;
-    while let Some((_, after)) = behind(rest, Sign::Comma) {
+    while let Some(after) = after_sign(rest, Sign::Comma) {
         heads.push(last)?;
         let (next, others) = head(alloc, after)?;
         last = next;

@@ -15,7 +15,7 @@ mod syntax;
 mod words;
 
 pub use chr_tokens::{Additive, Memory, Multiplicative, Relation};
-pub use error::{ReadError, ReadFault};
+pub use error::{ReadError, ReadErrorKind};
 pub use reading::{read_program, read_query};
 pub use syntax::{
     Arrow, Declaration, Expr, Head, Item, Part, ProgramSyntax, QuerySyntax, RuleSyntax,

@@ -3,20 +3,21 @@ ghost use Rattle.std.specs.Prelude.{◌≡◌, ◌∷◌, ◌<◌, IfErr, IfOk, 
 ghost use Rattle.chr_semantics.specs.Grammar.{IsProgram, IsQuery, line_of};
 ghost use Rattle.chr_semantics.specs.Reading.{IsRead};
 ghost use Rattle.chr_semantics.specs.Syntax.{Program, Query};
-ghost use Rattle.chr_semantics.specs.Tokens.{at, over as over_token};
-ghost use Rattle.chr_tokens.specs.View.{place_view, placed_views, token_view};
-ghost use Rattle.chr_read.specs.Parts.{IsOver, NoOver, ReadsPart, ReadsParts, ReadsProgram, ReadsQuery};
-ghost use Rattle.chr_read.specs.Refusals.{IsHalted, IsKind, IsOnly, IsRefusal, IsUnreadable, IsWant, Points, place_of};
-ghost use Rattle.chr_read.specs.View.{program_view, query_view};
+ghost use Rattle.chr_semantics.specs.Tokens.{over};
+ghost use Rattle.chr_tokens.specs.TokenView.{place_view, placed_views, token_view};
+ghost use Rattle.chr_read.specs.Parts.{NoOver, ReadsPart, ReadsParts, ReadsProgram, ReadsQuery};
+ghost use Rattle.chr_read.specs.Reads.{BeginsWith};
+ghost use Rattle.chr_read.specs.Refusals.{IsErrorOfHalt, IsKind, IsOnly, IsRefusal, PointsToToken, place_of};
+ghost use Rattle.chr_read.specs.SyntaxView.{program_view, query_view};
 
 use crate::directives::directive;
-use crate::error::{ReadError, ReadFault};
+use crate::error::{ReadError, ReadErrorKind};
 use crate::halt::Halt;
 use crate::items::items;
 use crate::rules::rule;
 use crate::syntax::{Part, ProgramSyntax, QuerySyntax};
-use crate::words::{behind, number, split};
-use chr_tokens::{Fault, Place, Placed, Sign, Token, Unread, characters, tokens};
+use crate::words::{after_sign, number, split_first};
+use chr_tokens::{Fault, Place, Placed, Sign, Token, characters, tokens};
 use std::alloc::Allocator;
 
 /// What the text of a program spells, or what is wrong with it first.
@@ -28,20 +29,14 @@ pub fn read_program<A: Allocator + Copy>(
     ensures read { IfOk result (λ found. IsRead IsProgram text.now (program_view found)) }
     // What is spelled within the limits is read, unless memory is refused.
     ensures only { (p : Program) → IsRead IsProgram text.now p → IsOnly program_view result p }
-    // Which fault it is, and where.
+    // Which error it is, and where.
     ensures refused { IfErr result (IsRefusal IsProgram text.now) }
 {
-    let characters = match characters(alloc, text) {
-        Ok(characters) => characters,
-        Err(unread) => return Err(unreadable(unread)),
-    };
-    let found = match tokens(alloc, &characters) {
-        Ok(found) => found,
-        Err(_) => return Err(want_of_memory()),
-    };
+    let characters = characters(alloc, text)?;
+    let found = tokens(alloc, &characters)?;
     match program(alloc, &found) {
         Ok(parts) => Ok(ProgramSyntax { parts }),
-        Err(halt) => Err(halted(halt)),
+        Err(halt) => Err(error_of(halt)),
     }
 }
 
@@ -51,17 +46,11 @@ pub fn read_query<A: Allocator + Copy>(alloc: A, text: &[u8]) -> Result<QuerySyn
     ensures only { (q : Query) → IsRead IsQuery text.now q → IsOnly query_view result q }
     ensures refused { IfErr result (IsRefusal IsQuery text.now) }
 {
-    let characters = match characters(alloc, text) {
-        Ok(characters) => characters,
-        Err(unread) => return Err(unreadable(unread)),
-    };
-    let found = match tokens(alloc, &characters) {
-        Ok(found) => found,
-        Err(_) => return Err(want_of_memory()),
-    };
+    let characters = characters(alloc, text)?;
+    let found = tokens(alloc, &characters)?;
     match query(alloc, &found) {
         Ok(found) => Ok(found),
-        Err(halt) => Err(halted(halt)),
+        Err(halt) => Err(error_of(halt)),
     }
 }
 
@@ -72,10 +61,7 @@ fn program<'a, A: Allocator + Copy>(
 ) -> Result<Vec<Part<A>, A>, Halt<'a>>
     ensures { ReadsProgram (λ v. v.items) (placed_views text.now) result }
 {
-    let (parts, rest) = parts(alloc, text)?;
-    let Some((_, after)) = over(rest) else {
-        return Err(Halt::Expected(rest));
-    };
+    let (parts, after) = parts(alloc, text)?;
     if after.is_empty() {
         Ok(parts)
     } else {
@@ -83,56 +69,41 @@ fn program<'a, A: Allocator + Copy>(
     }
 }
 
-/// The parts of a program, up to the end of its text.
+/// The parts of a program, and what stands after the end of its text.
 fn parts<'a, A: Allocator + Copy>(
     alloc: A,
     text: &'a [Placed<'a>],
 ) -> Result<(Vec<Part<A>, A>, &'a [Placed<'a>]), Halt<'a>>
-    ensures reads { ReadsParts (λ v. v.items) (placed_views text.now) result }
-    ensures over { IfOk result (λ x. IsOver (placed_views x.1.now)) }
+    ensures { ReadsParts (λ v. v.items) (placed_views text.now) result }
 {
     let mut parts = Vec::new(alloc);
-    let (_, mut rest) = here(text);
-    while let Some((line, begun)) = going_on(rest) {
-        let (next, others) = part(alloc, line, begun)?;
-        parts.push(next)?;
-        rest = others;
-    }
-    Ok((parts, rest))
-}
-
-/// The line of the first token, and the tokens.
-fn here<'a>(text: &'a [Placed<'a>]) -> (u64, &'a [Placed<'a>])
-    ensures line { result.0 ≡ line_of (placed_views text.now) }
-    ensures tokens { result.1.now ≡ text.now }
-{
-    (first_line(text), text)
-}
-
-/// The tokens with the line of the first, where the text does not end here.
-fn going_on<'a>(rest: &'a [Placed<'a>]) -> Option<(u64, &'a [Placed<'a>])>
-    ensures { MatchOption result (IsOver (placed_views rest.now)) (λ x. (x.0 ≡ line_of (placed_views rest.now)) × (x.1.now ≡ rest.now) × NoOver (placed_views rest.now)) }
-{
-    match over(rest) {
-        Some(_) => None,
-        None => Some(here(rest)),
+    // All of the text: the check wants a part of it here, as each turn of the loop gives it.
+    let (_, mut rest) = text.split_at(0);
+    loop {
+        match after_end(rest) {
+            Some(after) => return Ok((parts, after)),
+            None => {
+                let (next, others) = part(alloc, rest)?;
+                parts.push(next)?;
+                rest = others;
+            }
+        }
     }
 }
 
-/// A directive or a rule that begins in this line.
-#[tactic(auto, using(crate::proofs::Listings::part_steps))]
+/// A directive or a rule.
+#[tactic(auto, using(crate::proofs::Listings::begins_rule))]
 fn part<'a, A: Allocator + Copy>(
     alloc: A,
-    line: u64,
     text: &'a [Placed<'a>],
 ) -> Result<(Part<A>, &'a [Placed<'a>]), Halt<'a>>
-    requires begun { NoOver (placed_views text.now) }
-    requires line { line ≡ line_of (placed_views text.now) }
+    requires { NoOver (placed_views text.now) }
     ensures reads { ReadsPart (placed_views text.now) result }
     ensures shorter { IfOk result (λ x. length x.1.now < length text.now) }
 {
-    match behind(text, Sign::Declares) {
-        Some((_, after)) => directive(alloc, line, after),
+    let line = first_line(text);
+    match after_sign(text, Sign::Declares) {
+        Some(after) => directive(alloc, line, after),
         None => {
             let (found, rest) = rule(alloc, text)?;
             Ok((Part::Rule(line, found), rest))
@@ -144,24 +115,26 @@ fn part<'a, A: Allocator + Copy>(
 fn first_line(text: &[Placed<'_>]) -> u64
     ensures { result ≡ line_of (placed_views text.now) }
 {
-    match split(text) {
+    match split_first(text) {
         Some((first, _)) => first.place.line,
         None => 0,
     }
 }
 
-/// What stands behind the end of the text, where that comes first.
-fn over<'a>(rest: &'a [Placed<'a>]) -> Option<(Place, &'a [Placed<'a>])>
-    ensures { MatchOption result (NoOver (placed_views rest.now)) (λ x. placed_views rest.now ≡ at (place_view x.0) over_token ∷ placed_views x.1.now) }
+/// What stands after the end of the text, where that comes first.
+fn after_end<'a>(rest: &'a [Placed<'a>]) -> Option<&'a [Placed<'a>]>
+    ensures { MatchOption result (NoOver (placed_views rest.now))
+        (λ after. BeginsWith (placed_views rest.now) over (placed_views after.now)) }
 {
-    let (first, others) = split(rest)?;
+    let (first, others) = split_first(rest)?;
     match first.token {
-        Token::Over => Some((first.place, others)),
+        Token::Over => Some(others),
         _ => None,
     }
 }
 
 /// A query.
+#[tactic(auto, using(crate::proofs::Listings::asking_begins))]
 fn query<'a, A: Allocator + Copy>(
     alloc: A,
     text: &'a [Placed<'a>],
@@ -169,14 +142,11 @@ fn query<'a, A: Allocator + Copy>(
     ensures { ReadsQuery (placed_views text.now) result }
 {
     let line = first_line(text);
-    let (items, end) = match items(alloc, text) {
-        Ok(found) => found,
-        Err(halt) => return Err(halt),
-    };
-    let Some((_, last)) = behind(end, Sign::Stop) else {
+    let (items, end) = items(alloc, text)?;
+    let Some(last) = after_sign(end, Sign::Stop) else {
         return Err(Halt::Expected(end));
     };
-    let Some((_, after)) = over(last) else {
+    let Some(after) = after_end(last) else {
         return Err(Halt::Expected(last));
     };
     if after.is_empty() {
@@ -186,48 +156,23 @@ fn query<'a, A: Allocator + Copy>(
     }
 }
 
-/// Why bytes have no characters.
-fn unreadable(unread: Unread) -> ReadError
-    ensures { IsUnreadable unread result }
-{
-    let kind = match unread {
-        Unread::NotUtf8 => ReadFault::NotUtf8,
-        Unread::TooLong => ReadFault::TooLong,
-        Unread::Memory => ReadFault::Memory,
-    };
-    ReadError {
-        kind,
-        line: 0,
-        column: 0,
-    }
-}
-
-fn want_of_memory() -> ReadError
-    ensures { IsWant result }
-{
-    ReadError {
-        kind: ReadFault::Memory,
-        line: 0,
-        column: 0,
-    }
-}
-
 /// Why and where a reading halted.
-fn halted(halt: Halt<'_>) -> ReadError
-    requires { Points halt }
-    ensures { IsHalted halt.entry result }
+fn error_of(halt: Halt<'_>) -> ReadError
+    requires { PointsToToken halt }
+    ensures { IsErrorOfHalt halt.entry result }
 {
     match halt {
-        Halt::Memory => want_of_memory(),
+        Halt::Memory => ReadError::without_place(ReadErrorKind::Memory),
         Halt::Expected(rest) => {
             let first = rest[0];
             error_at(kind_of(first.token), first.place)
         }
-        Halt::TooDeep(rest) => error_at(ReadFault::TooDeep, rest[0].place),
+        Halt::TooDeep(rest) => error_at(ReadErrorKind::TooDeep, rest[0].place),
     }
 }
 
-fn error_at(kind: ReadFault, place: Place) -> ReadError
+/// An error of this kind at this place.
+fn error_at(kind: ReadErrorKind, place: Place) -> ReadError
     ensures kind { result.kind ≡ kind }
     ensures place { place_of result ≡ place_view place }
 {
@@ -239,17 +184,17 @@ fn error_at(kind: ReadFault, place: Place) -> ReadError
 }
 
 /// What is wrong where no text goes on with this token.
-fn kind_of(token: Token<'_>) -> ReadFault
+fn kind_of(token: Token<'_>) -> ReadErrorKind
     ensures { IsKind (token_view token.entry) result }
 {
     match token {
-        Token::Fault(Fault::BadCharacter) => ReadFault::BadChar,
-        Token::Fault(Fault::UnclosedComment) => ReadFault::UnclosedComment,
-        Token::Fault(Fault::TooLarge) => ReadFault::NumberTooLarge,
+        Token::Fault(Fault::BadCharacter) => ReadErrorKind::BadChar,
+        Token::Fault(Fault::UnclosedComment) => ReadErrorKind::UnclosedComment,
+        Token::Fault(Fault::TooLarge) => ReadErrorKind::NumberTooLarge,
         Token::Number { signed: _, value } => match number(value) {
-            Some(_) => ReadFault::Expected,
-            None => ReadFault::NumberTooLarge,
+            Some(_) => ReadErrorKind::Expected,
+            None => ReadErrorKind::NumberTooLarge,
         },
-        _ => ReadFault::Expected,
+        _ => ReadErrorKind::Expected,
     }
 }

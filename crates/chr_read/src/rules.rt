@@ -1,12 +1,12 @@
 //! Rules.
 ghost use Rattle.std.specs.Prelude.{◌≡◌, ◌<◌, ◌≤◌, IfOk, length, string_bytes};
-ghost use Rattle.chr_tokens.specs.View.{placed_views};
+ghost use Rattle.chr_tokens.specs.TokenView.{placed_views};
 ghost use Rattle.chr_read.specs.Parts.{BeginsRule, ReadsBody, ReadsFront, ReadsLabel, ReadsRule};
 
 use crate::halt::Halt;
 use crate::items::{heads, items};
 use crate::syntax::{Arrow, Head, Item, RuleSyntax};
-use crate::words::{arrow, behind, name, spelled};
+use crate::words::{after_sign, arrow, name, string_of};
 use chr_tokens::{Placed, Sign};
 use std::alloc::Allocator;
 
@@ -18,7 +18,7 @@ struct Front<A: Allocator> {
     arrow: Arrow,
 }
 
-/// What stands behind a rule's arrow.
+/// What stands after a rule's arrow.
 #[derive(Drop)]
 struct Body<A: Allocator> {
     guard: Vec<Item<A>, A>,
@@ -36,20 +36,16 @@ pub(crate) fn rule<'a, A: Allocator + Copy>(
 {
     let (label, start) = label(alloc, text)?;
     let (front, rest) = all_heads(alloc, start)?;
-    match guard_and_body(alloc, rest) {
-        Ok((whole, rest)) => {
-            let rule = RuleSyntax {
-                label,
-                heads: front.heads,
-                behind: front.behind,
-                arrow: front.arrow,
-                guard: whole.guard,
-                body: whole.body,
-            };
-            Ok((rule, rest))
-        }
-        Err(halt) => Err(halt),
-    }
+    let (body, rest) = guard_and_body(alloc, rest)?;
+    let rule = RuleSyntax {
+        label,
+        heads: front.heads,
+        behind: front.behind,
+        arrow: front.arrow,
+        guard: body.guard,
+        body: body.body,
+    };
+    Ok((rule, rest))
 }
 
 /// The name of a rule, where it has one.
@@ -62,11 +58,11 @@ fn label<'a, A: Allocator + Copy>(
     ensures reads { ReadsLabel string_bytes (placed_views text.now) result }
     ensures shorter { IfOk result (λ x. length x.1.now ≤ length text.now) }
 {
-    let Some((_, word, mark)) = name(text) else {
+    let Some((word, mark)) = name(text) else {
         return Ok((None, text));
     };
-    match behind(mark, Sign::Label) {
-        Some((_, after)) => Ok((Some(spelled(alloc, word)?), after)),
+    match after_sign(mark, Sign::Label) {
+        Some(after) => Ok((Some(string_of(alloc, word)?), after)),
         None => Ok((None, text)),
     }
 }
@@ -81,7 +77,7 @@ fn all_heads<'a, A: Allocator + Copy>(
     ensures shorter { IfOk result (λ x. length x.1.now < length text.now) }
 {
     let (first, end) = heads(alloc, text)?;
-    match behind(end, Sign::Backslash) {
+    match after_sign(end, Sign::Backslash) {
         None => {
             let (arrow, after) = arrow(end)?;
             let behind = Vec::new(alloc);
@@ -94,7 +90,7 @@ fn all_heads<'a, A: Allocator + Copy>(
                 after,
             ))
         }
-        Some((_, others)) => {
+        Some(others) => {
             let (second, end) = heads(alloc, others)?;
             let (arrow, after) = arrow(end)?;
             Ok((
@@ -119,16 +115,16 @@ fn guard_and_body<'a, A: Allocator + Copy>(
     ensures shorter { IfOk result (λ x. length x.1.now < length text.now) }
 {
     let (first, end) = items(alloc, text)?;
-    if let Some((_, after)) = behind(end, Sign::Stop) {
+    if let Some(after) = after_sign(end, Sign::Stop) {
         let guard = Vec::new(alloc);
         return Ok((Body { guard, body: first }, after));
     }
-    let Some((_, after)) = behind(end, Sign::Bar) else {
+    let Some(after) = after_sign(end, Sign::Bar) else {
         return Err(Halt::Expected(end));
     };
     let (second, end) = items(alloc, after)?;
-    match behind(end, Sign::Stop) {
-        Some((_, after)) => Ok((
+    match after_sign(end, Sign::Stop) {
+        Some(after) => Ok((
             Body {
                 guard: first,
                 body: second,

@@ -14,9 +14,9 @@ pub enum Expr<A: Allocator = Global> {
     Call(String<A>, Vec<Expr<A>, A>),
     /// `[a, b]`
     List(Vec<Expr<A>, A>),
-    /// `[a, b | end]`: the elements, and what stands behind the bar.
+    /// `[a, b | end]`: the elements, and what stands after the bar.
     ListWithEnd(Vec<Expr<A>, A>, Box<Expr<A>, A>),
-    /// `a + b - c`: the first operand, and from the left each operator with the operand behind it.
+    /// `a + b - c`: the first operand, and from the left each operator with the operand after it.
     Sum(Box<Expr<A>, A>, Vec<(Additive, Expr<A>), A>),
     /// `a * b // c`, as a sum.
     Product(Box<Expr<A>, A>, Vec<(Multiplicative, Expr<A>), A>),
@@ -56,7 +56,7 @@ pub struct RuleSyntax<A: Allocator = Global> {
     pub label: Option<String<A>>,
     /// The heads before `\`, or all of them.
     pub heads: Vec<Head<A>, A>,
-    /// The heads behind `\`: none where there is no `\`.
+    /// The heads after `\`: none where there is no `\`.
     pub behind: Vec<Head<A>, A>,
     /// The arrow.
     pub arrow: Arrow,
@@ -69,7 +69,9 @@ pub struct RuleSyntax<A: Allocator = Global> {
 /// A declared symbol, `name/arity`.
 #[derive(Drop)]
 pub struct Declaration<A: Allocator = Global> {
+    /// Its name.
     pub name: String<A>,
+    /// How many arguments it has.
     pub arity: u128,
 }
 
@@ -87,6 +89,7 @@ pub enum Part<A: Allocator = Global> {
 /// What a program's text spells: its parts in their order.
 #[derive(Drop)]
 pub struct ProgramSyntax<A: Allocator = Global> {
+    /// Its parts.
     pub parts: Vec<Part<A>, A>,
 }
 

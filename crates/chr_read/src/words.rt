@@ -2,19 +2,20 @@
 ghost use Rattle.std.specs.Prelude.{◌≡◌, ◌≢◌, ◌∷◌, [], IfOk, IfSome, MatchOption, MatchResult, length, ◌+◌, ◌<◌, bytes_eq, neg_ℤ, pos, string_bytes, true};
 ghost use Rattle.std.specs.Str.{encode_utf8_all};
 ghost use Rattle.chr_semantics.specs.Grammar.{is_magnitude, is_number};
-ghost use Rattle.chr_semantics.specs.Tokens.{additive as additive_token, at, multiplicative as multiplicative_token, name as name_token, relation as relation_token, sign as sign_token};
-ghost use Rattle.chr_tokens.specs.View.{additive_view, multiplicative_view, place_view, placed_view, placed_views, relation_view, sign_view};
-ghost use Rattle.chr_read.specs.Reads.{IsArrow, Lacks, NoAdditive, NoArrow, NoMultiplicative, NoName, NoRelation};
-ghost use Rattle.chr_read.specs.View.{arrow_view};
+ghost use Rattle.chr_semantics.specs.Grammar.{arrow_sign};
+ghost use Rattle.chr_semantics.specs.Tokens.{additive as additive_token, multiplicative as multiplicative_token, name as name_token, relation as relation_token, sign as sign_token};
+ghost use Rattle.chr_tokens.specs.TokenView.{additive_view, multiplicative_view, placed_view, placed_views, relation_view, sign_view};
+ghost use Rattle.chr_read.specs.Reads.{BeginsWith, Lacks, NoAdditive, NoArrow, NoMultiplicative, NoName, NoRelation};
+ghost use Rattle.chr_read.specs.SyntaxView.{arrow_view};
 ghost use Rattle.chr_read.specs.declared.halt.Halt.TheVariants.{Expected};
 
 use crate::halt::Halt;
 use crate::syntax::Arrow;
-use chr_tokens::{Additive, Memory, Multiplicative, Place, Placed, Relation, Sign, Token};
+use chr_tokens::{Additive, Memory, Multiplicative, Placed, Relation, Sign, Token};
 use std::alloc::Allocator;
 
 /// A word as a string.
-pub(crate) fn spelled<A: Allocator + Copy>(alloc: A, word: &[char]) -> Result<String<A>, Memory>
+pub(crate) fn string_of<A: Allocator + Copy>(alloc: A, word: &[char]) -> Result<String<A>, Memory>
     ensures { IfOk result (λ name. string_bytes name ≡ encode_utf8_all word.now) }
 {
     let mut name = String::new(alloc);
@@ -39,9 +40,10 @@ pub(crate) fn is_word(word: &[char], wanted: &[u8]) -> bool
 
 /// A NUMBER without a sign.
 pub(crate) fn number(value: u128) -> Option<i128>
-    ensures { MatchOption result (is_number value ≢ true) (λ number. (is_number value ≡ true) × (number ≡ pos value)) }
+    ensures { MatchOption result (is_number value ≢ true)
+        (λ number. (is_number value ≡ true) × (number ≡ pos value)) }
 {
-    if value <= 170141183460469231731687303715884105727 {
+    if value <= i128::MAX as u128 {
         Some(value as i128)
     } else {
         None
@@ -50,9 +52,10 @@ pub(crate) fn number(value: u128) -> Option<i128>
 
 /// The digits of a NUMBER with a sign.
 pub(crate) fn negative(value: u128) -> Option<i128>
-    ensures { MatchOption result (is_magnitude value ≢ true) (λ number. (is_magnitude value ≡ true) × (number ≡ neg_ℤ (pos value))) }
+    ensures { MatchOption result (is_magnitude value ≢ true)
+        (λ number. (is_magnitude value ≡ true) × (number ≡ neg_ℤ (pos value))) }
 {
-    if value == 170141183460469231731687303715884105728 {
+    if value == i128::MIN.unsigned_abs() {
         return Some(i128::MIN);
     }
     match number(value) {
@@ -61,9 +64,10 @@ pub(crate) fn negative(value: u128) -> Option<i128>
     }
 }
 
-/// The first token, and those behind it.
-pub(crate) fn split<'a>(rest: &'a [Placed<'a>]) -> Option<(Placed<'a>, &'a [Placed<'a>])>
-    ensures first { MatchOption result (rest.now ≡ []) (λ x. placed_views rest.now ≡ placed_view x.0 ∷ placed_views x.1.now) }
+/// The first token, and those after it.
+pub(crate) fn split_first<'a>(rest: &'a [Placed<'a>]) -> Option<(Placed<'a>, &'a [Placed<'a>])>
+    ensures first { MatchOption result (rest.now ≡ [])
+        (λ x. placed_views rest.now ≡ placed_view x.0 ∷ placed_views x.1.now) }
     ensures shorter { IfSome result (λ x. length x.1.now + 1 ≡ length rest.now) }
 {
     match rest {
@@ -72,32 +76,30 @@ pub(crate) fn split<'a>(rest: &'a [Placed<'a>]) -> Option<(Placed<'a>, &'a [Plac
     }
 }
 
-/// What stands behind the sign, where it comes first, and its place.
-pub(crate) fn behind<'a>(rest: &'a [Placed<'a>], wanted: Sign) -> Option<(Place, &'a [Placed<'a>])>
-    ensures first { MatchOption result (Lacks (sign_view wanted) (placed_views rest.now)) (λ x. placed_views rest.now ≡ at (place_view x.0) (sign_token (sign_view wanted)) ∷ placed_views x.1.now) }
-    ensures shorter { IfSome result (λ x. length x.1.now + 1 ≡ length rest.now) }
+/// What stands after the sign, where it comes first.
+pub(crate) fn after_sign<'a>(rest: &'a [Placed<'a>], wanted: Sign) -> Option<&'a [Placed<'a>]>
+    ensures first { MatchOption result (Lacks (sign_view wanted) (placed_views rest.now))
+        (λ after. BeginsWith (placed_views rest.now) (sign_token (sign_view wanted))
+        (placed_views after.now)) }
+    ensures shorter { IfSome result (λ after. length after.now + 1 ≡ length rest.now) }
 {
-    let (first, others) = split(rest)?;
+    let (first, others) = split_first(rest)?;
     match first.token {
-        Token::Sign(sign) => {
-            if sign == wanted {
-                Some((first.place, others))
-            } else {
-                None
-            }
-        }
+        Token::Sign(sign) => { if sign == wanted { Some(others) } else { None } }
         _ => None,
     }
 }
 
-/// A `+` or `-`, where one comes first, with its place and what stands behind.
-pub(crate) fn additive<'a>(rest: &'a [Placed<'a>]) -> Option<(Place, Additive, &'a [Placed<'a>])>
-    ensures first { MatchOption result (NoAdditive (placed_views rest.now)) (λ x. placed_views rest.now ≡ at (place_view x.0) (additive_token (additive_view x.1)) ∷ placed_views x.2.now) }
-    ensures shorter { IfSome result (λ x. length x.2.now + 1 ≡ length rest.now) }
+/// A `+` or `-`, where one comes first, and what stands after it.
+pub(crate) fn additive<'a>(rest: &'a [Placed<'a>]) -> Option<(Additive, &'a [Placed<'a>])>
+    ensures first { MatchOption result (NoAdditive (placed_views rest.now))
+        (λ x. BeginsWith (placed_views rest.now) (additive_token (additive_view x.0))
+        (placed_views x.1.now)) }
+    ensures shorter { IfSome result (λ x. length x.1.now + 1 ≡ length rest.now) }
 {
-    let (first, others) = split(rest)?;
+    let (first, others) = split_first(rest)?;
     match first.token {
-        Token::Additive(operator) => Some((first.place, operator, others)),
+        Token::Additive(operator) => Some((operator, others)),
         _ => None,
     }
 }
@@ -105,50 +107,59 @@ pub(crate) fn additive<'a>(rest: &'a [Placed<'a>]) -> Option<(Place, Additive, &
 /// A `*`, `//` or `mod`, as `additive`.
 pub(crate) fn multiplicative<'a>(
     rest: &'a [Placed<'a>],
-) -> Option<(Place, Multiplicative, &'a [Placed<'a>])>
-    ensures first { MatchOption result (NoMultiplicative (placed_views rest.now)) (λ x. placed_views rest.now ≡ at (place_view x.0) (multiplicative_token (multiplicative_view x.1)) ∷ placed_views x.2.now) }
-    ensures shorter { IfSome result (λ x. length x.2.now + 1 ≡ length rest.now) }
+) -> Option<(Multiplicative, &'a [Placed<'a>])>
+    ensures first { MatchOption result (NoMultiplicative (placed_views rest.now))
+        (λ x. BeginsWith (placed_views rest.now) (multiplicative_token (multiplicative_view x.0))
+        (placed_views x.1.now)) }
+    ensures shorter { IfSome result (λ x. length x.1.now + 1 ≡ length rest.now) }
 {
-    let (first, others) = split(rest)?;
+    let (first, others) = split_first(rest)?;
     match first.token {
-        Token::Multiplicative(operator) => Some((first.place, operator, others)),
+        Token::Multiplicative(operator) => Some((operator, others)),
         _ => None,
     }
 }
 
 /// What stands between two expressions of an item, as `additive`.
-pub(crate) fn relation<'a>(rest: &'a [Placed<'a>]) -> Option<(Place, Relation, &'a [Placed<'a>])>
-    ensures first { MatchOption result (NoRelation (placed_views rest.now)) (λ x. placed_views rest.now ≡ at (place_view x.0) (relation_token (relation_view x.1)) ∷ placed_views x.2.now) }
-    ensures shorter { IfSome result (λ x. length x.2.now + 1 ≡ length rest.now) }
+pub(crate) fn relation<'a>(rest: &'a [Placed<'a>]) -> Option<(Relation, &'a [Placed<'a>])>
+    ensures first { MatchOption result (NoRelation (placed_views rest.now))
+        (λ x. BeginsWith (placed_views rest.now) (relation_token (relation_view x.0))
+        (placed_views x.1.now)) }
+    ensures shorter { IfSome result (λ x. length x.1.now + 1 ≡ length rest.now) }
 {
-    let (first, others) = split(rest)?;
+    let (first, others) = split_first(rest)?;
     match first.token {
-        Token::Relation(relation) => Some((first.place, relation, others)),
+        Token::Relation(relation) => Some((relation, others)),
         _ => None,
     }
 }
 
 /// A NAME, as `additive`.
-pub(crate) fn name<'a>(rest: &'a [Placed<'a>]) -> Option<(Place, &'a [char], &'a [Placed<'a>])>
-    ensures first { MatchOption result (NoName (placed_views rest.now)) (λ x. placed_views rest.now ≡ at (place_view x.0) (name_token x.1.now) ∷ placed_views x.2.now) }
-    ensures shorter { IfSome result (λ x. length x.2.now + 1 ≡ length rest.now) }
+pub(crate) fn name<'a>(rest: &'a [Placed<'a>]) -> Option<(&'a [char], &'a [Placed<'a>])>
+    ensures first { MatchOption result (NoName (placed_views rest.now))
+        (λ x. BeginsWith (placed_views rest.now) (name_token x.0.now) (placed_views x.1.now)) }
+    ensures shorter { IfSome result (λ x. length x.1.now + 1 ≡ length rest.now) }
 {
-    let (first, others) = split(rest)?;
+    let (first, others) = split_first(rest)?;
     match first.token {
-        Token::Name(word) => Some((first.place, word, others)),
+        Token::Name(word) => Some((word, others)),
         _ => None,
     }
 }
 
 /// An arrow, as `additive`, but refused where none comes first.
 pub(crate) fn arrow<'a>(rest: &'a [Placed<'a>]) -> Result<(Arrow, &'a [Placed<'a>]), Halt<'a>>
-    ensures { MatchResult result (λ x. IsArrow (placed_views rest.now) (arrow_view x.0) (placed_views x.1.now) × (length x.1.now < length rest.now)) (λ e. (e ≡ Expected rest.entry) × NoArrow (placed_views rest.now)) }
+    ensures first { MatchResult result
+        (λ x. BeginsWith (placed_views rest.now) (sign_token (arrow_sign (arrow_view x.0)))
+        (placed_views x.1.now))
+        (λ e. (e ≡ Expected rest.entry) × NoArrow (placed_views rest.now)) }
+    ensures shorter { IfOk result (λ x. length x.1.now < length rest.now) }
 {
-    if let Some((_, after)) = behind(rest, Sign::Simplifies) {
+    if let Some(after) = after_sign(rest, Sign::Simplifies) {
         return Ok((Arrow::Simplification, after));
     }
-    match behind(rest, Sign::Propagates) {
-        Some((_, after)) => Ok((Arrow::Propagation, after)),
+    match after_sign(rest, Sign::Propagates) {
+        Some(after) => Ok((Arrow::Propagation, after)),
         None => Err(Halt::Expected(rest)),
     }
 }

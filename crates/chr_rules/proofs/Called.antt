@@ -2,7 +2,7 @@
 use Rattle.std.proofs.Common.{◌≤◌, arith, length, Some, None, ◌≡◌, ◌∙◌, ◌||◌, ℕ, List, [], ◌∷◌, Bool, true, false, if◌then◌else◌, refl, ap, sym}
 use Rattle.chr_semantics.specs.Syntax.{Expr, Exprs, exprs_of, plain}
 use Rattle.std.specs.Prelude.{OnOk, Result, Ok, Err}
-use Rattle.chr_read.specs.View.{views}
+use Rattle.chr_read.specs.SyntaxView.{views}
 use Rattle.chr_read.specs.declared.syntax.Expr.{Expr as Code}
 use Rattle.chr_semantics.specs.Program.{Goal, constraint, fail}
 use Rattle.chr_semantics.specs.Meaning.{Scope, atom_from, call_of, count, head_of, test_of, goal_of, is_fail, is_ground_test, is_integer_test, is_true}

@@ -7,7 +7,7 @@ use Rattle.chr_semantics.specs.Program as semantics
 use Rattle.chr_semantics.specs.Program.{Head, places_from, occurrences_in, occurrences_from}
 use Rattle.chr_term.specs.declared.term.Sym.{Sym}
 use Rattle.chr_term.specs.declared.term.Term.{Term}
-use Rattle.chr_rules.specs.View.{flag_at, heads_from, rule_view, rules_view}
+use Rattle.chr_rules.specs.RuleView.{flag_at, heads_from, rule_view, rules_view}
 use Rattle.chr_rules.specs.declared.rule.Rule.{Rule}
 use Rattle.std.proofs.lemmas.Grind.{common_steps}
 use Rattle.chr_rules.specs.Index.{listed, pair_view, pairs_of}

@@ -6,7 +6,8 @@ use Rattle.chr_semantics.specs.Names.{pair_symbol}
 use Rattle.chr_term.specs.declared.term.Sym.{Sym}
 use Rattle.chr_term.specs.declared.term.Term.{Term}
 use Rattle.chr_rules.specs.Turns.{listed}
-use Rattle.chr_rules.specs.View.{atom_view, flag_at, heads_from}
+use Rattle.chr_term.specs.TermView.{atom_view}
+use Rattle.chr_rules.specs.RuleView.{flag_at, heads_from}
 
 flag_before : (flags : List Bool) (p : Bool) (k : ℕ) → k < length flags → flag_at (flags ++ p ∷ []) k ≡ flag_at flags k
 flag_before [] p k h = absurd (omega (arith, h))

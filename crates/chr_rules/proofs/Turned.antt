@@ -3,7 +3,7 @@ use Rattle.std.proofs.Common.{rules, Vec, ◌≡◌, ◌∙◌, ◌<◌, ◌+◌
 use Rattle.std.specs.Prelude.{unwrap_or}
 use Rattle.std.proofs.lemmas.Grind.{common_steps}
 use Rattle.std.specs.Prelude.{IfOk, Result, Ok, Err}
-use Rattle.chr_term.specs.View.{view as tree_view, trees_view}
+use Rattle.chr_term.specs.TermView.{view as tree_view, trees_view}
 use Rattle.chr_term.specs.declared.term.Sym.{Sym}
 use Rattle.chr_term.specs.declared.term.Term.{Term, the_lemmas}
 use Rattle.chr_term.specs.declared.term.Term.TheVariants.{Node}
@@ -12,10 +12,10 @@ use Rattle.chr_semantics.specs.Names.{Names, symbol_of, with_symbol}
 use Rattle.chr_semantics.specs.Syntax as s
 use Rattle.chr_semantics.specs.Syntax.{Expr, exprs_of, list}
 use Rattle.chr_semantics.specs.Meaning.{Scope, additive_symbol, atom_from, count, in_turn, multiplicative_symbol, node_of, scope, symbol_in, tree_from, trees_from, with_name, with_turn}
-use Rattle.chr_tokens.specs.View.{additive_view, multiplicative_view}
+use Rattle.chr_tokens.specs.TokenView.{additive_view, multiplicative_view}
 use Rattle.chr_tokens.specs.declared.token.Additive.{Additive}
 use Rattle.chr_tokens.specs.declared.token.Multiplicative.{Multiplicative}
-use Rattle.chr_read.specs.View.{additive_operands, multiplicative_operands, products, sums, view}
+use Rattle.chr_read.specs.SyntaxView.{operand_views, products, sums, view}
 use Rattle.chr_read.specs.declared.syntax.Expr.{Expr as Code}
 use Rattle.chr_rules.specs.Turns.{factors_from, listed, summands_from, tree_turn}
 
@@ -57,11 +57,11 @@ atom_made names vars w es n f names' q a b c d =
     ∙ ap (λ t. ((trees_from t (exprs_of es)).0, record { sym = symbol_in t w (count (exprs_of es)); args = (trees_from t (exprs_of es)).1 })) (sym inner)
 
 -- chains
-pub sums_made : {A : Type 0} (here : Scope) (e : Expr) (xs : List (Additive × Code A)) → tree_from here (sums e (additive_operands xs)) ≡ summands_from (tree_from here e) xs
+pub sums_made : {A : Type 0} (here : Scope) (e : Expr) (xs : List (Additive × Code A)) → tree_from here (sums e (operand_views xs)) ≡ summands_from (tree_from here e) xs
 sums_made here e [] = refl
 sums_made here e (x ∷ xs) = sums_made here (s.sum (additive_view x.0) e (view x.1)) xs
 
-pub products_made : {A : Type 0} (here : Scope) (e : Expr) (xs : List (Multiplicative × Code A)) → tree_from here (products e (multiplicative_operands xs)) ≡ factors_from (tree_from here e) xs
+pub products_made : {A : Type 0} (here : Scope) (e : Expr) (xs : List (Multiplicative × Code A)) → tree_from here (products e (operand_views xs)) ≡ factors_from (tree_from here e) xs
 products_made here e [] = refl
 products_made here e (x ∷ xs) = products_made here (s.product (multiplicative_view x.0) e (view x.1)) xs
 

@@ -8,8 +8,8 @@ use Rattle.chr_semantics.specs.Syntax as s
 use Rattle.chr_semantics.specs.Syntax.{Expr, exprs_of, list}
 use Rattle.chr_semantics.specs.Meaning.{call_of, count}
 use Rattle.chr_semantics.specs.Checked.{are_free, are_wide, is_free, is_wide}
-use Rattle.chr_tokens.specs.View.{additive_view, multiplicative_view}
-use Rattle.chr_read.specs.View.{additive_operands, multiplicative_operands, products, sums, view, views}
+use Rattle.chr_tokens.specs.TokenView.{additive_view, multiplicative_view}
+use Rattle.chr_read.specs.SyntaxView.{operand_views, products, sums, view, views}
 use Rattle.chr_read.proofs.Views.{view-Call, view-List, view-ListWithEnd, view-Product, view-Sum}
 use Rattle.chr_read.specs.declared.syntax.Expr.TheVariants.{Call, List as Listed, ListWithEnd, Sum, Product}
 use Rattle.std.specs.Prelude.{box_value, nat_lt, string_bytes}
@@ -41,11 +41,11 @@ pub is_wide_list : (es : List Expr) (end : Expr) → is_wide (list es end) ≡ (
 is_wide_list [] end = refl
 is_wide_list (e ∷ es) end = ap (λ b. is_wide e || b) (is_wide_list es end) ∙ or_assoc (is_wide e) (are_wide (exprs_of es)) (is_wide end)
 
-pub is_wide_sums : {A : Type 0} (e : Expr) (xs : List (Additive × Code A)) → is_wide (sums e (additive_operands xs)) ≡ (is_wide e || list_any is_wide (operands xs))
+pub is_wide_sums : {A : Type 0} (e : Expr) (xs : List (Additive × Code A)) → is_wide (sums e (operand_views xs)) ≡ (is_wide e || list_any is_wide (operands xs))
 is_wide_sums e [] = or_false (is_wide e)
 is_wide_sums e (x ∷ xs) = is_wide_sums (s.sum (additive_view x.0) e (view x.1)) xs ∙ sym (or_assoc (is_wide e) (is_wide (view x.1)) (list_any is_wide (operands xs)))
 
-pub is_wide_products : {A : Type 0} (e : Expr) (xs : List (Multiplicative × Code A)) → is_wide (products e (multiplicative_operands xs)) ≡ (is_wide e || list_any is_wide (operands xs))
+pub is_wide_products : {A : Type 0} (e : Expr) (xs : List (Multiplicative × Code A)) → is_wide (products e (operand_views xs)) ≡ (is_wide e || list_any is_wide (operands xs))
 is_wide_products e [] = or_false (is_wide e)
 is_wide_products e (x ∷ xs) = is_wide_products (s.product (multiplicative_view x.0) e (view x.1)) xs ∙ sym (or_assoc (is_wide e) (is_wide (view x.1)) (list_any is_wide (operands xs)))
 
@@ -53,11 +53,11 @@ pub is_free_list : (vs : List (List ℕ)) (es : List Expr) (end : Expr) → is_f
 is_free_list vs [] end = refl
 is_free_list vs (e ∷ es) end = ap (λ b. is_free vs e || b) (is_free_list vs es end) ∙ or_assoc (is_free vs e) (are_free vs (exprs_of es)) (is_free vs end)
 
-pub is_free_sums : {A : Type 0} (vs : List (List ℕ)) (e : Expr) (xs : List (Additive × Code A)) → is_free vs (sums e (additive_operands xs)) ≡ (is_free vs e || list_any (is_free vs) (operands xs))
+pub is_free_sums : {A : Type 0} (vs : List (List ℕ)) (e : Expr) (xs : List (Additive × Code A)) → is_free vs (sums e (operand_views xs)) ≡ (is_free vs e || list_any (is_free vs) (operands xs))
 is_free_sums vs e [] = or_false (is_free vs e)
 is_free_sums vs e (x ∷ xs) = is_free_sums vs (s.sum (additive_view x.0) e (view x.1)) xs ∙ sym (or_assoc (is_free vs e) (is_free vs (view x.1)) (list_any (is_free vs) (operands xs)))
 
-pub is_free_products : {A : Type 0} (vs : List (List ℕ)) (e : Expr) (xs : List (Multiplicative × Code A)) → is_free vs (products e (multiplicative_operands xs)) ≡ (is_free vs e || list_any (is_free vs) (operands xs))
+pub is_free_products : {A : Type 0} (vs : List (List ℕ)) (e : Expr) (xs : List (Multiplicative × Code A)) → is_free vs (products e (operand_views xs)) ≡ (is_free vs e || list_any (is_free vs) (operands xs))
 is_free_products vs e [] = or_false (is_free vs e)
 is_free_products vs e (x ∷ xs) = is_free_products vs (s.product (multiplicative_view x.0) e (view x.1)) xs ∙ sym (or_assoc (is_free vs e) (is_free vs (view x.1)) (list_any (is_free vs) (operands xs)))
 
@@ -130,21 +130,21 @@ pub called_in_list_with_end : {A : Type 0} (e : Code A) (es : Vec (Code A) A) (e
 called_in_list_with_end {A} e es end h some = ap (λ x. call_of (view x)) h ∙ ap call_of (view-ListWithEnd A es end) ∙ called_some es.items (view (box_value end)) some
 
 pub called_in_operand : {A : Type 0} (e : Code A) (f : Box (Code A) A) (xs : Vec (Additive × Code A) A) → e ≡ Sum f xs → length xs.items ≡ 0 → call_of (view e) ≡ call_of (view (box_value f))
-called_in_operand {A} e f xs h none = ap (λ x. call_of (view x)) h ∙ ap call_of (view-Sum A f xs) ∙ ap (λ os. call_of (sums (view (box_value f)) (additive_operands os))) (no_items xs.items none)
+called_in_operand {A} e f xs h none = ap (λ x. call_of (view x)) h ∙ ap call_of (view-Sum A f xs) ∙ ap (λ os. call_of (sums (view (box_value f)) (operand_views os))) (no_items xs.items none)
 
-called_some_sums : {A : Type 0} (e : Expr) (xs : List (Additive × Code A)) → 0 < length xs → call_of (sums e (additive_operands xs)) ≡ None
+called_some_sums : {A : Type 0} (e : Expr) (xs : List (Additive × Code A)) → 0 < length xs → call_of (sums e (operand_views xs)) ≡ None
 called_some_sums e [] h = absurd (omega (arith, h))
-called_some_sums e (x ∷ xs) h = called_sums e (view x.1) (additive_view x.0) (additive_operands xs)
+called_some_sums e (x ∷ xs) h = called_sums e (view x.1) (additive_view x.0) (operand_views xs)
 
 pub called_in_sum : {A : Type 0} (e : Code A) (f : Box (Code A) A) (xs : Vec (Additive × Code A) A) → e ≡ Sum f xs → 0 < length xs.items → call_of (view e) ≡ None
 called_in_sum {A} e f xs h some = ap (λ x. call_of (view x)) h ∙ ap call_of (view-Sum A f xs) ∙ called_some_sums (view (box_value f)) xs.items some
 
 pub called_in_factor : {A : Type 0} (e : Code A) (f : Box (Code A) A) (xs : Vec (Multiplicative × Code A) A) → e ≡ Product f xs → length xs.items ≡ 0 → call_of (view e) ≡ call_of (view (box_value f))
-called_in_factor {A} e f xs h none = ap (λ x. call_of (view x)) h ∙ ap call_of (view-Product A f xs) ∙ ap (λ os. call_of (products (view (box_value f)) (multiplicative_operands os))) (no_items xs.items none)
+called_in_factor {A} e f xs h none = ap (λ x. call_of (view x)) h ∙ ap call_of (view-Product A f xs) ∙ ap (λ os. call_of (products (view (box_value f)) (operand_views os))) (no_items xs.items none)
 
-called_some_products : {A : Type 0} (e : Expr) (xs : List (Multiplicative × Code A)) → 0 < length xs → call_of (products e (multiplicative_operands xs)) ≡ None
+called_some_products : {A : Type 0} (e : Expr) (xs : List (Multiplicative × Code A)) → 0 < length xs → call_of (products e (operand_views xs)) ≡ None
 called_some_products e [] h = absurd (omega (arith, h))
-called_some_products e (x ∷ xs) h = called_products e (view x.1) (multiplicative_view x.0) (multiplicative_operands xs)
+called_some_products e (x ∷ xs) h = called_products e (view x.1) (multiplicative_view x.0) (operand_views xs)
 
 pub called_in_product : {A : Type 0} (e : Code A) (f : Box (Code A) A) (xs : Vec (Multiplicative × Code A) A) → e ≡ Product f xs → 0 < length xs.items → call_of (view e) ≡ None
 called_in_product {A} e f xs h some = ap (λ x. call_of (view x)) h ∙ ap call_of (view-Product A f xs) ∙ called_some_products (view (box_value f)) xs.items some
@@ -159,8 +159,8 @@ list_is {A} e es h = ap view h ∙ view-List A es
 pub list_with_end_is : {A : Type 0} (e : Code A) (es : Vec (Code A) A) (end : Box (Code A) A) → e ≡ ListWithEnd es end → view e ≡ list (views es.items) (view (box_value end))
 list_with_end_is {A} e es end h = ap view h ∙ view-ListWithEnd A es end
 
-pub sum_is : {A : Type 0} (e : Code A) (f : Box (Code A) A) (xs : Vec (Additive × Code A) A) → e ≡ Sum f xs → view e ≡ sums (view (box_value f)) (additive_operands xs.items)
+pub sum_is : {A : Type 0} (e : Code A) (f : Box (Code A) A) (xs : Vec (Additive × Code A) A) → e ≡ Sum f xs → view e ≡ sums (view (box_value f)) (operand_views xs.items)
 sum_is {A} e f xs h = ap view h ∙ view-Sum A f xs
 
-pub product_is : {A : Type 0} (e : Code A) (f : Box (Code A) A) (xs : Vec (Multiplicative × Code A) A) → e ≡ Product f xs → view e ≡ products (view (box_value f)) (multiplicative_operands xs.items)
+pub product_is : {A : Type 0} (e : Code A) (f : Box (Code A) A) (xs : Vec (Multiplicative × Code A) A) → e ≡ Product f xs → view e ≡ products (view (box_value f)) (operand_views xs.items)
 product_is {A} e f xs h = ap view h ∙ view-Product A f xs

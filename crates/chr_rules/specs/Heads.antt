@@ -1,7 +1,7 @@
 -- Heads as they are collected.
 use Rattle.std.specs.Prelude.{◌≡◌, List, length}
 use Rattle.chr_semantics.specs.Program.{Head}
-use Rattle.chr_rules.specs.View.{heads_view}
+use Rattle.chr_rules.specs.RuleView.{heads_view}
 use Rattle.chr_rules.specs.declared.goals.Heads.{Heads}
 
 abbrev pub heads_of : {A : Type 0} → Heads A → List Head

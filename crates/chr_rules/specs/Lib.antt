@@ -1,11 +1,13 @@
 pub mod Words
-pub mod View
+pub mod RuleView
 pub mod Heads
 pub mod Turns
 pub mod Operands
 pub mod Index
 pub mod Checks
 pub mod Building
-pub mod Standing
+pub mod ProgramView
+pub mod Signs
 pub mod Weight
 pub mod Grown
+pub mod ErrorText

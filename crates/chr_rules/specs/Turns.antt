@@ -4,10 +4,10 @@ use Rattle.chr_semantics.specs.Names.{pair_symbol}
 use Rattle.chr_semantics.specs.Tree.{Tree}
 use Rattle.chr_semantics.specs.Syntax.{Expr}
 use Rattle.chr_semantics.specs.Meaning.{Scope, additive_symbol, multiplicative_symbol, node_of, tree_from}
-use Rattle.chr_tokens.specs.View.{additive_view, multiplicative_view}
+use Rattle.chr_tokens.specs.TokenView.{additive_view, multiplicative_view}
 use Rattle.chr_tokens.specs.declared.token.Additive.{Additive}
 use Rattle.chr_tokens.specs.declared.token.Multiplicative.{Multiplicative}
-use Rattle.chr_read.specs.View.{view}
+use Rattle.chr_read.specs.SyntaxView.{view}
 use Rattle.chr_read.specs.declared.syntax.Expr.{Expr as Code}
 
 -- the tree of an expression, as one element

@@ -1,10 +1,10 @@
 //! Declarations and rules of a program, in their order.
 ghost use Rattle.std.specs.Prelude.{◌≡◌, [], IfErr, IfOk, Ok, OnOk};
 ghost use Rattle.chr_semantics.specs.Checked.{declare, declare_in, each, rule_in};
-ghost use Rattle.chr_read.specs.View.{declaration_view, declaration_views, part_view, part_views, rule_view as syntax_rule};
+ghost use Rattle.chr_read.specs.SyntaxView.{declaration_view, declaration_views, part_view, part_views, rule_view as syntax_rule};
 ghost use Rattle.chr_rules.specs.Building.{IsPlaced, checked_of, unless_mistaken};
 ghost use Rattle.chr_rules.specs.Checks.{IsError};
-ghost use Rattle.chr_rules.specs.View.{rules_view};
+ghost use Rattle.chr_rules.specs.RuleView.{rules_view};
 
 use crate::builtins::is_builtin;
 use crate::error::{RuleError, RuleErrorKind};
@@ -12,6 +12,7 @@ use crate::rule::Rule;
 use crate::rules::{count, rule};
 use crate::trees::symbol;
 use chr_read::{Declaration, Part, RuleSyntax};
+use chr_semantics::limits::MAX_ARITY;
 use chr_term::Names;
 use std::alloc::Allocator;
 
@@ -66,7 +67,7 @@ fn declare<A: Allocator + Copy>(
     ensures refused { IfErr result (λ e. IsError e (declare line names.old (declaration_view declaration.now))) }
 {
     let name = declaration.name.as_str();
-    if declaration.arity > 16 {
+    if declaration.arity > MAX_ARITY as u128 {
         return Err(error(RuleErrorKind::ArityTooLarge, line, 0));
     }
     let arity = declaration.arity as usize;

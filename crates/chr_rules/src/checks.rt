@@ -2,7 +2,7 @@
 ghost use Rattle.std.specs.Prelude.{◌≡◌, ◌++◌};
 ghost use Rattle.std.specs.List.{list_any};
 ghost use Rattle.chr_semantics.specs.Checked.{head_items, is_built_in, is_declared, is_free, is_guard_only, is_no_goal, is_no_test, is_undeclared, is_wide, items_of, on_sides};
-ghost use Rattle.chr_read.specs.View.{head_views, item_view, item_views, rule_view as syntax_rule};
+ghost use Rattle.chr_read.specs.SyntaxView.{head_views, item_view, item_views, rule_view as syntax_rule};
 ghost use Rattle.chr_rules.specs.Checks.{check_view};
 
 use crate::builtins::{is_builtin, is_ground_test, is_integer_test, is_test};
@@ -28,7 +28,7 @@ pub(crate) enum Check<'c, 's, A: Allocator> {
     Free(&'c Variables<'s, A>),
     /// A test that is no goal.
     GuardOnly,
-    /// A name with more than 16 arguments.
+    /// A name with more than `MAX_ARITY` arguments.
     Wide,
 }
 

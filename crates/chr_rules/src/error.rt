@@ -1,56 +1,83 @@
 //! Why a program or a query is not accepted, and where.
 ghost use Rattle.std.specs.Prelude.{◌≡◌};
-ghost use Rattle.chr_rules.specs.declared.error.RuleErrorKind.TheVariants.{Memory as WantOfMemory};
+ghost use Rattle.chr_rules.specs.declared.error.RuleErrorKind.TheVariants.{Memory as OutOfMemory};
 
 use std::alloc::{AllocError, AllocFailed};
-use thiserror::Error;
+use std::error::Error;
+use std::fmt;
 
-/// A mistake in a declaration, a rule or a query. Of several the first in this list is answered.
-#[derive(Clone, Copy, PartialEq, Eq, Debug, Drop, Error)]
+/// What is wrong with a declaration, a rule or a query. Of several the first in this list is answered. It is displayed as its name.
+#[derive(Clone, Copy, PartialEq, Eq, Debug, Drop)]
 pub enum RuleErrorKind {
     /// A head or a goal is a name that is neither built in nor declared.
-    #[error("Undeclared")]
     Undeclared,
     /// A head or a declared symbol is built in.
-    #[error("BuiltinInHead")]
     BuiltinInHead,
     /// A head or a goal is a variable, a number, a list or an arithmetic expression.
-    #[error("NotAGoal")]
     NotAGoal,
     /// An item of a guard is no test.
-    #[error("NotATest")]
     NotATest,
     /// A variable of a guard is in no head.
-    #[error("GuardVariable")]
     GuardVariable,
     /// A test that only a guard may have stands in a body or a query.
-    #[error("GuardOnly")]
     GuardOnly,
     /// An earlier rule has the name.
-    #[error("DuplicateName")]
     DuplicateName,
-    /// A rule has more than 8 heads.
-    #[error("TooManyHeads")]
+    /// A rule has more than `MAX_HEADS` heads.
     TooManyHeads,
-    /// A name is declared or stands with more than 16 arguments.
-    #[error("ArityTooLarge")]
+    /// A name is declared or stands with more than `MAX_ARITY` arguments.
     ArityTooLarge,
-    /// There are more than 1,024 rules.
-    #[error("TooManyRules")]
+    /// There are `MAX_RULES` rules before this one.
     TooManyRules,
     /// A rule has `\` and `==>`.
-    #[error("BackslashInPropagation")]
     BackslashInPropagation,
-    /// A rule has more than 64 variables, each `_` counted.
-    #[error("TooManyVariables")]
+    /// A rule has more than `MAX_RULE_VARIABLES` variables, each `_` counted.
     TooManyVariables,
     /// Memory was refused.
-    #[error("Memory")]
     Memory,
 }
 
+impl RuleErrorKind {
+    ghost use Rattle.std.specs.Prelude.{◌≡◌};
+    ghost use Rattle.chr_rules.specs.ErrorText.{rule_error_kind_text};
+
+    /// Its name.
+    pub fn word(self) -> &'static str
+        ensures { result.now ≡ rule_error_kind_text self }
+    {
+        match self {
+            RuleErrorKind::Undeclared => "Undeclared",
+            RuleErrorKind::BuiltinInHead => "BuiltinInHead",
+            RuleErrorKind::NotAGoal => "NotAGoal",
+            RuleErrorKind::NotATest => "NotATest",
+            RuleErrorKind::GuardVariable => "GuardVariable",
+            RuleErrorKind::GuardOnly => "GuardOnly",
+            RuleErrorKind::DuplicateName => "DuplicateName",
+            RuleErrorKind::TooManyHeads => "TooManyHeads",
+            RuleErrorKind::ArityTooLarge => "ArityTooLarge",
+            RuleErrorKind::TooManyRules => "TooManyRules",
+            RuleErrorKind::BackslashInPropagation => "BackslashInPropagation",
+            RuleErrorKind::TooManyVariables => "TooManyVariables",
+            RuleErrorKind::Memory => "Memory",
+        }
+    }
+}
+
+impl fmt::Display for RuleErrorKind {
+    ghost use Rattle.std.specs.Prelude.{Some};
+    ghost use Rattle.chr_rules.specs.ErrorText.{rule_error_kind_text};
+
+    ghost output = { λ kind. Some (rule_error_kind_text kind) };
+
+    fn fmt<W: fmt::Write>(&self, f: &mut fmt::Formatter<W>) -> fmt::Result {
+        f.write_str(self.word())
+    }
+}
+
+impl Error for RuleErrorKind {}
+
 impl From<AllocError> for RuleErrorKind {
-    ghost from_gives = { λ _ e. e ≡ WantOfMemory };
+    ghost from_gives = { λ _ e. e ≡ OutOfMemory };
 
     fn from(_error: AllocError) -> Self {
         RuleErrorKind::Memory
@@ -58,16 +85,15 @@ impl From<AllocError> for RuleErrorKind {
 }
 
 impl<T: Drop> From<AllocFailed<T>> for RuleErrorKind {
-    ghost from_gives = { λ _ e. e ≡ WantOfMemory };
+    ghost from_gives = { λ _ e. e ≡ OutOfMemory };
 
     fn from(_error: AllocFailed<T>) -> Self {
         RuleErrorKind::Memory
     }
 }
 
-/// A program or a query is not accepted: what is wrong first, and where.
-#[derive(Clone, Copy, PartialEq, Eq, Debug, Drop, Error)]
-#[error("line {line} rule {rule}: {kind}")]
+/// A program or a query is not accepted: what is wrong first, and where. It is displayed as `line LINE rule K: KIND`.
+#[derive(Clone, Copy, PartialEq, Eq, Debug, Drop)]
 pub struct RuleError {
     /// What is wrong.
     pub kind: RuleErrorKind,
@@ -78,7 +104,7 @@ pub struct RuleError {
 }
 
 impl From<AllocError> for RuleError {
-    ghost from_gives = { λ _ e. e ≡ record { kind = WantOfMemory; line = 0; rule = 0 } };
+    ghost from_gives = { λ _ e. e ≡ record { kind = OutOfMemory; line = 0; rule = 0 } };
 
     fn from(_error: AllocError) -> Self {
         RuleError {
@@ -90,7 +116,7 @@ impl From<AllocError> for RuleError {
 }
 
 impl<T: Drop> From<AllocFailed<T>> for RuleError {
-    ghost from_gives = { λ _ e. e ≡ record { kind = WantOfMemory; line = 0; rule = 0 } };
+    ghost from_gives = { λ _ e. e ≡ record { kind = OutOfMemory; line = 0; rule = 0 } };
 
     fn from(_error: AllocFailed<T>) -> Self {
         RuleError {
@@ -100,3 +126,16 @@ impl<T: Drop> From<AllocFailed<T>> for RuleError {
         }
     }
 }
+
+impl fmt::Display for RuleError {
+    ghost use Rattle.std.specs.Prelude.{Some};
+    ghost use Rattle.chr_rules.specs.ErrorText.{rule_error_text};
+
+    ghost output = { λ error. Some (rule_error_text error) };
+
+    fn fmt<W: fmt::Write>(&self, f: &mut fmt::Formatter<W>) -> fmt::Result {
+        write!(f, "line {} rule {}: {}", self.line, self.rule, self.kind)
+    }
+}
+
+impl Error for RuleError {}

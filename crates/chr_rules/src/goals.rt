@@ -2,17 +2,17 @@
 ghost use Rattle.std.specs.Prelude.{◌≡◌, ◌++◌, ◌∷◌, [], IfOk, OnOk, map};
 ghost use Rattle.chr_semantics.specs.Meaning.{goal_from, goal_of, head_from, in_turn, scope, sides_from, test_alone, test_from, test_of, relation_test, relation_goal, with_turn};
 ghost use Rattle.chr_semantics.specs.Syntax.{exprs_of};
-ghost use Rattle.chr_term.specs.View.{view};
+ghost use Rattle.chr_term.specs.TermView.{atom_view, view};
 ghost use Rattle.chr_bind.specs.Guards.{test_view};
-ghost use Rattle.chr_tokens.specs.View.{relation_view};
-ghost use Rattle.chr_read.specs.View.{head_view as syntax_head, head_views, item_view, item_views, view as syntax_view, views};
+ghost use Rattle.chr_tokens.specs.TokenView.{relation_view};
+ghost use Rattle.chr_read.specs.SyntaxView.{head_view as syntax_head, head_views, item_view, item_views, view as syntax_view, views};
 ghost use Rattle.chr_rules.specs.Grown.{Grows};
 ghost use Rattle.chr_rules.specs.Heads.{heads_of, IsFlagged};
-ghost use Rattle.chr_rules.specs.View.{atom_view, goal_view, goals_of, tests_of};
+ghost use Rattle.chr_rules.specs.RuleView.{goal_view, goals_of, tests_of};
 
 use crate::builtins::{is_fail, is_ground_test, is_integer_test, is_test};
+use crate::goal::{Goal, Op};
 use crate::parts::as_call;
-use crate::rule::{Goal, Op};
 use crate::trees::{atom, tree};
 use crate::variables::Variables;
 use chr_bind::Test;
@@ -120,7 +120,7 @@ fn told<A: Allocator>(relation: Relation, left: Term<A>, right: Term<A>) -> Opti
     ensures { goals_of result ≡ relation_goal (relation_view relation) (view left) (view right) }
 {
     let op = match relation {
-        Relation::Same => Op::Equal,
+        Relation::Same => Op::Unify,
         Relation::NotUnifiable => return None,
         Relation::Less => Op::Less,
         Relation::Greater => Op::Greater,

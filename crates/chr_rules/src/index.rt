@@ -2,7 +2,7 @@
 ghost use Rattle.std.specs.Prelude.{◌≡◌, ◌<◌, ◌++◌, ◌∷◌, [], ◌==◌, ℕ, if◌then◌else◌, IfOk, OnOk, slice_get, vec_len};
 ghost use Rattle.chr_semantics.specs.Program.{occurrences_in};
 ghost use Rattle.chr_rules.specs.Index.{AreListed, listed, pair_view, pairs_of};
-ghost use Rattle.chr_rules.specs.View.{flag_at, rule_view, rules_view};
+ghost use Rattle.chr_rules.specs.RuleView.{flag_at, rule_view, rules_view};
 
 use crate::rule::Rule;
 use chr_term::{Memory, Sym};

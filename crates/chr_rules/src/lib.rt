@@ -5,6 +5,7 @@ mod building;
 mod builtins;
 mod checks;
 mod error;
+mod goal;
 mod goals;
 mod index;
 mod parts;
@@ -16,9 +17,10 @@ mod trees;
 mod variables;
 
 pub use error::{RuleError, RuleErrorKind};
+pub use goal::{Goal, Op, Query, copy_goals, print_goal};
 pub use index::Occurrence;
 pub use program::Program;
-pub use rule::{Goal, Op, Query, Rule, copy_goals};
+pub use rule::Rule;
 
 #[cfg(test)]
 mod tests;

@@ -4,11 +4,12 @@ ghost use Rattle.std.specs.List.{list_any};
 ghost use Rattle.chr_semantics.specs.Checked.{are_free, are_wide, is_free, is_wide};
 ghost use Rattle.chr_semantics.specs.Meaning.{call_of};
 ghost use Rattle.chr_semantics.specs.Syntax.{exprs_of};
-ghost use Rattle.chr_read.specs.View.{view, views};
+ghost use Rattle.chr_read.specs.SyntaxView.{view, views};
 ghost use Rattle.chr_rules.specs.Operands.{operands};
 
 use crate::variables::Variables;
 use chr_read::Expr;
+use chr_semantics::limits::MAX_ARITY;
 use chr_tokens::{Additive, Multiplicative};
 use std::alloc::Allocator;
 
@@ -46,7 +47,7 @@ pub(crate) fn as_call<'e, A: Allocator>(expr: &'e Expr<A>) -> Option<(&'e str, &
     }
 }
 
-/// Whether a name stands with more than 16 arguments.
+/// Whether a name stands with more than `MAX_ARITY` arguments.
 #[cycle(wide)]
 pub(crate) fn is_wide<A: Allocator>(expr: &Expr<A>) -> bool
     ensures { result ≡ is_wide (view expr.now) }
@@ -54,7 +55,7 @@ pub(crate) fn is_wide<A: Allocator>(expr: &Expr<A>) -> bool
     match expr {
         Expr::Variable(_) => false,
         Expr::Number(_) => false,
-        Expr::Call(_, args) => args.len() > 16 || are_wide(args.as_slice()),
+        Expr::Call(_, args) => args.len() > MAX_ARITY || are_wide(args.as_slice()),
         Expr::List(items) => are_wide(items.as_slice()),
         Expr::ListWithEnd(items, end) => are_wide(items.as_slice()) || is_wide(&**end),
         Expr::Sum(first, others) => is_wide(&**first) || any_wide_summand(others.as_slice()),

@@ -2,18 +2,19 @@
 ghost use Rattle.std.specs.Prelude.{◌≡◌, ◌≢◌, ◌<◌, ◌^◌, IfErr, IfOk, IfSome, Ok, OnSome, Some, length, option_map, slice_get};
 ghost use Rattle.chr_semantics.specs.Checked.{checked, checked_query};
 ghost use Rattle.chr_semantics.specs.Program.{occurrence, occurrences};
-ghost use Rattle.chr_read.specs.View.{program_view, query_view as syntax_query};
+ghost use Rattle.chr_read.specs.SyntaxView.{program_view, query_view as syntax_query};
 ghost use Rattle.chr_rules.specs.Checks.{IsError};
 ghost use Rattle.chr_rules.specs.Grown.{Grows};
 ghost use Rattle.chr_rules.specs.Index.{AreListed, head_count, pair_of, pair_view, pairs_of, pairs_view};
-ghost use Rattle.chr_rules.specs.View.{query_view, rule_view, rules_view};
-ghost use Rattle.chr_rules.specs.declared.error.RuleErrorKind.TheVariants.{Memory as WantOfMemory};
+ghost use Rattle.chr_rules.specs.RuleView.{query_view, rule_view, rules_view};
+ghost use Rattle.chr_rules.specs.declared.error.RuleErrorKind.TheVariants.{Memory as OutOfMemory};
 
 use crate::building::{declare_all, rules};
 use crate::error::RuleError;
+use crate::goal::Query;
 use crate::index::{Occurrence, index_of};
 use crate::queries::query;
-use crate::rule::{Query, Rule};
+use crate::rule::Rule;
 use chr_read::{ProgramSyntax, QuerySyntax};
 use chr_term::{Names, Sym};
 use std::alloc::{Allocator, Global};
@@ -32,7 +33,7 @@ pub struct Program<A: Allocator = Global> {
 }
 
 impl<A: Allocator + Copy> Program<A> {
-    ghost use Rattle.chr_rules.specs.Standing.{checked_view};
+    ghost use Rattle.chr_rules.specs.ProgramView.{checked_view};
 
     /// What a syntax stands for, or what is wrong with it first: the declarations are looked at first, then the rules, both in their order.
     /// `Memory` is also answered where more than 4,294,967,295 symbols would be named.
@@ -62,7 +63,7 @@ impl<A: Allocator + Copy> Program<A> {
         ensures refused { IfErr result (λ e. IsError e (checked_query (checked_view self.old) (syntax_query syntax))) }
         ensures declared { (checked_view self.new).declared ≡ (checked_view self.old).declared }
         ensures rules { (checked_view self.new).rules ≡ (checked_view self.old).rules }
-        ensures mistaken { IfErr result (λ e. e.kind ≢ WantOfMemory → (checked_view self.new).names ≡ (checked_view self.old).names) }
+        ensures mistaken { IfErr result (λ e. e.kind ≢ OutOfMemory → (checked_view self.new).names ≡ (checked_view self.old).names) }
         ensures grows { Grows (checked_view self.old).names (checked_view self.new).names }
     {
         query(self.alloc, &mut self.names, self.declared, &syntax)
@@ -70,7 +71,7 @@ impl<A: Allocator + Copy> Program<A> {
 }
 
 impl<A: Allocator> Program<A> {
-    ghost use Rattle.chr_rules.specs.Standing.{checked_view};
+    ghost use Rattle.chr_rules.specs.ProgramView.{checked_view};
 
     /// The names of its symbols.
     pub fn names(&self) -> &Names<A>
@@ -108,7 +109,7 @@ impl<A: Allocator> Program<A> {
 }
 
 impl<A: Allocator> Program<A> {
-    ghost use Rattle.chr_rules.specs.Standing.{checked_view};
+    ghost use Rattle.chr_rules.specs.ProgramView.{checked_view};
 
     /// The occurrence of a symbol by its number, which counts from 1.
     pub fn occurrence(&self, sym: Sym, number: u32) -> Option<Occurrence>

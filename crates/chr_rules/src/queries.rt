@@ -2,18 +2,18 @@
 ghost use Rattle.std.specs.Prelude.{◌≡◌, ◌≢◌, IfErr, IfOk, Ok, option_map};
 ghost use Rattle.chr_semantics.specs.Checked.{checked_query, error_in_query, query_from};
 ghost use Rattle.chr_semantics.specs.Program.{Program};
-ghost use Rattle.chr_read.specs.View.{item_views, query_view as syntax_query};
+ghost use Rattle.chr_read.specs.SyntaxView.{item_views, query_view as syntax_query};
 ghost use Rattle.chr_rules.specs.Building.{checked_of};
 ghost use Rattle.chr_rules.specs.Checks.{fault_of, IsError};
 ghost use Rattle.chr_rules.specs.Grown.{Grows};
-ghost use Rattle.chr_rules.specs.View.{query_view};
-ghost use Rattle.chr_rules.specs.declared.error.RuleErrorKind.TheVariants.{Memory as WantOfMemory};
+ghost use Rattle.chr_rules.specs.RuleView.{query_view};
+ghost use Rattle.chr_rules.specs.declared.error.RuleErrorKind.TheVariants.{Memory as OutOfMemory};
 
 use crate::building::error;
 use crate::checks::{Check, in_items};
 use crate::error::{RuleError, RuleErrorKind};
+use crate::goal::Query;
 use crate::goals::goals;
-use crate::rule::Query;
 use crate::variables::Variables;
 use chr_read::{Item, QuerySyntax};
 use chr_term::{Memory, Names};
@@ -29,7 +29,7 @@ pub(crate) fn query<A: Allocator + Copy>(
 ) -> Result<Query<A>, RuleError>
     ensures accepted { IfOk result (λ query. (rules : Program) → checked_query (checked_of names.old declared rules) (syntax_query syntax.now) ≡ Ok (names.new, query_view query)) }
     ensures refused { IfErr result (λ e. (rules : Program) → IsError e (checked_query (checked_of names.old declared rules) (syntax_query syntax.now))) }
-    ensures mistaken { IfErr result (λ e. e.kind ≢ WantOfMemory → names.new ≡ names.old) }
+    ensures mistaken { IfErr result (λ e. e.kind ≢ OutOfMemory → names.new ≡ names.old) }
     ensures grows { Grows names.old names.new }
 {
     let items = syntax.items.as_slice();

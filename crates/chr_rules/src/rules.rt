@@ -3,10 +3,10 @@ ghost use Rattle.std.specs.Prelude.{◌≡◌, ◌&&◌, ◌+◌, [], IfErr, IfO
 ghost use Rattle.std.specs.List.{list_any};
 ghost use Rattle.chr_semantics.specs.Checked.{first_of, has_label, error_in_rule};
 ghost use Rattle.chr_semantics.specs.Meaning.{all_heads, has_backslash, head_from, in_turn, kept_count, label_of, propagates, rule_from, scope};
-ghost use Rattle.chr_read.specs.View.{arrow_view, rule_view as syntax_rule};
+ghost use Rattle.chr_read.specs.SyntaxView.{arrow_view, rule_view as syntax_rule};
 ghost use Rattle.chr_rules.specs.Checks.{IsFault, fault_of, wrong_items, wrong_rule};
-ghost use Rattle.chr_rules.specs.Heads.{heads_of};
-ghost use Rattle.chr_rules.specs.View.{rule_view, rules_view};
+ghost use Rattle.chr_rules.specs.Heads.{IsFlagged, heads_of};
+ghost use Rattle.chr_rules.specs.RuleView.{rule_view, rules_view};
 
 use crate::checks::{Check, in_all_heads, in_heads_and_body, in_items, in_rule};
 use crate::error::RuleErrorKind;
@@ -14,6 +14,7 @@ use crate::goals::{Heads, add_heads, goals, no_heads, tests};
 use crate::rule::Rule;
 use crate::variables::Variables;
 use chr_read::{Arrow, RuleSyntax};
+use chr_semantics::limits::{MAX_HEADS, MAX_RULE_VARIABLES, MAX_RULES};
 use chr_term::{Memory, Names};
 use std::alloc::Allocator;
 
@@ -40,7 +41,7 @@ pub(crate) fn rule<'s, A: Allocator + Copy>(
     let head_vars = variables.len();
     let guard = tests(alloc, names, &mut variables, written.guard.as_slice())?;
     let body = goals(alloc, names, &mut variables, written.body.as_slice())?;
-    if variables.len() > 64 {
+    if variables.len() > MAX_RULE_VARIABLES {
         return Err(RuleErrorKind::TooManyVariables);
     }
     Ok(Rule {
@@ -62,7 +63,9 @@ fn heads<'s, A: Allocator + Copy>(
     variables: &mut Variables<'s, A>,
     written: &'s RuleSyntax<A>,
 ) -> Result<Heads<A>, Memory>
-    ensures { IfOk result (λ heads. (scope names.new variables.new, heads_of heads) ≡ in_turn head_from (scope names.old variables.old, []) (all_heads (syntax_rule written.now))) }
+    ensures heads { IfOk result (λ heads. (scope names.new variables.new, heads_of heads)
+        ≡ in_turn head_from (scope names.old variables.old, []) (all_heads (syntax_rule written.now))) }
+    ensures flagged { IfOk result IsFlagged }
 {
     let mut heads = no_heads(alloc);
     add_heads(
@@ -122,13 +125,13 @@ fn wrong_rule<A: Allocator + Copy>(
     if has_label(&rule.label, earlier) {
         return Some(RuleErrorKind::DuplicateName);
     }
-    if head_count(rule) > 8 {
+    if head_count(rule) > MAX_HEADS {
         return Some(RuleErrorKind::TooManyHeads);
     }
     if in_rule(Check::Wide, rule) {
         return Some(RuleErrorKind::ArityTooLarge);
     }
-    if count(earlier) >= 1024 {
+    if count(earlier) >= MAX_RULES {
         return Some(RuleErrorKind::TooManyRules);
     }
     if keeps_and_removes(rule) {

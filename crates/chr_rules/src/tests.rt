@@ -70,7 +70,7 @@ impl<A: Allocator> Shower<'_, A> {
             Goal::Chr(sym, args) => self.atom(*sym, args),
             Goal::Told(op, left, right) => {
                 let sign = match op {
-                    Op::Equal => " = ",
+                    Op::Unify => " = ",
                     Op::Is => " is ",
                     Op::Less => " < ",
                     Op::Greater => " > ",
@@ -814,14 +814,26 @@ fn query_errors(rt: HostRuntime) -> Result<(), Fail> {
 fn rule_fault_words(rt: HostRuntime) -> Result<(), Fail> {
     for (kind, wanted) in [
         (RuleErrorKind::Undeclared, "line 3 rule 14: Undeclared"),
-        (RuleErrorKind::BuiltinInHead, "line 3 rule 14: BuiltinInHead"),
+        (
+            RuleErrorKind::BuiltinInHead,
+            "line 3 rule 14: BuiltinInHead",
+        ),
         (RuleErrorKind::NotAGoal, "line 3 rule 14: NotAGoal"),
         (RuleErrorKind::NotATest, "line 3 rule 14: NotATest"),
-        (RuleErrorKind::GuardVariable, "line 3 rule 14: GuardVariable"),
+        (
+            RuleErrorKind::GuardVariable,
+            "line 3 rule 14: GuardVariable",
+        ),
         (RuleErrorKind::GuardOnly, "line 3 rule 14: GuardOnly"),
-        (RuleErrorKind::DuplicateName, "line 3 rule 14: DuplicateName"),
+        (
+            RuleErrorKind::DuplicateName,
+            "line 3 rule 14: DuplicateName",
+        ),
         (RuleErrorKind::TooManyHeads, "line 3 rule 14: TooManyHeads"),
-        (RuleErrorKind::ArityTooLarge, "line 3 rule 14: ArityTooLarge"),
+        (
+            RuleErrorKind::ArityTooLarge,
+            "line 3 rule 14: ArityTooLarge",
+        ),
         (RuleErrorKind::TooManyRules, "line 3 rule 14: TooManyRules"),
         (
             RuleErrorKind::BackslashInPropagation,

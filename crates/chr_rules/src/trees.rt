@@ -3,11 +3,10 @@ ghost use Rattle.std.specs.Prelude.{◌≡◌, [], IfOk, OnOk, Some, map};
 ghost use Rattle.chr_semantics.specs.Meaning.{additive_symbol, atom_from, in_turn, multiplicative_symbol, node_of, scope, tree_from};
 ghost use Rattle.chr_semantics.specs.Names.{symbol_of, with_symbol};
 ghost use Rattle.chr_semantics.specs.Syntax.{exprs_of, list as syntax_list, nil};
-ghost use Rattle.chr_term.specs.View.{view};
-ghost use Rattle.chr_read.specs.View.{additive_operands, multiplicative_operands, products, sums, view as syntax_view, views};
-ghost use Rattle.chr_tokens.specs.View.{additive_view, multiplicative_view};
+ghost use Rattle.chr_term.specs.TermView.{atom_view, view};
+ghost use Rattle.chr_read.specs.SyntaxView.{operand_views, products, sums, view as syntax_view, views};
+ghost use Rattle.chr_tokens.specs.TokenView.{additive_view, multiplicative_view};
 ghost use Rattle.chr_rules.specs.Grown.{Grows};
-ghost use Rattle.chr_rules.specs.View.{atom_view};
 ghost use Rattle.chr_rules.specs.Turns.{listed, tree_turn};
 
 use crate::variables::Variables;
@@ -169,7 +168,7 @@ fn sum<'s, A: Allocator + Copy>(
     first: &'s Expr<A>,
     others: &'s [(Additive, Expr<A>)],
 ) -> Result<Term<A>, Memory>
-    ensures sum { IfOk result (λ tree. (scope names.new variables.new, view tree) ≡ tree_from (scope names.old variables.old) (sums (syntax_view first.now) (additive_operands others.now))) }
+    ensures sum { IfOk result (λ tree. (scope names.new variables.new, view tree) ≡ tree_from (scope names.old variables.old) (sums (syntax_view first.now) (operand_views others.now))) }
     ensures grows { Grows names.old names.new }
 {
     let mut whole = tree(alloc, names, variables, first)?;
@@ -189,7 +188,7 @@ fn product<'s, A: Allocator + Copy>(
     first: &'s Expr<A>,
     others: &'s [(Multiplicative, Expr<A>)],
 ) -> Result<Term<A>, Memory>
-    ensures product { IfOk result (λ tree. (scope names.new variables.new, view tree) ≡ tree_from (scope names.old variables.old) (products (syntax_view first.now) (multiplicative_operands others.now))) }
+    ensures product { IfOk result (λ tree. (scope names.new variables.new, view tree) ≡ tree_from (scope names.old variables.old) (products (syntax_view first.now) (operand_views others.now))) }
     ensures grows { Grows names.old names.new }
 {
     let mut whole = tree(alloc, names, variables, first)?;

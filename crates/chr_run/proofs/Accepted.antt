@@ -7,10 +7,10 @@ use Rattle.chr_machine.specs.declared.state.Status.{Status}
 use Rattle.chr_run.specs.Run.{IsInto, PastLimits}
 use Rattle.chr_run.specs.Texts.{IsTextRun, is_performed}
 use Rattle.chr_run.proofs.Parts.{keeps_same}
-use Rattle.chr_run.specs.declared.texts.RunError.{RunError}
-use Rattle.chr_run.specs.declared.texts.RunError.TheVariants.{BudgetTooLarge, TooManyWorkers, Memory}
-use Rattle.chr_run.specs.declared.texts.TextError.{TextError}
-use Rattle.chr_run.specs.declared.texts.TextError.TheVariants as error
+use Rattle.chr_run.specs.declared.error.RunError.{RunError}
+use Rattle.chr_run.specs.declared.error.RunError.TheVariants.{BudgetTooLarge, TooManyWorkers, Memory}
+use Rattle.chr_run.specs.declared.error.TextError.{TextError}
+use Rattle.chr_run.specs.declared.error.TextError.TheVariants as error
 
 -- the limits refuse it
 pub limits_refuse : (program query : List ℕ) (n workers : ℕ) (old : Option (List ℕ)) (e : RunError) → PastLimits n workers e → IsTextRun program query n workers old old (Err (error.Run e))

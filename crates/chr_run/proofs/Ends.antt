@@ -6,7 +6,7 @@ use Rattle.chr_semantics.specs.State.{State, Status, running, done, failed, faul
 use Rattle.chr_semantics.specs.Step.{step, step_at, after}
 use Rattle.chr_semantics.specs.Trace.{line, line_at}
 use Rattle.chr_semantics.specs.Text.{line_texts, trace, outcome, lines_text, text}
-use Rattle.chr_machine.specs.Standing.{Standing, Starts, Further, Stops}
+use Rattle.chr_machine.specs.MachineView.{MachineModel, Starts, Further, Stops}
 use Rattle.chr_machine.specs.declared.state.Stepped.{Stepped}
 use Rattle.chr_machine.specs.declared.state.Stepped.TheVariants.{Moved, Ended, Spent}
 
@@ -69,7 +69,7 @@ covers_ended p s k n within ended =
     }
 
 -- how far a machine has come, from its start
-pub record HasRun (names : Names) (p : Program) (q : Query) (k : ℕ) (s : Standing) : Type 0 where
+pub record HasRun (names : Names) (p : Program) (q : Query) (k : ℕ) (s : MachineModel) : Type 0 where
   pub state : s.state ≡ after p (start q) k
   pub lines : s.lines ≡ trace names q.var_names p (start q) 1 k
   pub names_are : s.names ≡ names
@@ -77,7 +77,7 @@ pub record HasRun (names : Names) (p : Program) (q : Query) (k : ℕ) (s : Stand
   pub var_names_are : s.var_names ≡ q.var_names
   pub steps_are : s.steps ≡ k
 
-pub has_run : (names : Names) (p : Program) (q : Query) (k : ℕ) (old new : Standing) → Starts names p q old → Further k old new → HasRun names p q k new
+pub has_run : (names : Names) (p : Program) (q : Query) (k : ℕ) (old new : MachineModel) → Starts names p q old → Further k old new → HasRun names p q k new
 has_run names p q k old new at far = record {
   state = far.state_is ∙ (ap (λ r. after r old.state k) at.rules_are ∙ ap (λ t. after p t k) at.state_is);
   lines =
@@ -93,17 +93,17 @@ has_run names p q k old new at far = record {
   steps_are = omega (arith, far.steps_are, at.steps_are);
 }
 
-covers_stopped : (p : Program) (s : State) (k n : ℕ) (r : Stepped) (old new : Standing) → new.state ≡ after p s k → new.steps ≡ k → n ≤ 1000000 → Stops r n k old new → Covers p s k n
+covers_stopped : (p : Program) (s : State) (k n : ℕ) (r : Stepped) (old new : MachineModel) → new.state ≡ after p s k → new.steps ≡ k → n ≤ 1000000 → Stops r n k old new → Covers p s k n
 covers_stopped p s k n Moved old new state steps limit h = covers_same p s k n h.0
 covers_stopped p s k n Ended old new state steps limit h = covers_ended p s k n h.0 (λ e. h.2 (ap (λ (t : State). t.status) state ∙ e))
 covers_stopped p s k n Spent old new state steps limit h = absurd (omega (arith, h.0, h.2, steps, limit))
 
 -- where it stopped for a budget of n, it shows the text and the status of n transitions
-pub record Shows (names : Names) (p : Program) (q : Query) (n : ℕ) (s : Standing) : Type 0 where
+pub record Shows (names : Names) (p : Program) (q : Query) (n : ℕ) (s : MachineModel) : Type 0 where
   pub text_is : lines_text (s.lines ++ outcome s.names s.var_names s.rules s.state) ≡ text names p q n
   pub status_is : s.state.status ≡ (after p (start q) n).status
 
-pub shows : (names : Names) (p : Program) (q : Query) (k n : ℕ) (r : Stepped) (old s : Standing) → HasRun names p q k s → n ≤ 1000000 → Stops r n k old s → Shows names p q n s
+pub shows : (names : Names) (p : Program) (q : Query) (k n : ℕ) (r : Stepped) (old s : MachineModel) → HasRun names p q k s → n ≤ 1000000 → Stops r n k old s → Shows names p q n s
 shows names p q k n r old s ran limit h =
     let covers = covers_stopped p (start q) k n r old s ran.state ran.steps_are limit h in
     record {

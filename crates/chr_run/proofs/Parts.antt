@@ -1,5 +1,7 @@
 -- Bytes that go out in parts.
-use Rattle.std.proofs.Common.{◌≡◌, ◌∙◌, ℕ, ◌++◌, List, [], Option, Some, None, refl, ap, sym, append-nil, append_assoc}
+use Rattle.std.proofs.Common.{◌≡◌, ◌<◌, ◌+◌, ◌∙◌, ℕ, suc, ◌++◌, List, [], Option, Some, None, refl, ap, sym, map, drop, get_or, length, add-one, append-nil, append_assoc, drop-cons}
+use Rattle.std.specs.Borrow.{Bor}
+use Rattle.std.specs.List.{concat}
 use Rattle.std.specs.Io.KnownBytes.{Appends, Keeps}
 use Rattle.chr_run.specs.Output.{IsOut, AppendsPart}
 
@@ -49,3 +51,16 @@ keeps_same (Some xs) = refl
 -- nothing is a first part of all
 pub part_none : (old : Option (List ℕ)) (bytes : List ℕ) → AppendsPart old old bytes
 part_none old bytes = record { rest = bytes; is_out = out-none old bytes }
+
+-- and where a first part of the next part goes out
+pub part-more : (old mid new : Option (List ℕ)) (bytes rest front back : List ℕ) → IsOut old mid bytes rest → rest ≡ front ++ back → AppendsPart mid new front → AppendsPart old new bytes
+part-more old mid new bytes rest front back h split p =
+    let parts : rest ≡ p.is_out.out ++ (p.rest ++ back) = split ∙ (ap (λ xs. xs ++ back) p.is_out.whole ∙ append_assoc p.is_out.out p.rest back) in
+    record { rest = p.rest ++ back; is_out = out-more old mid new bytes rest p.is_out.out (p.rest ++ back) h parts p.is_out.appends }
+
+-- the texts from one on: it, and those after it
+pub texts_from : (ts : List (Bor (List ℕ))) (k : ℕ) (d : Bor (List ℕ)) → k < length ts
+    → concat (map (λ (t : Bor (List ℕ)). t.now) (drop k ts)) ≡ (get_or ts k d).now ++ concat (map (λ (t : Bor (List ℕ)). t.now) (drop (k + 1) ts))
+texts_from ts k d h =
+    ap (λ us. concat (map (λ (t : Bor (List ℕ)). t.now) us)) (drop-cons ts k d h)
+    ∙ ap (λ n. (get_or ts k d).now ++ concat (map (λ (t : Bor (List ℕ)). t.now) (drop n ts))) (sym (add-one k))

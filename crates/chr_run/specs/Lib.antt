@@ -1,5 +1,5 @@
+pub mod ErrorText
 pub mod Output
-pub mod Signs
 pub mod Stored
 pub mod Body
 pub mod Run

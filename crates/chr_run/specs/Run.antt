@@ -1,6 +1,7 @@
 -- What a run answers, and what goes out.
 use Rattle.std.specs.Prelude.{◌≡◌, ℕ, ◌<◌, ◌≤◌, List, Option, Result, Ok, Err}
 use Rattle.std.specs.Io.KnownBytes.{Appends, Keeps}
+use Rattle.chr_semantics.specs.declared.limits.TheConstants.{MAX_TRANSITIONS}
 use Rattle.chr_semantics.specs.Names.{Names}
 use Rattle.chr_semantics.specs.Program as semantics
 use Rattle.chr_semantics.specs.State.{start}
@@ -9,19 +10,19 @@ use Rattle.chr_semantics.specs.Text.{text}
 use Rattle.chr_machine.specs.State.{status_view}
 use Rattle.chr_machine.specs.declared.state.Status.{Status}
 use Rattle.chr_run.specs.Output.{AppendsPart}
-use Rattle.chr_run.specs.declared.texts.RunError.{RunError}
-use Rattle.chr_run.specs.declared.texts.RunError.TheVariants.{BudgetTooLarge, TooManyWorkers, Memory}
-use Rattle.chr_run.specs.declared.texts.TextError.{TextError}
-use Rattle.chr_run.specs.declared.texts.TextError.TheVariants.{Run, Write}
+use Rattle.chr_run.specs.declared.error.RunError.{RunError}
+use Rattle.chr_run.specs.declared.error.RunError.TheVariants.{BudgetTooLarge, TooManyWorkers, Memory}
+use Rattle.chr_run.specs.declared.error.TextError.{TextError}
+use Rattle.chr_run.specs.declared.error.TextError.TheVariants.{Run, Write}
 
 -- the budget is at most 1,000,000, and there is no worker
 abbrev pub WithinLimits : ℕ → ℕ → Type 0
-WithinLimits n workers = (n ≤ 1000000) × (workers ≡ 0)
+WithinLimits n workers = (n ≤ MAX_TRANSITIONS) × (workers ≡ 0)
 
 -- when the limits refuse a run: the budget is looked at before the workers
 abbrev pub PastLimits : ℕ → ℕ → RunError → Type 0
-PastLimits n workers BudgetTooLarge = 1000000 < n
-PastLimits n workers TooManyWorkers = (n ≤ 1000000) × (0 < workers)
+PastLimits n workers BudgetTooLarge = MAX_TRANSITIONS < n
+PastLimits n workers TooManyWorkers = (n ≤ MAX_TRANSITIONS) × (0 < workers)
 PastLimits n workers Memory = ⊥
 
 -- when each refusal of a run comes: both limits are looked at before memory is asked for

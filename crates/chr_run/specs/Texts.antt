@@ -13,9 +13,9 @@ use Rattle.chr_rules.specs.Checks.{IsError}
 use Rattle.chr_machine.specs.Fragment.{is_thin_program, is_thin_query}
 use Rattle.chr_machine.specs.declared.state.Status.{Status}
 use Rattle.chr_run.specs.Run.{WithinLimits, PastLimits, IsInto}
-use Rattle.chr_run.specs.declared.texts.RunError.TheVariants.{Memory}
-use Rattle.chr_run.specs.declared.texts.TextError.{TextError}
-use Rattle.chr_run.specs.declared.texts.TextError.TheVariants as error
+use Rattle.chr_run.specs.declared.error.RunError.TheVariants.{Memory}
+use Rattle.chr_run.specs.declared.error.TextError.{TextError}
+use Rattle.chr_run.specs.declared.error.TextError.TheVariants as error
 
 -- the machine performs them today
 abbrev pub is_performed : Rules → Goals → Bool

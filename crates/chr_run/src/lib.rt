@@ -1,14 +1,16 @@
 //! Runs of programs: their text goes out to a writer.
 #![tactic(auto)]
 
-mod outcome;
+mod command_line;
+mod error;
 mod output;
-mod program;
 mod refusal;
-mod texts;
+mod runs;
+mod text;
 
-pub use program::command;
-pub use texts::{RunError, TextError, run_into, run_text};
+pub use command_line::command;
+pub use error::{RunError, TextError};
+pub use runs::{run_into, run_text};
 
 #[cfg(test)]
 mod tests;

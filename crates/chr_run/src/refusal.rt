@@ -1,127 +1,107 @@
-//! What the program `chr` says where it refuses.
-ghost use Rattle.std.specs.Prelude.{◌≡◌, IfOk};
-ghost use Rattle.std.specs.String.{string_bytes};
-ghost use Rattle.chr_run.specs.Command.{place_text, query_text, read_word, refusal_text, rule_text, rule_word, run_word, unread_text};
+//! The lines that the program `chr` says where it refuses. They take no memory.
+ghost use Rattle.std.specs.Prelude.{◌++◌, codes, map};
+ghost use Rattle.std.specs.Fmt.{decimal};
+ghost use Rattle.std.specs.List.{concat};
+ghost use Rattle.chr_read.specs.ErrorText.{read_error_text};
+ghost use Rattle.chr_rules.specs.ErrorText.{rule_error_kind_text, rule_error_text};
+ghost use Rattle.chr_run.specs.Command.{refusal_text, unread_text};
 ghost use Rattle.chr_run.specs.Output.{AppendsPart};
 
+use crate::error::TextError;
 use crate::output::write_bytes;
-use crate::texts::{RunError, TextError};
-use chr_read::ReadFault;
-use chr_rules::RuleErrorKind;
-use chr_term::Memory;
-use std::alloc::Global;
+use chr_read::ReadError;
+use chr_rules::RuleError;
+use itoa::Buffer;
 use std::io::Write;
 
-fn run_word(error: RunError) -> &'static str
-    ensures { result.now ≡ run_word error }
+/// Says these pieces one after another, as far as they can be written.
+pub fn say<E: Write>(error: &mut E, pieces: &[&str])
+    ensures { AppendsPart (E.contents error.old) (E.contents error.new)
+        (concat (map (λ piece. piece.now) pieces.now)) }
 {
-    match error {
-        RunError::BudgetTooLarge => "BudgetTooLarge",
-        RunError::TooManyWorkers => "TooManyWorkers",
-        RunError::Memory => "Memory",
+    for piece in pieces {
+        match write_bytes(error, piece.as_bytes()) {
+            Ok(()) => {}
+            Err(_) => return,
+        }
     }
 }
 
-fn read_word(fault: ReadFault) -> &'static str
-    ensures { result.now ≡ read_word fault }
+/// Says where the program or the query is not read.
+fn say_place<E: Write>(error: &mut E, text: &'static str, unread: ReadError)
+    ensures { AppendsPart (E.contents error.old) (E.contents error.new)
+        (codes "chr: " ++ (text.now ++ read_error_text unread) ++ codes "\n") }
 {
-    match fault {
-        ReadFault::NotUtf8 => "NotUtf8",
-        ReadFault::TooLong => "TooLong",
-        ReadFault::BadChar => "BadChar",
-        ReadFault::UnclosedComment => "UnclosedComment",
-        ReadFault::NumberTooLarge => "NumberTooLarge",
-        ReadFault::Expected => "Expected",
-        ReadFault::TooDeep => "TooDeep",
-        ReadFault::Memory => "Memory",
-    }
+    let (mut line, mut column) = (Buffer::new(), Buffer::new());
+    let (line, column) = (line.format(unread.line), column.format(unread.column));
+    say(
+        error,
+        &[
+            "chr: ",
+            text,
+            line,
+            ":",
+            column,
+            ": ",
+            unread.kind.word(),
+            "\n",
+        ],
+    );
 }
 
-fn rule_word(fault: RuleErrorKind) -> &'static str
-    ensures { result.now ≡ rule_word fault }
+/// Says which rule of the program has a mistake.
+fn say_rule<E: Write>(error: &mut E, wrong: RuleError)
+    ensures { AppendsPart (E.contents error.old) (E.contents error.new)
+        (codes "chr: " ++ (codes "program " ++ rule_error_text wrong) ++ codes "\n") }
 {
-    match fault {
-        RuleErrorKind::Undeclared => "Undeclared",
-        RuleErrorKind::BuiltinInHead => "BuiltinInHead",
-        RuleErrorKind::NotAGoal => "NotAGoal",
-        RuleErrorKind::NotATest => "NotATest",
-        RuleErrorKind::GuardVariable => "GuardVariable",
-        RuleErrorKind::GuardOnly => "GuardOnly",
-        RuleErrorKind::DuplicateName => "DuplicateName",
-        RuleErrorKind::TooManyHeads => "TooManyHeads",
-        RuleErrorKind::ArityTooLarge => "ArityTooLarge",
-        RuleErrorKind::TooManyRules => "TooManyRules",
-        RuleErrorKind::BackslashInPropagation => "BackslashInPropagation",
-        RuleErrorKind::TooManyVariables => "TooManyVariables",
-        RuleErrorKind::Memory => "Memory",
-    }
+    let (mut line, mut rule) = (Buffer::new(), Buffer::new());
+    let (line, rule) = (line.format(wrong.line), rule.format(wrong.rule));
+    say(
+        error,
+        &[
+            "chr: program line ",
+            line,
+            " rule ",
+            rule,
+            ": ",
+            wrong.kind.word(),
+            "\n",
+        ],
+    );
 }
 
-/// The line that says where a text is not read.
-fn place_line(
-    alloc: Global,
-    text: &str,
-    line: u64,
-    column: u64,
-    word: &str,
-) -> Result<String, Memory>
-    ensures { IfOk result (λ said. string_bytes said ≡ place_text text.now line column word.now) }
+/// Says where the query has a mistake.
+fn say_query<E: Write>(error: &mut E, wrong: RuleError)
+    ensures { AppendsPart (E.contents error.old) (E.contents error.new) (codes "chr: "
+        ++ (codes "query line " ++ decimal wrong.line ++ codes ": " ++ rule_error_kind_text wrong.kind)
+        ++ codes "\n") }
 {
-    format!(in alloc; "chr: {text} {line}:{column}: {word}\n")
+    let mut line = Buffer::new();
+    let line = line.format(wrong.line);
+    say(
+        error,
+        &["chr: query line ", line, ": ", wrong.kind.word(), "\n"],
+    );
 }
 
-/// The line that says which rule of a program has a mistake.
-fn rule_line(alloc: Global, line: u64, rule: usize, word: &str) -> Result<String, Memory>
-    ensures { IfOk result (λ said. string_bytes said ≡ rule_text line rule word.now) }
-{
-    format!(in alloc; "chr: program line {line} rule {rule}: {word}\n")
-}
-
-/// The line that says where a query has a mistake.
-fn query_line(alloc: Global, line: u64, word: &str) -> Result<String, Memory>
-    ensures { IfOk result (λ said. string_bytes said ≡ query_text line word.now) }
-{
-    format!(in alloc; "chr: query line {line}: {word}\n")
-}
-
-/// The line that says why there is no run.
-fn refusal_line(alloc: Global, error: TextError) -> Result<String, Memory>
-    ensures { IfOk result (λ line. string_bytes line ≡ refusal_text error) }
-{
-    match error {
-        TextError::Run(e) => format!(in alloc; "chr: {}\n", run_word(e)),
-        TextError::Program(e) => place_line(alloc, "program", e.line, e.column, read_word(e.kind)),
-        TextError::Rules(e) => rule_line(alloc, e.line, e.rule, rule_word(e.kind)),
-        TextError::Query(e) => place_line(alloc, "query", e.line, e.column, read_word(e.kind)),
-        TextError::Goals(e) => query_line(alloc, e.line, rule_word(e.kind)),
-        TextError::NotYet => format!(in alloc; "chr: NotYet\n"),
-        TextError::Write => format!(in alloc; "chr: cannot write\n"),
-    }
-}
-
-/// Says a line, as far as it can be written.
-pub fn say<E: Write>(error: &mut E, line: &str)
-    ensures { AppendsPart (E.contents error.old) (E.contents error.new) line.now }
-{
-    let _ = write_bytes(error, line.as_bytes());
-}
-
-#[tactic(auto, using(crate::proofs::Parts::part_none))]
-/// Says why there is no run, as far as memory and the error output serve.
-pub fn say_refusal<E: Write>(alloc: Global, error: &mut E, refusal: TextError)
+/// Says why there is no run, as far as it can be written.
+pub fn say_refusal<E: Write>(error: &mut E, refusal: TextError)
     ensures { AppendsPart (E.contents error.old) (E.contents error.new) (refusal_text refusal) }
 {
-    if let Ok(line) = refusal_line(alloc, refusal) {
-        say(error, line.as_str());
+    match refusal {
+        TextError::Run(refused) => say(error, &["chr: ", refused.word(), "\n"]),
+        TextError::Program(unread) => say_place(error, "program ", unread),
+        TextError::Rules(wrong) => say_rule(error, wrong),
+        TextError::Query(unread) => say_place(error, "query ", unread),
+        TextError::Goals(wrong) => say_query(error, wrong),
+        TextError::NotYet => say(error, &["chr: NotYet\n"]),
+        TextError::Write => say(error, &["chr: cannot write\n"]),
     }
 }
 
-#[tactic(auto, using(crate::proofs::Parts::part_none))]
-/// Says that a file cannot be read.
-pub fn say_unread<E: Write>(alloc: Global, error: &mut E, path: &str)
+/// Says that a file cannot be read, as far as it can be written.
+pub fn say_unread<E: Write>(error: &mut E, path: &str)
     ensures { AppendsPart (E.contents error.old) (E.contents error.new) (unread_text path.now) }
 {
-    if let Ok(line) = format!(in alloc; "chr: cannot read {path}\n") {
-        say(error, line.as_str());
-    }
+    say(error, &["chr: cannot read ", path, "\n"]);
 }

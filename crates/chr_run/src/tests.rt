@@ -1,6 +1,6 @@
 use super::*;
 use chr_machine::Status;
-use chr_read::{ReadError, ReadFault};
+use chr_read::{ReadError, ReadErrorKind};
 use chr_rules::{RuleError, RuleErrorKind};
 use chr_term::Memory;
 use refusing_alloc::Refusing;
@@ -221,7 +221,7 @@ fn refuses(alloc: Global, rt: &impl Abort, program: &[u8], query: &[u8], error: 
     assert!(rt; sink.text.is_empty());
 }
 
-fn unread(kind: ReadFault, line: u64, column: u64) -> ReadError {
+fn unread(kind: ReadErrorKind, line: u64, column: u64) -> ReadError {
     ReadError { kind, line, column }
 }
 
@@ -266,7 +266,7 @@ fn texts_in_order(rt: HostRuntime) {
         (
             "p(",
             "p(",
-            TextError::Program(unread(ReadFault::Expected, 1, 3)),
+            TextError::Program(unread(ReadErrorKind::Expected, 1, 3)),
         ),
         (
             mistake,
@@ -276,7 +276,7 @@ fn texts_in_order(rt: HostRuntime) {
         (
             declared,
             "q(",
-            TextError::Query(unread(ReadFault::Expected, 1, 3)),
+            TextError::Query(unread(ReadErrorKind::Expected, 1, 3)),
         ),
         (
             declared,

@@ -7,5 +7,6 @@ pub mod Texts
 pub mod Outcomes
 pub mod Sizes
 pub mod Joined
+pub mod Extensions
 pub mod Signs
 pub mod FirstNames

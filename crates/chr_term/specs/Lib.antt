@@ -1,4 +1,7 @@
-pub mod View
+pub mod TermView
+pub mod Size
 pub mod Texts
 pub mod Entries
 pub mod Arguments
+pub mod Extension
+pub mod Printer

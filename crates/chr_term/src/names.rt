@@ -115,7 +115,8 @@ impl<A: Allocator> Names<A> {
     pub fn find(&self, name: &str, arity: usize) -> Option<Sym>
         ensures symbol { option_map (λ sym. sym.0) result ≡ symbol_of self.now name.now arity }
         // Each pair stands once.
-        ensures once { (k : ℕ) → slice_get self.now k ≡ Some (name.now, arity) → option_map (λ sym. sym.0) result ≡ Some k }
+        ensures once { (k : ℕ) → slice_get self.now k ≡ Some (name.now, arity) →
+            option_map (λ sym. sym.0) result ≡ Some k }
     {
         let text = self.texts.get_index_of(name)?;
         let place = self.entries.get_index_of(&Entry { text, arity })?;
@@ -129,8 +130,10 @@ fn place_of<A: Allocator + Copy>(
     texts: &mut IndexSet<String<A>, FoldState, A>,
     text: &str,
 ) -> Result<usize, Memory>
-    ensures ok { OnOk result (texts_of texts.new.keys ≡ with_text (texts_of texts.old.keys) text.now) }
-    ensures place { IfOk result (λ place. slice_get (texts_of texts.new.keys) place ≡ Some text.now) }
+    ensures ok { OnOk result
+        (texts_of texts.new.keys ≡ with_text (texts_of texts.old.keys) text.now) }
+    ensures place { IfOk result
+        (λ place. slice_get (texts_of texts.new.keys) place ≡ Some text.now) }
     ensures err { OnErr result (texts.new.keys ≡ texts.old.keys) }
 {
     match texts.get_index_of(text) {

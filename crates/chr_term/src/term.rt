@@ -1,6 +1,6 @@
 ghost use Rattle.std.specs.Prelude.{◌≡◌, IfOk, IsTrue, ◌↔◌};
 ghost use Rattle.chr_semantics.specs.Tree.{is_ground_tree, is_ground_trees};
-ghost use Rattle.chr_term.specs.View.{trees_view, view};
+ghost use Rattle.chr_term.specs.TermView.{trees_view, view};
 
 use crate::Memory;
 use std::alloc::{Allocator, Global};
@@ -69,7 +69,7 @@ pub fn same<A: Allocator, B: Allocator>(left: &Term<A>, right: &Term<B>) -> bool
     match (left, right) {
         (Term::Var(x), Term::Var(y)) => *x == *y,
         (Term::Int(x), Term::Int(y)) => *x == *y,
-        (Term::Node(f, xs), Term::Node(g, ys)) => f.0 == g.0
+        (Term::Node(f, xs), Term::Node(g, ys)) => *f == *g
             && same_all(xs.as_slice(), ys.as_slice()),
         _ => false,
     }

@@ -1,4 +1,6 @@
 use super::*;
+use chr_semantics::limits::MAX_ARITY;
+use itoa::Buffer;
 use refusing_alloc::Refusing;
 use std::alloc::{Allocator, Global};
 use std::process::Abort;
@@ -51,7 +53,7 @@ fn nested<A: Allocator + Copy>(alloc: A, outer: u32, inner: u32) -> Result<Term<
     two(alloc, outer, left, right)
 }
 
-/// The text of a term behind `>`, where variable 0 is named `X`, 1 `y` and 2 `_A`.
+/// The text of a term after `>`, where variable 0 is named `X`, 1 `y` and 2 `_A`.
 fn text_of<A: Allocator + Copy>(
     alloc: A,
     rt: &impl Abort,
@@ -61,7 +63,7 @@ fn text_of<A: Allocator + Copy>(
     let vars = var_names(alloc, &["X", "y", "_A"])?;
     let mut text = Vec::new(alloc);
     text.push(b'>')?;
-    if print(alloc, &names, &vars, term, &mut text).is_err() {
+    if print(&names, &vars, term, &mut text).is_err() {
         assert_eq!(rt; text.as_slice(), b">".as_slice());
         return Err(Memory);
     }
@@ -95,7 +97,7 @@ fn prints(
 ) -> Result<(), Memory> {
     let names = own_names(alloc, rt)?;
     let mut text = Vec::new(alloc);
-    print(alloc, &names, &var_names(alloc, vars)?, term, &mut text)?;
+    print(&names, &var_names(alloc, vars)?, term, &mut text)?;
     assert_eq!(rt; text.as_slice(), wanted.as_bytes());
     Ok(())
 }
@@ -177,34 +179,107 @@ fn operators(rt: HostRuntime) -> Result<(), Fail> {
     Ok(())
 }
 
-fn atom_text<A: Allocator + Copy>(
-    alloc: A,
+/// What one call prints.
+#[derive(Clone, Copy, Debug, Drop)]
+enum Printed {
+    Term,
+    Atom,
+    Known,
+    Active,
+    Number,
+    Numbers,
+}
+
+/// Each, with its text where symbol 7 is `f` and the arguments are `(1+2)*(3+4)` and variable 0 with no name.
+const PRINTED: [(Printed, &str); 6] = [
+    (Printed::Term, ">(1+2)*(3+4)"),
+    (Printed::Atom, ">f((1+2)*(3+4),_0)"),
+    (Printed::Known, ">f((1+2)*(3+4),_0)#12"),
+    (Printed::Active, ">f((1+2)*(3+4),_0)#12:3"),
+    (Printed::Number, ">18446744073709551615"),
+    (Printed::Numbers, ">0,7,18446744073709551615,10"),
+];
+
+fn print_one<A: Allocator, B: Allocator>(
+    printed: Printed,
     names: &Names<A>,
-    args: &[Term<A>],
-    number: u64,
-) -> Result<Vec<u8, A>, Memory> {
-    let mut text = Vec::new(alloc);
-    print_atom(
-        alloc,
-        names,
-        &var_names(alloc, &[])?,
-        Sym(7),
-        args,
-        &mut text,
-    )?;
-    print_number(alloc, number, &mut text)?;
-    Ok(text)
+    vars: &VarNames<A>,
+    args: &[Term<A>; 2],
+    out: &mut Vec<u8, B>,
+) -> Result<(), Memory> {
+    let sym = Sym(7);
+    match printed {
+        Printed::Term => print(names, vars, &args[0], out),
+        Printed::Atom => print_atom(names, vars, sym, args, out),
+        Printed::Known => print_known(names, vars, sym, args, 12, out),
+        Printed::Active => print_active(names, vars, sym, args, 12, 3, out),
+        Printed::Number => print_number(u64::MAX, out),
+        Printed::Numbers => print_numbers(&[0, 7, u64::MAX, 10], out),
+    }
+}
+
+/// Prints after `>`, into memory that may be refused, and says whether it was: then nothing is printed.
+fn is_refused<B: Allocator>(
+    alloc: Global,
+    rt: &impl Abort,
+    meter: &Refusing<B>,
+    left: u64,
+    printed: (Printed, &str),
+) -> Result<bool, Memory> {
+    let (names, vars) = (own_names(alloc, rt)?, var_names(alloc, &[])?);
+    let args = [nested(alloc, 4, 2)?, Term::Var(0)];
+    let mut text = Vec::new(meter);
+    meter.allow(1);
+    text.push(b'>')?;
+    meter.allow(left);
+    let refused = print_one(printed.0, &names, &vars, &args, &mut text).is_err();
+    assert_eq!(rt; refused, meter.asked() > left, "{}", printed.1);
+    let wanted = if refused { ">" } else { printed.1 };
+    assert_eq!(rt; text.as_slice(), wanted.as_bytes(), "{}", printed.1);
+    Ok(refused)
 }
 
 #[test]
-fn atoms_and_numbers(rt: HostRuntime) -> Result<(), Fail> {
-    let names = own_names(rt.alloc(), &rt)?;
-    let left = nested(rt.alloc(), 4, 2)?;
-    let text = atom_text(rt.alloc(), &names, [left].as_slice(), u64::MAX)?;
-    assert_eq!(&rt;
-        text.as_slice(),
-        b"f((1+2)*(3+4))18446744073709551615".as_slice()
-    );
+fn printed_or_refused(rt: HostRuntime) -> Result<(), Fail> {
+    let meter = Refusing::new(rt.alloc(), 0);
+    for printed in PRINTED {
+        let mut refused = 0;
+        for left in 0..20u64 {
+            if !is_refused(rt.alloc(), &rt, &meter, left, printed)? {
+                break;
+            }
+            refused = left + 1;
+        }
+        assert!(&rt; refused > 0 && refused < 20, "{}", printed.1);
+    }
+    Ok(())
+}
+
+/// `h` with the greatest number of arguments, which are 0, 1, .., and its copy.
+#[test]
+fn sixteen_arguments(rt: HostRuntime) -> Result<(), Fail> {
+    let mut args = Vec::new(rt.alloc());
+    for number in 0..MAX_ARITY {
+        args.push(Term::Int(number as i128))?;
+    }
+    let term = Term::Node(Sym(10), args);
+    let wanted = "h(0,1,2,3,4,5,6,7,8,9,10,11,12,13,14,15)";
+    prints(rt.alloc(), &rt, &copy(rt.alloc(), &term)?, &[], wanted)?;
+    Ok(())
+}
+
+/// So many different names that their numbers have more than 16 bits.
+#[test]
+fn seventy_thousand_names(rt: HostRuntime) -> Result<(), Fail> {
+    let mut names = Names::new(rt.alloc())?;
+    for number in 0..70_000u32 {
+        assert!(&rt; names.len() < 100_000);
+        let sym = names.intern(Buffer::new().format(number), 1)?;
+        assert_eq!(&rt; sym.0, number + 7);
+    }
+    assert_eq!(&rt; names.len(), 70_007);
+    assert_eq!(&rt; names.find("65536", 1), Some(Sym(65_543)));
+    assert_eq!(&rt; names.name(Sym(70_006)), "69999");
     Ok(())
 }
 
@@ -250,12 +325,14 @@ fn var_names_calls(rt: HostRuntime) -> Result<(), Fail> {
 }
 
 #[test]
-fn want_of_memory(rt: HostRuntime) -> Result<(), Fail> {
+fn refused_memory(rt: HostRuntime) -> Result<(), Fail> {
     let meter = Refusing::new(rt.alloc(), 0);
     let mut refused = 0;
     for left in 0..500u64 {
         meter.allow(left);
-        if all_calls(&meter, &rt).is_some() {
+        let done = all_calls(&meter, &rt).is_some();
+        assert_eq!(&rt; done, meter.asked() <= left, "{left}");
+        if done {
             break;
         }
         refused = left + 1;

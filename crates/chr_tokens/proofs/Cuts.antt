@@ -7,22 +7,22 @@ use Rattle.chr_tokens.specs.Pieces.{IsLen}
 abbrev pub Reading : List Placed → List Placed → Bool → Place → List ℕ → Type 0
 Reading whole found signed p rest = (k : ℕ) × (length rest < k) × (whole ≡ found ++ tokens_within k signed p rest)
 
--- What is left behind n characters, and its place.
-pub record Cut (rest : List ℕ) (p : Place) (n : ℕ) (behind : List ℕ) (q : Place) : Type 0 where
+-- What is left after n characters, and its place.
+pub record Cut (rest : List ℕ) (p : Place) (n : ℕ) (left : List ℕ) (q : Place) : Type 0 where
   pub len : IsLen rest n
-  pub behind_is : behind ≡ drop n rest
+  pub rest_is : left ≡ drop n rest
   pub place_is : q ≡ advance p (take n rest)
 
 pub start : (text : List ℕ) → Reading (tokens text) [] false first_place text
 start text = (length text + 1, omega arith, refl)
 
-pub skip : (whole found : List Placed) (signed : Bool) (p q : Place) (rest behind : List ℕ) (n : ℕ) → Reading whole found signed p rest → piece signed rest ≡ blank n → Cut rest p n behind q → Reading whole found false q behind
-skip whole found signed p q rest behind n (zero, h, e) s c = absurd (omega arith)
-skip whole found signed p q rest behind n (suc k, h, e) s c = rw (c.behind_is, c.place_is) (k, omega (arith, length-drop n rest, c.len.0, c.len.1), rw s at e)
+pub skip : (whole found : List Placed) (signed : Bool) (p q : Place) (rest left : List ℕ) (n : ℕ) → Reading whole found signed p rest → piece signed rest ≡ blank n → Cut rest p n left q → Reading whole found false q left
+skip whole found signed p q rest left n (zero, h, e) s c = absurd (omega arith)
+skip whole found signed p q rest left n (suc k, h, e) s c = rw (c.rest_is, c.place_is) (k, omega (arith, length-drop n rest, c.len.0, c.len.1), rw s at e)
 
-pub take_one : (whole found : List Placed) (signed : Bool) (p q : Place) (rest behind : List ℕ) (t : Token) (n : ℕ) → Reading whole found signed p rest → piece signed rest ≡ token t n → Cut rest p n behind q → Reading whole (found ++ at p t ∷ []) (is_minus t) q behind
-take_one whole found signed p q rest behind t n (zero, h, e) s c = absurd (omega arith)
-take_one whole found signed p q rest behind t n (suc k, h, e) s c = rw (c.behind_is, c.place_is) (k, omega (arith, length-drop n rest, c.len.0, c.len.1), rw append_assoc (rw s at e))
+pub take_one : (whole found : List Placed) (signed : Bool) (p q : Place) (rest left : List ℕ) (t : Token) (n : ℕ) → Reading whole found signed p rest → piece signed rest ≡ token t n → Cut rest p n left q → Reading whole (found ++ at p t ∷ []) (is_minus t) q left
+take_one whole found signed p q rest left t n (zero, h, e) s c = absurd (omega arith)
+take_one whole found signed p q rest left t n (suc k, h, e) s c = rw (c.rest_is, c.place_is) (k, omega (arith, length-drop n rest, c.len.0, c.len.1), rw append_assoc (rw s at e))
 
 pub done : (whole found : List Placed) (signed : Bool) (p : Place) (rest : List ℕ) → Reading whole found signed p rest → piece signed rest ≡ ended → found ++ at p over ∷ [] ≡ whole
 done whole found signed p rest (zero, h, e) s = absurd (omega arith)

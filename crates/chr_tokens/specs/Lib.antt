@@ -1,3 +1,3 @@
 -- What the contracts cite.
-pub mod View
+pub mod TokenView
 pub mod Pieces

@@ -1,7 +1,7 @@
 -- What the code finds first in a text.
 use Rattle.std.specs.Prelude.{ℕ, ◌≤◌, ◌<◌, List, length}
 use Rattle.chr_semantics.specs.Tokens.{Piece, ended, blank, token, broken}
-use Rattle.chr_tokens.specs.View.{fault_view, token_view}
+use Rattle.chr_tokens.specs.TokenView.{fault_view, token_view}
 use Rattle.chr_tokens.specs.declared.pieces.First as written
 use Rattle.chr_tokens.specs.declared.pieces.First.TheVariants as Written
 

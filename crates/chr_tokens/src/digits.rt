@@ -3,11 +3,12 @@ ghost use Rattle.std.specs.Prelude.{◌≡◌, ◌≤◌, ◌<◌, ◌+◌, ◌*
 ghost use Rattle.chr_semantics.specs.Tokens.{digits_value};
 
 /// The greatest magnitude of a number, 2^127.
-const GREATEST: u128 = 170141183460469231731687303715884105728;
+const GREATEST: u128 = i128::MAX as u128 + 1;
 
 /// The value of decimal digits, unless it is above 2^127.
 pub fn number(digits: &[char]) -> Option<u128>
-    ensures { MatchOption result (GREATEST < digits_value 0 digits.now) (λ n. (n ≡ digits_value 0 digits.now) × (n ≤ GREATEST)) }
+    ensures { MatchOption result (GREATEST < digits_value 0 digits.now)
+        (λ n. (n ≡ digits_value 0 digits.now) × (n ≤ GREATEST)) }
 {
     let value = capped_value(digits);
     if value <= GREATEST { Some(value) } else { None }

@@ -1,6 +1,6 @@
 //! From the bytes of a text to its tokens.
 //!
-//! A text is UTF-8 and at most 1,048,576 bytes ([`characters`]). Between tokens there may be white space, as
+//! A text is UTF-8 and at most `MAX_TEXT_BYTES` bytes ([`characters`]). Between tokens there may be white space, as
 //! `char::is_whitespace` has it, and comments: from `%` to the end of the line or of the text, or from `/*` to the next
 //! `*/`. Where a token may begin, `/*` always begins a comment.
 //!
@@ -10,7 +10,7 @@
 //! is a `.` before white space, `%` or the end of the text, and no other `.` is a token.
 //!
 //! [`tokens`] gives each token with its place. The last one is [`Token::Over`], the end of the text, or
-//! [`Token::Fault`], behind which nothing is read.
+//! [`Token::Fault`], after which nothing is read.
 #![tactic(auto)]
 
 mod digits;

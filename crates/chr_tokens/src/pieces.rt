@@ -28,14 +28,14 @@ pub fn first_piece(signed: bool, text: &[char]) -> First<'_>
     ensures is { first_view result ≡ piece signed text.now }
     ensures within { IsIn text.now (first_view result) }
 {
-    let [c, behind @ ..] = text else {
+    let [c, others @ ..] = text else {
         return First::Ended;
     };
     if c.is_whitespace() {
         return First::Blank(1);
     }
     if *c == '%' {
-        return First::Blank(line_len(behind) + 1);
+        return First::Blank(line_len(others) + 1);
     }
     if let Some(inside) = inside_comment(text) {
         return match comment_len(inside) {
@@ -44,11 +44,11 @@ pub fn first_piece(signed: bool, text: &[char]) -> First<'_>
         };
     }
     if starts_word(*c) {
-        let word = &text[..word_len(behind) + 1];
+        let word = &text[..word_len(others) + 1];
         return First::Token(word_token(word), word.len());
     }
     if c.is_ascii_digit() {
-        return number_piece(signed, &text[..digits_len(behind) + 1]);
+        return number_piece(signed, &text[..digits_len(others) + 1]);
     }
     sign_piece(text)
 }

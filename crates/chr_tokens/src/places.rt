@@ -1,11 +1,11 @@
 //! Lines and columns.
 ghost use Rattle.std.specs.Prelude.{◌≡◌, ◌+◌, ◌<◌, ◌≤◌, ◌^◌, drop, length, take};
 ghost use Rattle.chr_semantics.specs.Tokens.{advance, after};
-ghost use Rattle.chr_tokens.specs.View.{place_view};
+ghost use Rattle.chr_tokens.specs.TokenView.{place_view};
 
 use crate::Place;
 
-/// What is left behind n characters of a text that begins at a place, and the place where that begins.
+/// What is left after n characters of a text that begins at a place, and the place where that begins.
 pub fn past(text: &[char], place: Place, n: usize) -> (&[char], Place)
     requires within { n ≤ length text.now }
     requires line { place.line + length text.now < 2 ^ 63 }
@@ -18,11 +18,11 @@ pub fn past(text: &[char], place: Place, n: usize) -> (&[char], Place)
     ensures column { result.1.column + length result.0.now ≤ place.column + length text.now }
     ensures from_one { 1 ≤ result.1.column }
 {
-    let (front, behind) = text.split_at(n);
-    (behind, advance(place, front))
+    let (front, rest) = text.split_at(n);
+    (rest, advance(place, front))
 }
 
-/// The place behind characters that begin at a place.
+/// The place after characters that begin at a place.
 fn advance(place: Place, text: &[char]) -> Place
     requires line { place.line + length text.now < 2 ^ 63 }
     requires column { place.column + length text.now < 2 ^ 63 }
@@ -39,7 +39,7 @@ fn advance(place: Place, text: &[char]) -> Place
     place
 }
 
-/// The place behind a character.
+/// The place after a character.
 fn after(place: Place, c: char) -> Place
     requires line { place.line < 2 ^ 63 }
     requires column { place.column < 2 ^ 63 }

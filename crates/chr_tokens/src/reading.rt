@@ -2,20 +2,22 @@
 ghost use Rattle.std.specs.Prelude.{◌≡◌, ◌≤◌, ◌+◌, IfOk, length};
 ghost use Rattle.chr_semantics.specs.Tokens as semantics;
 ghost use Rattle.chr_semantics.specs.Tokens.{is_minus};
-ghost use Rattle.chr_tokens.specs.View.{IsEnded, placed_views, token_view};
+ghost use Rattle.chr_tokens.specs.TokenView.{IsEnded, placed_views, token_view};
 
 use crate::pieces::{First, first_piece};
 use crate::places::past;
 use crate::{Additive, Memory, Place, Placed, Token};
+use chr_semantics::limits::MAX_TEXT_BYTES;
 use std::alloc::Allocator;
 
-/// The tokens of characters, of which there are at most 1,048,576, each with its place. The last one is `Fault` or `Over`.
+/// The tokens of characters, of which there are at most `MAX_TEXT_BYTES`, each with its place. The last one is `Fault`
+/// or `Over`.
 /// Words are parts of the text. It is refused only where the list is, and costs time in proportion to the characters.
 pub fn tokens<'a, A: Allocator + Copy>(
     alloc: A,
     text: &'a [char],
 ) -> Result<Vec<Placed<'a>, A>, Memory>
-    requires { length text.now ≤ 1048576 }
+    requires { length text.now ≤ MAX_TEXT_BYTES }
     ensures are { IfOk result (λ found. placed_views found.items ≡ semantics.tokens text.now) }
     ensures few { IfOk result (λ found. length found.items ≤ length text.now + 1) }
     ensures last { IfOk result (λ found. IsEnded (placed_views found.items)) }

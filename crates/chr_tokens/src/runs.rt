@@ -49,7 +49,7 @@ pub fn line_len(text: &[char]) -> usize
     n
 }
 
-/// How long a comment is behind its `/*`, with its `*/`.
+/// How long a comment is after its `/*`, with its `*/`.
 pub fn comment_len(text: &[char]) -> Option<usize>
     ensures len { result ≡ comment_len text.now }
     ensures bound { IfSome result (λ n. n ≤ length text.now) }
@@ -64,9 +64,11 @@ pub fn comment_len(text: &[char]) -> Option<usize>
     None
 }
 
-/// What stands behind `/*`.
+/// What stands after `/*`.
 pub fn inside_comment(text: &[char]) -> Option<&[char]>
-    ensures { MatchOption result (begins (codes "/*") text.now ≡ false) (λ inside. (begins (codes "/*") text.now ≡ true) × (inside.now ≡ drop 2 text.now) × (length inside.now + 2 ≡ length text.now)) }
+    ensures { MatchOption result (begins (codes "/*") text.now ≡ false)
+        (λ inside. (begins (codes "/*") text.now ≡ true) × (inside.now ≡ drop 2 text.now)
+        × (length inside.now + 2 ≡ length text.now)) }
 {
     match text {
         ['/', '*', inside @ ..] => Some(inside),

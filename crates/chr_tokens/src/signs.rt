@@ -49,7 +49,7 @@ fn is_stop(text: &[char]) -> bool
     ensures { result ≡ (begins (codes ".") text.now && ends (drop 1 text.now)) }
 {
     match text {
-        ['.', behind @ ..] => ends(behind),
+        ['.', others @ ..] => ends(others),
         _ => false,
     }
 }

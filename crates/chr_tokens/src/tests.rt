@@ -5,7 +5,7 @@ use std::fmt::Write;
 use std::process::Abort;
 use std::test::Fail;
 
-/// The tokens of a text, each behind its place.
+/// The tokens of a text, each after its place.
 fn read(alloc: Global, text: &str) -> Result<String, Unread> {
     let text = characters(alloc, text.as_bytes())?;
     let mut shown = String::new(alloc);
@@ -313,8 +313,9 @@ fn characters_of_bytes(rt: HostRuntime) -> Result<(), Fail> {
 
 const RULE: &str = "größe @ c(X), d(-12) \\ e <=> X > 3 | f(X mod 2). % g";
 
+/// Each growth refused in turn.
 #[test]
-fn want_of_memory(rt: HostRuntime) -> Result<(), Fail> {
+fn refused_in_characters(rt: HostRuntime) -> Result<(), Fail> {
     let memory = Refusing::new(rt.alloc(), 0);
     let text = characters(rt.alloc(), RULE.as_bytes())?;
     let mut refused = 0;
@@ -322,11 +323,13 @@ fn want_of_memory(rt: HostRuntime) -> Result<(), Fail> {
         memory.allow(left);
         match characters(&memory, RULE.as_bytes()) {
             Ok(found) => {
+                assert!(&rt; memory.asked() <= left, "{left}");
                 assert_eq!(&rt; found.as_slice(), text.as_slice());
                 break;
             }
-            Err(fault) => assert_eq!(&rt; fault, Unread::Memory),
+            Err(unread) => assert_eq!(&rt; unread, Unread::Memory),
         }
+        assert!(&rt; memory.asked() > left, "{left}");
         assert_eq!(&rt; memory.left(), 0);
         refused = left + 1;
     }
@@ -334,8 +337,9 @@ fn want_of_memory(rt: HostRuntime) -> Result<(), Fail> {
     Ok(())
 }
 
+/// The same of tokens.
 #[test]
-fn want_of_memory_for_tokens(rt: HostRuntime) -> Result<(), Fail> {
+fn refused_in_tokens(rt: HostRuntime) -> Result<(), Fail> {
     let memory = Refusing::new(rt.alloc(), 0);
     let text = characters(rt.alloc(), RULE.as_bytes())?;
     let mut refused = 0;
@@ -343,11 +347,13 @@ fn want_of_memory_for_tokens(rt: HostRuntime) -> Result<(), Fail> {
         memory.allow(left);
         match tokens(&memory, &text) {
             Ok(found) => {
+                assert!(&rt; memory.asked() <= left, "{left}");
                 assert_eq!(&rt; found.len(), 27);
                 break;
             }
             Err(Memory) => refused = left + 1,
         }
+        assert!(&rt; memory.asked() > left, "{left}");
         assert_eq!(&rt; memory.left(), 0);
     }
     assert!(&rt; refused > 3 && refused < 100, "{refused}");

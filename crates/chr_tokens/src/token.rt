@@ -109,7 +109,7 @@ pub enum Token<'a> {
     Relation(Relation),
     /// Another sign.
     Sign(Sign),
-    /// What is no token. Nothing is read behind it.
+    /// What is no token. Nothing is read after it.
     Fault(Fault),
     /// The end of the text.
     Over,

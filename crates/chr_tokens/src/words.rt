@@ -1,7 +1,7 @@
 //! The words.
 ghost use Rattle.std.specs.Prelude.{◌≡◌};
 ghost use Rattle.chr_semantics.specs.Tokens.{starts_word, word_token};
-ghost use Rattle.chr_tokens.specs.View.{token_view};
+ghost use Rattle.chr_tokens.specs.TokenView.{token_view};
 
 use crate::{Multiplicative, Relation, Token};
 

@@ -13,7 +13,7 @@ use Rattle.chr_words.specs.declared.words.Request.{Request}
 use Rattle.chr_words.specs.declared.words.Request.TheVariants.{Run, Help, Refused}
 use Rattle.chr_words.specs.App.{chr_app}
 use Rattle.chr_words.specs.Answer.{IsAnswer, IsRead, IsRefusal, budget_of}
-use Rattle.chr_words.specs.Words.{Asks, Said, asks_of, help, refused, run}
+use Rattle.chr_words.specs.Words.{Asks, RunWords, asks_of, help, refused, run}
 use Rattle.chr_words.proofs.Rows.{IsNumbered}
 use Rattle.chr_words.proofs.Turns.{Shows, are_wrong, is_wrong}
 use Rattle.chr_words.proofs.Walked.{IsParsedAs, all_parsed}
@@ -22,17 +22,17 @@ budget_is : (f : Found) (budget : Option Text) (n : ℕ) → one_of (codes "budg
 budget_is f None n is numbered program query read = read.2 (one_text-rows f (codes "budget") ∙ is)
 budget_is f (Some text) n is numbered program query read = read.3 text (one_text-rows f (codes "budget") ∙ is) (numbered text refl)
 
-shown : (words : List Text) (f : Found) (said : Said) (r : Request) → asks_of words ≡ run said → rows_of f ≡ matches_of chr_app words → Shows said (matches_of chr_app words)
+shown : (words : List Text) (f : Found) (run_words : RunWords) (r : Request) → asks_of words ≡ run run_words → rows_of f ≡ matches_of chr_app words → Shows run_words (matches_of chr_app words)
     → IsRead f r → IsAnswer words r
-shown words f said (Run program query n) asks rows shows read = (
-  said,
+shown words f run_words (Run program query n) asks rows shows read = (
+  run_words,
   asks,
   read.0 ∙ first_value-rows f (codes "PROGRAM") ∙ ap (first_of (codes "PROGRAM")) rows ∙ shows.program,
   read.1 ∙ first_value-rows f (codes "QUERY") ∙ ap (first_of (codes "QUERY")) rows ∙ shows.query,
-  budget_is f said.budget n (ap (one_of (codes "budget")) rows ∙ shows.budget) shows.numbered program query read,
+  budget_is f run_words.budget n (ap (one_of (codes "budget")) rows ∙ shows.budget) shows.numbered program query read,
 )
-shown words f said (Help text) asks rows shows read = absurd read
-shown words f said (Refused text) asks rows shows read = absurd read
+shown words f run_words (Help text) asks rows shows read = absurd read
+shown words f run_words (Refused text) asks rows shows read = absurd read
 
 abbrev some_kind : Kinds → Bool
 some_kind [] = false
@@ -43,7 +43,7 @@ pub answered_run : (words : List Text) (f : Found) (r : Request) → fault_of ch
 answered_run words f r fine rows read = go (asks_of words) refl (all_parsed words)
   where
     go : (a : Asks) → asks_of words ≡ a → IsParsedAs a words → IsAnswer words r
-    go (run said) asks parsed = shown words f said r asks rows parsed.1 read
+    go (run run_words) asks parsed = shown words f run_words r asks rows parsed.1 read
     go help asks parsed = absurd (true≢false (ap some_kind (sym parsed ∙ fine)))
     go refused asks parsed = absurd (true≢false (sym parsed ∙ ap are_wrong fine))
 
@@ -79,7 +79,7 @@ answered_refusal words k (Help text) has says = go (asks_of words) refl (all_par
     among = kind_among (fault_of chr_app words) k has (ap is_memory says)
 
     go : (a : Asks) → asks_of words ≡ a → IsParsedAs a words → asks_of words ≡ help
-    go (run said) asks parsed = absurd (among_at k _ [] parsed.0 among)
+    go (run run_words) asks parsed = absurd (among_at k _ [] parsed.0 among)
     go help asks parsed = asks
     go refused asks parsed = absurd (true≢false (sym (not_wrong (fault_of chr_app words) k among parsed) ∙ ap is_wrong says))
 answered_refusal words k (Refused text) has says = go (asks_of words) refl (all_parsed words) has
@@ -90,6 +90,6 @@ answered_refusal words k (Refused text) has says = go (asks_of words) refl (all_
 
     go : (a : Asks) → asks_of words ≡ a → IsParsedAs a words → (k ≡ kind.OutOfMemory) ⊎ IsAmong k (fault_of chr_app words) → asks_of words ≡ refused
     go a asks parsed (inl e) = absurd (says.1 e)
-    go (run said) asks parsed (inr among) = absurd (among_at k _ [] parsed.0 among)
+    go (run run_words) asks parsed (inr among) = absurd (among_at k _ [] parsed.0 among)
     go help asks parsed (inr among) = absurd (only_help (among_at k _ (kind.DisplayHelp ∷ []) parsed among))
     go refused asks parsed (inr among) = asks

@@ -8,7 +8,7 @@ use Rattle.clap.specs.Walk.{Held, Row, Rule, Text, Walk, default_rows, finished,
 use Rattle.clap.specs.Simple.{Shape, built, entered}
 use Rattle.clap.specs.declared.error.kind.ErrorKind.{ErrorKind}
 use Rattle.clap.specs.declared.error.kind.ErrorKind.TheVariants as kind
-use Rattle.chr_words.specs.Words.{Asks, Said, help, refused, run}
+use Rattle.chr_words.specs.Words.{Asks, RunWords, help, refused, run}
 use Rattle.chr_words.specs.App.{chr_app}
 use Rattle.chr_words.proofs.Rows.{IsNumbered, budget_built, help_built, program_built, query_built}
 
@@ -48,20 +48,20 @@ abbrev pub fault_at : Walk → List Text → Kinds
 fault_at w words = fault_from (walk_fault top [] w words) (end_of w words)
 
 -- the rows show what was said
-pub record Shows (said : Said) (rows : List Row) : Type 0 where
-  pub program : first_of (codes "PROGRAM") rows ≡ said.program
-  pub query : first_of (codes "QUERY") rows ≡ said.query
-  pub budget : one_of (codes "budget") rows ≡ said.budget
-  pub numbered : IsNumbered said.budget
+pub record Shows (run_words : RunWords) (rows : List Row) : Type 0 where
+  pub program : first_of (codes "PROGRAM") rows ≡ run_words.program
+  pub query : first_of (codes "QUERY") rows ≡ run_words.query
+  pub budget : one_of (codes "budget") rows ≡ run_words.budget
+  pub numbered : IsNumbered run_words.budget
 
 -- the walk over the words ends as they ask
 abbrev pub Agrees : Asks → Walk → List Text → Type 0
-Agrees (run said) w words = (fault_at w words ≡ []) × Shows said (finished rules (end_of w words).held)
+Agrees (run run_words) w words = (fault_at w words ≡ []) × Shows run_words (finished rules (end_of w words).held)
 Agrees help w words = fault_at w words ≡ kind.DisplayHelp ∷ []
 Agrees refused w words = are_wrong (fault_at w words) ≡ true
 
 agrees_along : (a : Asks) (w v : Walk) (words more : List Text) → fault_at w words ≡ fault_at v more → end_of w words ≡ end_of v more → Agrees a v more → Agrees a w words
-agrees_along (run said) w v words more e f h = (e ∙ h.0, subst (λ (x : Walk). Shows said (finished rules x.held)) (sym f) h.1)
+agrees_along (run run_words) w v words more e f h = (e ∙ h.0, subst (λ (x : Walk). Shows run_words (finished rules x.held)) (sym f) h.1)
 agrees_along help w v words more e f h = e ∙ h
 agrees_along refused w v words more e f h = ap are_wrong e ∙ h
 

@@ -9,7 +9,7 @@ use Rattle.clap.specs.Faults.{fault_of, is_simple_and_free, settle_fault, step_f
 use Rattle.clap.specs.Walk.{Row, Text, Walk, after_step, has_row, idle, settled_rows, used, value, walked}
 use Rattle.clap.specs.declared.error.kind.ErrorKind.TheVariants as kind
 use Rattle.chr_words.specs.App.{chr_app}
-use Rattle.chr_words.specs.Words.{Asks, Reading, Said, asks_from, asks_of, behind, budgeted, goes, help, helped, is_number, lettered, placed, refused, run, step_by, stops}
+use Rattle.chr_words.specs.Words.{Asks, Reading, RunWords, asks_from, asks_of, asks_after, budget_step, goes, help, help_step, is_number, short_step, operand_step, refused, run, parts_step, stops}
 use Rattle.chr_words.proofs.Rows.{Holds, budget_built, budget_used, program_built, program_used, query_built, query_used}
 use Rattle.chr_words.proofs.Numbers.{accepts_is}
 use Rattle.chr_words.proofs.Turns.{Agrees, Shows, are_wrong, ends, ends_wrong, fails_at, finished_is, goes_on, rules, top}
@@ -21,11 +21,11 @@ use Rattle.chr_words.proofs.Again.{awaited, doomed_again, no_number, number, num
 abbrev dashes : Text
 dashes = 45 ∷ 45 ∷ []
 
-abbrev said_of : Option Text → Option Text → Option Text → Said
+abbrev said_of : Option Text → Option Text → Option Text → RunWords
 said_of program query budget = record { program = program; query = query; budget = budget }
 
 abbrev reading : Option Text → Option Text → Option Text → Bool → Bool → Reading
-reading program query budget awaits plain = record { said = said_of program query budget; awaits = awaits; plain = plain }
+reading program query budget awaits plain = record { run_words = said_of program query budget; awaits = awaits; plain = plain }
 
 abbrev place_of : Option Text → Option Text → ℕ
 place_of None query = 1
@@ -73,7 +73,7 @@ module _ (word : Text) (words : List Text) (rest : Rests words) where
       → turn_fault top [] (at plain idle (place_of program query) rows pending) word ≡ step_fault top (place_of program query) (held_at rows pending) value
       → walked rules [] (at plain idle (place_of program query) rows pending) word
       ≡ after_step rules word (at plain idle (place_of program query) rows pending) (held_at rows pending) value
-      → Agrees (behind (placed (reading program query budget false plain) word program query) (λ next. asks_from next words)) (at plain idle (place_of program query) rows pending) (word ∷ words)
+      → Agrees (asks_after (operand_step (reading program query budget false plain) word program query) (λ next. asks_from next words)) (at plain idle (place_of program query) rows pending) (word ∷ words)
   places plain None (Some q) budget rows pending fine holds turn walk = absurd (true≢false (ap is_some (holds.ordered refl)))
   places plain None None budget rows pending fine holds turn walk =
       goes_on _ _ (placed_at plain program_built 2 rows pending word) word words (turn ∙ placed_fault program_built (held_at rows pending) refl ∙ fine) (walk ∙ program_placed plain rows pending word)
@@ -126,7 +126,7 @@ module _ (word : Text) (words : List Text) (rest : Rests words) (await : Awaits 
   budget_alone : (budget : Option Text) → Holds program query budget before
       → turn_fault top [] here word ≡ long_fault_by idle (place_of program query) (held_at rows pending) word None (Some budget_built)
       → walked rules [] here word ≡ long_walk_by idle (place_of program query) rows pending word None (Some budget_built)
-      → Agrees (behind (budgeted (reading program query budget false false) None) (λ next. asks_from next words)) here (word ∷ words)
+      → Agrees (asks_after (budget_step (reading program query budget false false) None) (λ next. asks_from next words)) here (word ∷ words)
   budget_alone None holds turn walk =
       goes_on _ _ (at false awaited (place_of program query) before no_number) word words (turn ∙ ap (λ f. or_else f []) fine) walk (await program query before holds)
   budget_alone (Some d) holds turn walk =
@@ -137,7 +137,7 @@ module _ (word : Text) (words : List Text) (rest : Rests words) (await : Awaits 
   budget_number : (x : Text) (budget : Option Text) (n : Bool) → is_number x ≡ n → Holds program query budget before
       → turn_fault top [] here word ≡ long_fault_by idle (place_of program query) (held_at rows pending) word (Some x) (Some budget_built)
       → walked rules [] here word ≡ long_walk_by idle (place_of program query) rows pending word (Some x) (Some budget_built)
-      → Agrees (behind (cond (is_some budget) (stops refused) (cond n (goes (reading program query (Some x) false false)) (stops refused))) (λ next. asks_from next words)) here (word ∷ words)
+      → Agrees (asks_after (cond (is_some budget) (stops refused) (cond n (goes (reading program query (Some x) false false)) (stops refused))) (λ next. asks_from next words)) here (word ∷ words)
   budget_number x (Some d) n e holds turn walk =
       ap are_wrong (fails_at _ word words kind.ArgumentConflict (turn ∙ ap₂ (λ f u. or_else (or_else f u) []) fine (second_number before x holds.at_budget.has)))
   budget_number x None true e holds turn walk =
@@ -149,7 +149,7 @@ module _ (word : Text) (words : List Text) (rest : Rests words) (await : Awaits 
 
   long_words : (budget : Option Text) (name : Text) (v : Option Text) (a b : Bool) → Holds program query budget before → bytes_eq word dashes ≡ false → long_of word ≡ Some (name, v)
       → bytes_eq (codes "budget") name ≡ a → bytes_eq (codes "help") name ≡ b
-      → Agrees (behind (cond a (budgeted (reading program query budget false false) v) (cond b (helped v) (stops refused))) (λ next. asks_from next words)) here (word ∷ words)
+      → Agrees (asks_after (cond a (budget_step (reading program query budget false false) v) (cond b (help_step v) (stops refused))) (λ next. asks_from next words)) here (word ∷ words)
   long_words budget name None true b holds is_b is_long is_budget is_help =
       budget_alone budget holds (long_turn name None is_b is_long true b is_budget is_help) (long_walk name None is_b is_long true b is_budget is_help)
   long_words budget name (Some x) true b holds is_b is_long is_budget is_help =
@@ -170,20 +170,20 @@ module _ (word : Text) (words : List Text) (rest : Rests words) (await : Awaits 
     short_walk letters e = walk_is (place_of program query) rows pending word false None is_b is_long idle ∙ ap (short_walk_by idle (place_of program query) rows pending word) e
 
     letter_words : (budget : Option Text) (flags : Text) (c : Option ℕ) → Holds program query budget before → short_of word ≡ Some flags → slice_get (chars flags) 0 ≡ c
-        → Agrees (behind (lettered (reading program query budget false false) word c) (λ next. asks_from next words)) here (word ∷ words)
+        → Agrees (asks_after (short_step (reading program query budget false false) word c) (λ next. asks_from next words)) here (word ∷ words)
     letter_words budget flags None holds is_short is_c =
         places word words rest false program query budget rows pending fine holds
         (short_turn (Some flags) is_short ∙ no_letter_fault idle (place_of program query) rows pending word flags is_c)
         (short_walk (Some flags) is_short ∙ no_letter_walk idle (place_of program query) rows pending word flags is_c)
     letter_words budget flags (Some c) holds is_short is_c = go (104 == c) refl
       where
-        go : (b : Bool) → (104 == c) ≡ b → Agrees (behind (cond b (stops help) (stops refused)) (λ next. asks_from next words)) here (word ∷ words)
+        go : (b : Bool) → (104 == c) ≡ b → Agrees (asks_after (cond b (stops help) (stops refused)) (λ next. asks_from next words)) here (word ∷ words)
         go true e = fails_at _ word words kind.DisplayHelp (short_turn (Some flags) is_short ∙ letter_help idle (place_of program query) rows pending word flags c is_c e fine)
         go false e = ap are_wrong (fails_at _ word words kind.UnknownArgument
             (short_turn (Some flags) is_short ∙ letter_unknown idle (place_of program query) rows pending word flags c is_c e))
 
   option_words : (budget : Option Text) (b : Bool) (parts : Option (Text × Option Text)) (letters : Option Text) → Holds program query budget before → bytes_eq word dashes ≡ b
-      → long_of word ≡ parts → short_of word ≡ letters → Agrees (behind (step_by (reading program query budget false false) word b parts letters) (λ next. asks_from next words)) here (word ∷ words)
+      → long_of word ≡ parts → short_of word ≡ letters → Agrees (asks_after (parts_step (reading program query budget false false) word b parts letters) (λ next. asks_from next words)) here (word ∷ words)
   option_words budget true parts letters holds is_b is_long is_short =
       goes_on _ _ (at true idle (place_of program query) rows pending) word words (turn_is (place_of program query) rows pending word true parts is_b is_long idle)
       (walk_is (place_of program query) rows pending word true parts is_b is_long idle) (rest true program query budget rows pending fine holds)
@@ -200,7 +200,7 @@ module _ (word : Text) (words : List Text) (rest : Rests words) (program query :
   waits = at false awaited (place_of program query) rows no_number
 
   taken : (n : Bool) → is_number word ≡ n → turn_fault top [] waits word ≡ [] → walked rules [] waits word ≡ at false idle (place_of program query) rows (number word)
-      → Agrees (behind (cond n (goes (reading program query (Some word) false false)) (stops refused)) (λ next. asks_from next words)) waits (word ∷ words)
+      → Agrees (asks_after (cond n (goes (reading program query (Some word) false false)) (stops refused)) (λ next. asks_from next words)) waits (word ∷ words)
   taken true e turn walk =
       goes_on _ _ (at false idle (place_of program query) rows (number word)) word words turn walk
       (rest false program query (Some word) rows (number word) (first_number rows word true holds.at_budget.has e) (budget_used program query rows word e holds))
@@ -218,7 +218,7 @@ module _ (word : Text) (words : List Text) (rest : Rests words) (program query :
         walk_is (place_of program query) rows no_number word false None is_b is_long awaited ∙ ap (short_walk_by awaited (place_of program query) rows no_number word) e
 
     wait_letters : (flags : Text) (c : Option ℕ) → short_of word ≡ Some flags → slice_get (chars flags) 0 ≡ c
-        → Agrees (behind (lettered (reading program query None true false) word c) (λ next. asks_from next words)) waits (word ∷ words)
+        → Agrees (asks_after (short_step (reading program query None true false) word c) (λ next. asks_from next words)) waits (word ∷ words)
     wait_letters flags None is_short is_c =
         taken (is_number word) refl (wait_turn (Some flags) is_short ∙ no_letter_fault awaited (place_of program query) rows no_number word flags is_c)
         (wait_walk (Some flags) is_short ∙ no_letter_walk awaited (place_of program query) rows no_number word flags is_c)
@@ -227,7 +227,7 @@ module _ (word : Text) (words : List Text) (rest : Rests words) (program query :
         (letter_wrong awaited (place_of program query) rows no_number word flags c kind.InvalidValue is_c refl refl)
 
   wait_words : (b : Bool) (parts : Option (Text × Option Text)) (letters : Option Text) → bytes_eq word dashes ≡ b → long_of word ≡ parts → short_of word ≡ letters
-      → Agrees (behind (step_by (reading program query None true false) word b parts letters) (λ next. asks_from next words)) waits (word ∷ words)
+      → Agrees (asks_after (parts_step (reading program query None true false) word b parts letters) (λ next. asks_from next words)) waits (word ∷ words)
   wait_words true parts letters is_b is_long is_short =
       goes_on refused _ (at true awaited (place_of program query) rows no_number) word words (turn_is (place_of program query) rows no_number word true parts is_b is_long awaited)
       (walk_is (place_of program query) rows no_number word true parts is_b is_long awaited)
@@ -267,12 +267,12 @@ nothing_holds = record {
 
 -- what clap makes of the words is what they ask for
 abbrev pub IsParsedAs : Asks → List Text → Type 0
-IsParsedAs (run said) words = (fault_of chr_app words ≡ []) × Shows said (matches_of chr_app words)
+IsParsedAs (run run_words) words = (fault_of chr_app words ≡ []) × Shows run_words (matches_of chr_app words)
 IsParsedAs help words = fault_of chr_app words ≡ kind.DisplayHelp ∷ []
 IsParsedAs refused words = are_wrong (fault_of chr_app words) ≡ true
 
 parsed_as : (a : Asks) (words : List Text) → Agrees a (at false idle 1 [] None) words → IsParsedAs a words
-parsed_as (run said) words h = h
+parsed_as (run run_words) words h = h
 parsed_as help words h = h
 parsed_as refused words h = h
 

@@ -6,7 +6,7 @@ use Rattle.clap.specs.Matches.{first_value, one_text}
 use Rattle.clap.specs.declared.error.kind.ErrorKind.{ErrorKind}
 use Rattle.clap.specs.declared.error.kind.ErrorKind.TheVariants as kind
 use Rattle.clap.specs.declared.parser.matches.Found.{Found}
-use Rattle.chr_words.specs.Words.{Said, asks_of, help, is_number, refused, run}
+use Rattle.chr_words.specs.Words.{RunWords, asks_of, help, is_number, refused, run}
 use Rattle.chr_words.specs.declared.words.Request.{Request}
 use Rattle.chr_words.specs.declared.words.Request.TheVariants.{Run, Help, Refused}
 
@@ -16,8 +16,8 @@ budget_of digits = option_map_or (λ text. digits_value 10 (without_leading_plus
 
 -- the answer is what the words ask for
 abbrev pub IsAnswer : List (List ℕ) → Request → Type 0
-IsAnswer words (Run program query budget) = (said : Said) × (asks_of words ≡ run said) × (option_map (λ t. t.now) program ≡ said.program)
-    × (option_map (λ t. t.now) query ≡ said.query) × (budget ≡ budget_of said.budget)
+IsAnswer words (Run program query budget) = (run_words : RunWords) × (asks_of words ≡ run run_words) × (option_map (λ t. t.now) program ≡ run_words.program)
+    × (option_map (λ t. t.now) query ≡ run_words.query) × (budget ≡ budget_of run_words.budget)
 IsAnswer words (Help text) = asks_of words ≡ help
 IsAnswer words (Refused text) = asks_of words ≡ refused
 

@@ -1,4 +1,4 @@
-//! What the words behind the program's name ask for, and the reading of a file.
+//! What the words after the program's name ask for, and the reading of a file.
 #![tactic(auto)]
 
 pub mod files;

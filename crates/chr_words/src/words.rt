@@ -1,4 +1,4 @@
-//! What the words behind the program's name ask for.
+//! What the words after the program's name ask for.
 ghost use Rattle.std.specs.Prelude.{◌≡◌, ℕ, List, [], ◌∷◌, Some, None, IfOk, false, true, map};
 ghost use Rattle.std.specs.String.{string_bytes};
 ghost use Rattle.clap.specs.Words.{app_of, found_of, kind_of, rule_of};
@@ -13,7 +13,7 @@ use std::alloc::{AllocError, Global};
 /// The budget of a run where the words give none.
 const BUDGET: u64 = 100_000;
 
-/// What the words behind the program's name ask for.
+/// What the words after the program's name ask for.
 #[derive(Debug, Drop)]
 pub enum Request<'a> {
     /// A run, of the program in a file, or of the standard input where there is none.
@@ -87,7 +87,7 @@ fn refusal_of<'a>(alloc: Global, error: &Error) -> Result<Request<'a>, AllocErro
     }
 }
 
-/// What the words behind the program's name ask for, as `clap` reads them.
+/// What the words after the program's name ask for, as `clap` reads them.
 pub fn asked<'a>(alloc: Global, words: &'a [String]) -> Result<Request<'a>, AllocError>
     ensures asks { IfOk result (IsAnswer (map string_bytes words.entry.now)) }
     ensures no_words { words.entry.now ≡ [] → IfOk result (IsRun None None 100000) }

@@ -1,4 +1,4 @@
-//! Each growth of a call refused in turn: what stands after the refusal, and that the call then goes on.
+//! Each growth of a call refused in turn: that the refusal is a growth's, what stands after it, and that the call then goes on.
 use super::*;
 use refusing_alloc::Refusing;
 use std::alloc::Global;
@@ -20,6 +20,11 @@ const GROUND_SIZES: [(usize, usize, usize); 8] = [
     (1, 3, 1),
     (0, 3, 1),
 ];
+
+/// A growth was refused since so many were allowed, or none was.
+fn assert_refused(meter: &Refusing<Global>, rt: &impl Abort, left: u64, is_refused: bool) {
+    assert_eq!(rt; meter.asked() > left, is_refused, "{left}");
+}
 
 fn assert_rows_after<A: Allocator>(rt: &impl Abort, store: &Store<A>, done: usize) {
     assert_eq!(rt; has_row(store, 1, P, 1), done == 1);
@@ -51,7 +56,9 @@ fn machine_made(meter: &Refusing<Global>, rt: &impl Abort, left: u64) -> Result<
     meter.allow(AMPLE);
     let (program, query) = both_of(meter, rt, GROUND_PROGRAM, GROUND_QUERY);
     meter.allow(left);
-    match started(meter, rt, &program, query) {
+    let made = started(meter, rt, &program, query);
+    assert_refused(meter, rt, left, made.is_err());
+    match made {
         Ok(machine) => {
             assert_stands(rt, &machine, Status::Running, 0);
             assert_sizes(rt, &machine, (2, 0, 0));
@@ -98,6 +105,7 @@ fn is_stepped(
     run_alone(machine, done as u64)?;
     meter.allow(left);
     let made = step(machine).is_ok();
+    assert_refused(meter, rt, left, !made);
     assert_after(rt, machine, done.saturating_add(made as usize));
     go_on(meter, rt, machine)?;
     Ok(made)
@@ -127,7 +135,7 @@ fn step_refused(rt: HostRuntime) -> Result<(), Fail> {
             }
             refused = left + 1;
         }
-        assert!(&rt; refused > 1 && refused < MOST, "{refused} after {done}");
+        assert!(&rt; refused > 0 && refused < MOST, "{refused} after {done}");
     }
     Ok(())
 }
@@ -141,6 +149,7 @@ fn is_run(
 ) -> Result<bool, Memory> {
     meter.allow(left);
     let made = run_alone(machine, 100).is_ok();
+    assert_refused(meter, rt, left, !made);
     let done = steps_of(machine);
     assert_eq!(rt; made, done == 7);
     assert_after(rt, machine, done);
@@ -181,7 +190,9 @@ fn is_add_refused<'m>(
     meter.allow(AMPLE);
     let args = one(meter, Term::Int(number as i128))?;
     meter.allow(0);
-    match store.add(P, args) {
+    let added = store.add(P, args);
+    assert_refused(meter, rt, 0, added.is_err());
+    match added {
         Ok(id) => {
             assert_eq!(rt; id.0, number as u64);
             Ok(false)

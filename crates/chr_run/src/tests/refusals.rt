@@ -7,28 +7,30 @@ use chr_rules::Program;
 /// More growths than a run of these tests asks for.
 const MOST: u64 = 10_000;
 
-/// Where memory is wanted: by the program's text, its rules, the query's text, its goals, the run.
+/// Where memory is refused: to the program's text, its rules, the query's text, its goals, the run.
 fn place_of(error: TextError) -> Option<usize> {
-    let wants = [
-        TextError::Program(unread(ReadFault::Memory, 0, 0)),
+    let places = [
+        TextError::Program(unread(ReadErrorKind::Memory, 0, 0)),
         TextError::Rules(mistaken(RuleErrorKind::Memory, 0, 0)),
-        TextError::Query(unread(ReadFault::Memory, 0, 0)),
+        TextError::Query(unread(ReadErrorKind::Memory, 0, 0)),
         TextError::Goals(mistaken(RuleErrorKind::Memory, 0, 0)),
         TextError::Run(RunError::Memory),
     ];
-    wants.iter().position(|want| *want == error)
+    places.iter().position(|place| *place == error)
 }
 
-/// Nothing goes out before the run has all its memory, and what comes first in the texts wants it first.
+/// Nothing goes out before the run has all its memory, and what comes first in the texts asks for it first.
 #[test]
-fn want_of_memory(rt: HostRuntime) {
+fn refused_growths(rt: HostRuntime) {
     let meter = Refusing::new(rt.alloc(), 0);
     let mut refused = [0u64; 5];
     let mut sink = Sink::open(rt.alloc());
     let mut last = 0;
     for left in 0..MOST {
         meter.allow(left);
-        let Err(error) = run_case(&meter, &GROUND_RULE, &mut sink) else {
+        let ran = run_case(&meter, &GROUND_RULE, &mut sink);
+        assert_eq!(rt; meter.asked() > left, ran.is_err(), "{left}");
+        let Err(error) = ran else {
             break;
         };
         let Some(place) = place_of(error) else {
@@ -60,7 +62,9 @@ fn run_read(
     assert!(rt; is_thin_program(&program));
     assert!(rt; is_thin_query(&query));
     meter.allow(left);
-    Some(run_into(meter, &program, query, 100, 0, sink))
+    let ran = run_into(meter, &program, query, 100, 0, sink);
+    assert_eq!(rt; meter.asked() > left, ran.is_err(), "{left}");
+    Some(ran)
 }
 
 #[test]

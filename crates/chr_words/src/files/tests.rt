@@ -99,3 +99,45 @@ impl Read for Endless {
 fn no_end(rt: HostRuntime) {
     assert!(rt; read_all(rt.alloc(), &mut Endless).is_none());
 }
+
+/// So many spaces, of which each call gives at most `step`.
+#[derive(Drop)]
+struct Spaces {
+    left: usize,
+    step: usize,
+}
+
+impl Read for Spaces {
+    fn read(&mut self, buf: &mut [u8]) -> io::Result<usize> {
+        let count = buf.len().min(self.step).min(self.left);
+        buf[..count].fill(b' ');
+        self.left -= count;
+        Ok(count)
+    }
+}
+
+/// How many bytes are read of so many spaces.
+fn bytes_read(alloc: Global, left: usize, step: usize) -> Option<usize> {
+    let bytes = read_all(alloc, &mut Spaces { left, step })?;
+    Some(bytes.len())
+}
+
+/// The call that meets the end counts too.
+#[test]
+fn a_million_calls(rt: HostRuntime) {
+    assert_eq!(rt; bytes_read(rt.alloc(), 999_999, 1), Some(999_999));
+    assert_eq!(rt; bytes_read(rt.alloc(), 1_000_000, 1), None);
+}
+
+#[test]
+fn inputs_of_any_length(rt: HostRuntime) {
+    for left in [0, 1, 4_095, 4_096, 4_097, 1_048_576, 1_048_577, 2_097_152] {
+        for step in [700, 4_096, usize::MAX] {
+            assert_eq!(rt;
+                bytes_read(rt.alloc(), left, step),
+                Some(left),
+                "{left} by {step}"
+            );
+        }
+    }
+}

@@ -1,5 +1,5 @@
 use Rattle.std.proofs.Common.{◌↔◌, drop}
-use Rattle.chr_term.specs.View.{trees_view}
+use Rattle.chr_term.specs.TermView.{trees_view}
 use Rattle.chr_bind.specs.Terms.{AreBelow}
 use Rattle.chr_bind.proofs.below.+below.Given as goal
 

@@ -1,11 +1,13 @@
+use Rattle.chr_semantics.specs.declared.limits.TheConstants.{MAX_RULE_VARIABLES}
 use Rattle.std.proofs.Common.{None, Option, Some, MatchBool, option_and_then, ◌+◌, ◌≡◌, ◌∙◌, ap, arith, drop, subst, sym}
 use Rattle.chr_semantics.specs.Match.{fit_all}
 use Rattle.chr_semantics.specs.Subst.{Subst}
 use Rattle.chr_semantics.specs.Tree.{node}
-use Rattle.chr_term.specs.View.{trees_view, view}
+use Rattle.chr_term.specs.TermView.{trees_view, view}
 use Rattle.chr_bind.specs.Matching.{Agrees}
 use Rattle.chr_bind.proofs.Fits.{fit_all-at, fit_all-lengths, fit_end, fit_nodes}
-use Rattle.chr_bind.proofs.Lists.{below_item, size_item_plain}
+use Rattle.chr_bind.proofs.Lists.{below_item}
+use Rattle.chr_term.proofs.Sizes.{size-item}
 use Rattle.chr_bind.proofs.Views.{view-Node}
 use Rattle.chr_bind.proofs.matching.+fit.Goals as goal
 
@@ -14,8 +16,8 @@ fit_all-returns-then-patterns-terms g t c m h = fit_all-lengths c.args.patterns.
 
 pub fit_all-fit_term-requires : goal.fit_all-fit_term-requires
 fit_all-fit_term-requires g t c κs within =
-    let smaller = size_item_plain c.args.patterns.now c.loop-i.i c.index-patterns-i.result c.loop-i-test.true c.index-patterns-i.is in
-    (omega (arith, smaller, c.decreases), (within, ((omega arith), below_item 64 c.args.patterns.now c.loop-i.i c.index-patterns-i.result c.loop-i-test.true c.index-patterns-i.is c.requires)))
+    let smaller = size-item view c.args.patterns.now c.loop-i.i c.index-patterns-i.result c.loop-i-test.true c.index-patterns-i.is in
+    (omega (arith, smaller, c.decreases), (within, ((omega arith), below_item MAX_RULE_VARIABLES c.args.patterns.now c.loop-i.i c.index-patterns-i.result c.loop-i-test.true c.index-patterns-i.is c.requires)))
 
 pub fit_all-returns-then-not-fit_term : goal.fit_all-returns-then-not-fit_term
 fit_all-returns-then-not-fit_term g t c m h =

@@ -1,9 +1,9 @@
 use Rattle.std.proofs.Common.{◌≡◌, ◌+◌, drop}
 use Rattle.chr_semantics.specs.Match.{fit_all}
 use Rattle.chr_semantics.specs.Subst.{Subst}
-use Rattle.chr_term.specs.View.{trees_view, view}
+use Rattle.chr_term.specs.TermView.{trees_view, view}
 use Rattle.chr_bind.specs.Matching.{Agrees}
-use Rattle.chr_bind.specs.Terms.{size, size_all}
+use Rattle.chr_term.specs.Size.{size, size_all}
 use Rattle.chr_bind.proofs.matching.+fit.Given as goal
 
 abbrev pub decreases-fit_term : goal.decreases-fit_term

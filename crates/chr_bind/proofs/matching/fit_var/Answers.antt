@@ -1,6 +1,6 @@
 use Rattle.std.proofs.Common.{Some, ◌∙◌, ap, arith}
 use Rattle.std.proofs.lemmas.Option.{slice_get-get_or}
-use Rattle.chr_term.specs.View.{view}
+use Rattle.chr_term.specs.TermView.{view}
 use Rattle.chr_bind.specs.Matching.{slot_tree}
 use Rattle.chr_bind.proofs.Fits.{fit_matched, fit_new}
 use Rattle.chr_bind.proofs.matching.fit_var.Goals as goal

@@ -1,5 +1,5 @@
 use Rattle.std.proofs.Common.{IfOk, length, subst}
-use Rattle.chr_term.specs.View.{trees_view}
+use Rattle.chr_term.specs.TermView.{trees_view}
 use Rattle.chr_bind.specs.Agenda.{Differs}
 use Rattle.chr_bind.specs.Chains.{subst_of}
 use Rattle.chr_bind.specs.Terms.{AreBelow}

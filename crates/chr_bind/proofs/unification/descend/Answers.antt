@@ -1,6 +1,6 @@
 use Rattle.std.proofs.Common.{arith}
 use Rattle.chr_semantics.specs.Subst.{apply}
-use Rattle.chr_term.specs.View.{view}
+use Rattle.chr_term.specs.TermView.{view}
 use Rattle.chr_bind.specs.Chains.{subst_of}
 use Rattle.chr_bind.proofs.Agenda.{size_positive}
 use Rattle.chr_bind.proofs.unification.descend.Goals as goal

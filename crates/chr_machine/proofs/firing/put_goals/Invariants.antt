@@ -1,6 +1,6 @@
 use Rattle.std.proofs.Common.{◌≡◌, ◌≤◌, ◌+◌, ◌++◌, map, vec_len, vec_capacity}
 use Rattle.chr_semantics.specs.State.{goal as told}
-use Rattle.chr_rules.specs.View.{goal_view}
+use Rattle.chr_rules.specs.RuleView.{goal_view}
 use Rattle.chr_machine.specs.State.{stack_view}
 use Rattle.chr_machine.proofs.firing.put_goals.Given as goal
 

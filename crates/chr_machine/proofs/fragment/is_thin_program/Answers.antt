@@ -1,7 +1,7 @@
 use Rattle.std.proofs.Common.{◌∙◌, sym}
 use Rattle.chr_machine.specs.Fragment.{is_thin_rule}
-use Rattle.chr_machine.specs.Loaded.{rules_of}
-use Rattle.chr_rules.specs.View.{rule_view}
+use Rattle.chr_rules.specs.ProgramView.{rules_of}
+use Rattle.chr_rules.specs.RuleView.{rule_view}
 use Rattle.chr_machine.proofs.Every.{all_more, all_ended}
 use Rattle.chr_machine.proofs.fragment.is_thin_program.Goals as goal
 

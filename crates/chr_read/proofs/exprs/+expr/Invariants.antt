@@ -1,9 +1,9 @@
 use Rattle.std.proofs.Common.{◌≡◌, ◌+◌, ◌*◌, ◌<◌, List, [], ◌∷◌, Option, None, length}
 use Rattle.chr_semantics.specs.Tokens.{Additive}
 use Rattle.chr_semantics.specs.Syntax as syntax
-use Rattle.chr_tokens.specs.View.{placed_views}
-use Rattle.chr_read.specs.View.{additive_operands, multiplicative_operands, products, sums, view, views}
-use Rattle.chr_read.specs.Machine.{Begun, Frame, Kind, elements, want, have, fresh, run, limited}
+use Rattle.chr_tokens.specs.TokenView.{placed_views}
+use Rattle.chr_read.specs.SyntaxView.{operand_views, products, sums, view, views}
+use Rattle.chr_read.specs.Automaton.{Prefix, Frame, Container, elements, want, have, no_prefix, run, limited_room}
 use Rattle.chr_read.specs.Reads.{Leaves, NoAdditive, NoMultiplicative}
 use Rattle.chr_read.proofs.exprs.+expr.Given as goal
 
@@ -16,8 +16,8 @@ decreases-product g l = l.room * 8 + 3
 abbrev pub decreases-sum : goal.decreases-sum
 decreases-sum g l = l.room * 8 + 4
 
-abbrev pub decreases-named : goal.decreases-named
-decreases-named g l = l.room * 8 + 1
+abbrev pub decreases-name_or_call : goal.decreases-name_or_call
+decreases-name_or_call g l = l.room * 8 + 1
 
 abbrev pub decreases-in_parens : goal.decreases-in_parens
 decreases-in_parens g l = l.room * 8 + 7
@@ -30,7 +30,7 @@ decreases-elements g l = l.room * 8 + 6
 
 abbrev pub invariant-product-loop-operator : goal.invariant-product-loop-operator
 invariant-product-loop-operator g l = record {
-  reads : (s : Option (syntax.Expr × Additive)) (k : List Frame) → Leaves l.room k → run limited (want (record { sum = s; product = None }) k) (placed_views l.fn.text) ≡ run limited (have s (products (view l.first) (multiplicative_operands l.others.items)) k) (placed_views l.rest);
+  reads : (s : Option (syntax.Expr × Additive)) (k : List Frame) → Leaves l.room k → run limited_room (want (record { sum = s; product = None }) k) (placed_views l.fn.text) ≡ run limited_room (have s (products (view l.first) (operand_views l.operands.items)) k) (placed_views l.rest);
   shorter : length l.rest < length l.fn.text;
 }
 
@@ -39,7 +39,7 @@ decreases-product-loop-operator g l = length l.rest
 
 abbrev pub invariant-sum-loop-operator : goal.invariant-sum-loop-operator
 invariant-sum-loop-operator g l = record {
-  reads : (k : List Frame) → Leaves l.room k → run limited (want fresh k) (placed_views l.fn.text) ≡ run limited (have None (sums (view l.first) (additive_operands l.others.items)) k) (placed_views l.rest);
+  reads : (k : List Frame) → Leaves l.room k → run limited_room (want no_prefix k) (placed_views l.fn.text) ≡ run limited_room (have None (sums (view l.first) (operand_views l.operands.items)) k) (placed_views l.rest);
   shorter : length l.rest < length l.fn.text;
   no_product : NoMultiplicative (placed_views l.rest);
 }
@@ -49,7 +49,7 @@ decreases-sum-loop-operator g l = length l.rest
 
 abbrev pub invariant-elements-loop-after : goal.invariant-elements-loop-after
 invariant-elements-loop-after g l = record {
-  reads : (q : Kind) (b : Begun) (k : List Frame) → Leaves l.room (elements q [] b ∷ k) → run limited (want fresh (elements q [] b ∷ k)) (placed_views l.fn.text) ≡ run limited (have None (view l.last) (elements q (views l.items.items) b ∷ k)) (placed_views l.rest);
+  reads : (q : Container) (b : Prefix) (k : List Frame) → Leaves l.room (elements q [] b ∷ k) → run limited_room (want no_prefix (elements q [] b ∷ k)) (placed_views l.fn.text) ≡ run limited_room (have None (view l.last) (elements q (views l.items.items) b ∷ k)) (placed_views l.rest);
   shorter : length l.rest < length l.fn.text;
   no_sum : NoAdditive (placed_views l.rest);
   no_product : NoMultiplicative (placed_views l.rest);

@@ -1,6 +1,6 @@
 use Rattle.std.proofs.Common.{◌∙◌, ap}
 use Rattle.chr_semantics.specs.Syntax.{list}
-use Rattle.chr_read.specs.View.{view, views}
+use Rattle.chr_read.specs.SyntaxView.{view, views}
 use Rattle.chr_read.proofs.Views.{view-ListWithEnd}
 use Rattle.chr_read.proofs.exprs.list_with_end.Goals as goal
 

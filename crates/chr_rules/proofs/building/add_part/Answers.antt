@@ -1,9 +1,9 @@
 use Rattle.std.proofs.Common.{◌∙◌, ap, subst, sym}
 use Rattle.chr_semantics.specs.Checked.{rule_in}
-use Rattle.chr_read.specs.View.{part_view}
+use Rattle.chr_read.specs.SyntaxView.{part_view}
 use Rattle.chr_rules.specs.Building.{checked_of}
 use Rattle.chr_rules.specs.Checks.{IsError}
-use Rattle.chr_rules.specs.View.{rules_view}
+use Rattle.chr_rules.specs.RuleView.{rules_view}
 use Rattle.chr_rules.proofs.Called.{on_ok_answers}
 use Rattle.chr_rules.proofs.Placed.{err_maps}
 use Rattle.chr_rules.proofs.building.add_part.Goals as goal

@@ -1,10 +1,10 @@
 use Rattle.std.proofs.Common.{◌∙◌, ◌+◌, [], ◌∷◌, ◌++◌, Ok, ap, length, subst, sym}
 use Rattle.std.proofs.lemmas.List.{map-append}
 use Rattle.chr_semantics.specs.Checked.{error_in_rule, unless, with_rule}
-use Rattle.chr_read.specs.View.{rule_view as syntax_rule}
+use Rattle.chr_read.specs.SyntaxView.{rule_view as syntax_rule}
 use Rattle.chr_rules.specs.Building.{IsPlaced, checked_of, unless_mistaken}
 use Rattle.chr_rules.specs.Checks.{IsFault}
-use Rattle.chr_rules.specs.View.{rule_view, rules_view}
+use Rattle.chr_rules.specs.RuleView.{rule_view, rules_view}
 use Rattle.chr_rules.proofs.Placed.{placed}
 use Rattle.chr_rules.proofs.building.add_rule.Goals as goal
 

@@ -1,6 +1,6 @@
 use Rattle.std.proofs.Common.{◌∙◌, subst, sym}
 use Rattle.chr_semantics.specs.Checked.{each, declare_in}
-use Rattle.chr_read.specs.View.{part_view, part_views}
+use Rattle.chr_read.specs.SyntaxView.{part_view, part_views}
 use Rattle.chr_rules.specs.Checks.{IsError}
 use Rattle.chr_rules.proofs.Each.{each_more, each_refused, err_answers}
 use Rattle.chr_rules.proofs.building.declare_all.Goals as goal

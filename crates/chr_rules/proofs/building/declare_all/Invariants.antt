@@ -1,6 +1,6 @@
 use Rattle.std.proofs.Common.{◌≡◌, drop}
 use Rattle.chr_semantics.specs.Checked.{declare_in, each}
-use Rattle.chr_read.specs.View.{part_views}
+use Rattle.chr_read.specs.SyntaxView.{part_views}
 use Rattle.chr_rules.proofs.building.declare_all.Given as goal
 
 abbrev pub invariant-loop-part : goal.invariant-loop-part

@@ -1,6 +1,6 @@
 use Rattle.std.proofs.Common.{rules, ◌∙◌}
 use Rattle.chr_semantics.specs.Checked.{declare}
-use Rattle.chr_read.specs.View.{declaration_view}
+use Rattle.chr_read.specs.SyntaxView.{declaration_view}
 use Rattle.chr_rules.proofs.Each.{each_more, each_refused}
 use Rattle.chr_rules.proofs.building.declare_each.Goals as goal
 

@@ -1,6 +1,6 @@
 use Rattle.std.proofs.Common.{◌≡◌, drop}
 use Rattle.chr_semantics.specs.Checked.{declare, each}
-use Rattle.chr_read.specs.View.{declaration_views}
+use Rattle.chr_read.specs.SyntaxView.{declaration_views}
 use Rattle.chr_rules.proofs.building.declare_each.Given as goal
 
 abbrev pub invariant-loop-declaration : goal.invariant-loop-declaration

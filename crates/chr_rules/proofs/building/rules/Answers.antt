@@ -1,8 +1,8 @@
 use Rattle.std.proofs.Common.{[], ◌∙◌, subst, sym}
 use Rattle.chr_semantics.specs.Checked.{each, rule_in}
-use Rattle.chr_read.specs.View.{part_view, part_views}
+use Rattle.chr_read.specs.SyntaxView.{part_view, part_views}
 use Rattle.chr_rules.specs.Building.{checked_of}
-use Rattle.chr_rules.specs.View.{rules_view}
+use Rattle.chr_rules.specs.RuleView.{rules_view}
 use Rattle.chr_rules.specs.Checks.{IsError}
 use Rattle.chr_rules.proofs.Each.{each_more, each_refused, err_answers}
 use Rattle.chr_rules.proofs.building.rules.Goals as goal

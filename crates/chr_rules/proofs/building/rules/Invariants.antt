@@ -1,8 +1,8 @@
 use Rattle.std.proofs.Common.{◌≡◌, [], drop}
 use Rattle.chr_semantics.specs.Checked.{each, rule_in}
-use Rattle.chr_read.specs.View.{part_views}
+use Rattle.chr_read.specs.SyntaxView.{part_views}
 use Rattle.chr_rules.specs.Building.{checked_of}
-use Rattle.chr_rules.specs.View.{rules_view}
+use Rattle.chr_rules.specs.RuleView.{rules_view}
 use Rattle.chr_rules.proofs.building.rules.Given as goal
 
 abbrev pub invariant-loop-part : goal.invariant-loop-part

@@ -1,7 +1,7 @@
 use Rattle.std.proofs.Common.{◌≡◌, drop}
 use Rattle.std.specs.List.{list_any}
 use Rattle.chr_semantics.specs.Checked.{items_of}
-use Rattle.chr_read.specs.View.{head_views}
+use Rattle.chr_read.specs.SyntaxView.{head_views}
 use Rattle.chr_rules.specs.Checks.{check_view}
 use Rattle.chr_rules.proofs.checks.in_heads.Given as goal
 

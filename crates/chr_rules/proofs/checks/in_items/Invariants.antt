@@ -1,6 +1,6 @@
 use Rattle.std.proofs.Common.{◌≡◌, drop}
 use Rattle.std.specs.List.{list_any}
-use Rattle.chr_read.specs.View.{item_views}
+use Rattle.chr_read.specs.SyntaxView.{item_views}
 use Rattle.chr_rules.specs.Checks.{check_view}
 use Rattle.chr_rules.proofs.checks.in_items.Given as goal
 

@@ -1,7 +1,7 @@
 use Rattle.std.proofs.Common.{◌∙◌, [], ◌∷◌, ◌++◌, ap, sym}
 use Rattle.chr_semantics.specs.Meaning.{head_of, scope}
 use Rattle.chr_semantics.specs.Syntax.{exprs_of}
-use Rattle.chr_read.specs.View.{item_view, view, views}
+use Rattle.chr_read.specs.SyntaxView.{item_view, view, views}
 use Rattle.chr_rules.specs.Heads.{heads_of}
 use Rattle.chr_rules.proofs.Called.{head_called, on_ok_answers}
 use Rattle.chr_rules.proofs.goals.add_head.Goals as goal

@@ -1,6 +1,6 @@
 use Rattle.std.proofs.Common.{◌∙◌}
 use Rattle.chr_semantics.specs.Meaning.{head_from, scope}
-use Rattle.chr_read.specs.View.{head_view}
+use Rattle.chr_read.specs.SyntaxView.{head_view}
 use Rattle.chr_rules.specs.Heads.{heads_of}
 use Rattle.chr_rules.proofs.Turned.{turn_done}
 use Rattle.chr_rules.proofs.goals.add_heads.Goals as goal

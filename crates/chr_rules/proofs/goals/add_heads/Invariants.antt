@@ -1,6 +1,6 @@
 use Rattle.std.proofs.Common.{◌≡◌, drop}
 use Rattle.chr_semantics.specs.Meaning.{head_from, in_turn, scope}
-use Rattle.chr_read.specs.View.{head_views}
+use Rattle.chr_read.specs.SyntaxView.{head_views}
 use Rattle.chr_rules.specs.Heads.{heads_of, IsFlagged}
 use Rattle.chr_rules.proofs.goals.add_heads.Given as goal
 

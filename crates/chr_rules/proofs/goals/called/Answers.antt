@@ -2,7 +2,7 @@ use Rattle.std.proofs.Common.{◌∙◌, [], ◌∷◌, ap, length, sym}
 use Rattle.chr_semantics.specs.Meaning.{scope}
 use Rattle.chr_semantics.specs.Program.{constraint}
 use Rattle.chr_semantics.specs.Syntax.{exprs_of}
-use Rattle.chr_read.specs.View.{views}
+use Rattle.chr_read.specs.SyntaxView.{views}
 use Rattle.chr_rules.proofs.Called.{goal_called, goal_failing, goal_left_out}
 use Rattle.chr_rules.proofs.Within.{count_views}
 use Rattle.chr_rules.proofs.goals.called.Goals as goal

@@ -1,7 +1,7 @@
 use Rattle.std.proofs.Common.{◌∙◌, map}
 use Rattle.chr_semantics.specs.Meaning.{goal_from, scope}
-use Rattle.chr_rules.specs.View.{goal_view}
-use Rattle.chr_read.specs.View.{item_view}
+use Rattle.chr_rules.specs.RuleView.{goal_view}
+use Rattle.chr_read.specs.SyntaxView.{item_view}
 use Rattle.chr_rules.proofs.Grown.{grows_both}
 use Rattle.chr_rules.proofs.Turned.{turn_done}
 use Rattle.chr_rules.proofs.goals.goals.Goals as goal

@@ -1,8 +1,8 @@
 use Rattle.std.proofs.Common.{◌≡◌, [], drop, map}
 use Rattle.chr_semantics.specs.Meaning.{goal_from, in_turn, scope}
 use Rattle.chr_rules.specs.Grown.{Grows}
-use Rattle.chr_rules.specs.View.{goal_view}
-use Rattle.chr_read.specs.View.{item_views}
+use Rattle.chr_rules.specs.RuleView.{goal_view}
+use Rattle.chr_read.specs.SyntaxView.{item_views}
 use Rattle.chr_rules.proofs.goals.goals.Given as goal
 
 abbrev pub invariant-loop-item : goal.invariant-loop-item

@@ -1,7 +1,7 @@
 use Rattle.std.proofs.Common.{◌∙◌, ap, sym}
 use Rattle.chr_semantics.specs.Meaning.{test_from, scope, relation_test}
-use Rattle.chr_tokens.specs.View.{relation_view}
-use Rattle.chr_read.specs.View.{item_view}
+use Rattle.chr_tokens.specs.TokenView.{relation_view}
+use Rattle.chr_read.specs.SyntaxView.{item_view}
 use Rattle.chr_rules.proofs.goals.test.Goals as goal
 
 pub returns-in_ok-left-in-Related : goal.returns-in_ok-left-in-Related

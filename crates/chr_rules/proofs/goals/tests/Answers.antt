@@ -1,7 +1,7 @@
 use Rattle.std.proofs.Common.{◌∙◌, map}
 use Rattle.chr_semantics.specs.Meaning.{test_from, scope}
 use Rattle.chr_bind.specs.Guards.{test_view}
-use Rattle.chr_read.specs.View.{item_view}
+use Rattle.chr_read.specs.SyntaxView.{item_view}
 use Rattle.chr_rules.proofs.Turned.{turn_done}
 use Rattle.chr_rules.proofs.goals.tests.Goals as goal
 

@@ -1,7 +1,7 @@
 use Rattle.std.proofs.Common.{◌≡◌, [], drop, map}
 use Rattle.chr_semantics.specs.Meaning.{test_from, in_turn, scope}
 use Rattle.chr_bind.specs.Guards.{test_view}
-use Rattle.chr_read.specs.View.{item_views}
+use Rattle.chr_read.specs.SyntaxView.{item_views}
 use Rattle.chr_rules.proofs.goals.tests.Given as goal
 
 abbrev pub invariant-loop-item : goal.invariant-loop-item

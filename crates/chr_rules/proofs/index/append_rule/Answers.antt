@@ -1,7 +1,7 @@
 use Rattle.std.proofs.Common.{◌≡◌, ◌∙◌, ap, sym, ◌++◌, arith}
 use Rattle.std.specs.Prelude.{slice_get}
 use Rattle.chr_rules.specs.Index.{listed}
-use Rattle.chr_rules.specs.View.{rule_view}
+use Rattle.chr_rules.specs.RuleView.{rule_view}
 use Rattle.chr_rules.proofs.Listed.{pairs_of-in}
 use Rattle.chr_rules.proofs.index.append_rule.Goals as goal
 

@@ -1,7 +1,7 @@
 use Rattle.std.proofs.Common.{◌≡◌, ◌<◌, ◌∙◌, ap, sym, arith}
 use Rattle.std.specs.Prelude.{length}
 use Rattle.chr_semantics.specs.Meaning.{call_of}
-use Rattle.chr_read.specs.View.{view}
+use Rattle.chr_read.specs.SyntaxView.{view}
 use Rattle.chr_rules.proofs.Within.{called_in_end, called_in_factor, called_in_list, called_in_list_with_end, called_in_operand, called_in_product, called_in_sum}
 use Rattle.chr_rules.proofs.parts.+called.Goals as goal
 

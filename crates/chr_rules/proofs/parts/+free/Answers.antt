@@ -2,7 +2,7 @@ use Rattle.std.proofs.Common.{rules, ◌∙◌, ap, sym, arith}
 use Rattle.std.specs.List.{list_any}
 use Rattle.chr_semantics.specs.Checked.{are_free, is_free}
 use Rattle.chr_semantics.specs.Syntax.{exprs_of}
-use Rattle.chr_read.specs.View.{view, views}
+use Rattle.chr_read.specs.SyntaxView.{view, views}
 use Rattle.chr_rules.specs.Operands.{operands}
 use Rattle.chr_rules.specs.Weight.{weight, weights, operand_weights}
 use Rattle.chr_rules.proofs.Weighs.{element_weighs, call_weighs, list_weighs, list_with_end_weighs, sum_weighs, product_weighs}

@@ -3,7 +3,7 @@ use Rattle.std.proofs.Common.{rules, ◌≡◌, ◌∙◌, ap, sym, arith}
 use Rattle.std.specs.List.{list_any}
 use Rattle.chr_semantics.specs.Checked.{are_wide, is_wide}
 use Rattle.chr_semantics.specs.Syntax.{exprs_of}
-use Rattle.chr_read.specs.View.{view, views}
+use Rattle.chr_read.specs.SyntaxView.{view, views}
 use Rattle.chr_rules.specs.Operands.{operands}
 use Rattle.chr_rules.specs.Weight.{weight, weights, operand_weights}
 use Rattle.chr_rules.proofs.Weighs.{element_weighs, call_weighs, list_weighs, list_with_end_weighs, sum_weighs, product_weighs}
@@ -73,15 +73,15 @@ is_wide-any_wide_factor-requires g t c κs within =
     let part = ap operand_weights c.as_slice-else-is_wide-2.ensures.value in
     (omega (arith, c.decreases, whole, part), search rules)
 
-pub is_wide-returns-then-len-gt16 : goal.is_wide-returns-then-len-gt16
-is_wide-returns-then-len-gt16 g t c =
+pub is_wide-returns-then-len-gt-MAX_ARITY : goal.is_wide-returns-then-len-gt-MAX_ARITY
+is_wide-returns-then-len-gt-MAX_ARITY g t c =
     let len : c.len.result ≡ length c.in-Call.args.items = omega (arith, c.len.ensures, c.in-Call.args.ok.0) in
-    or_first _ _ _ (more_than 16 c.len.result c.if-len-gt16.true) (ap (nat_lt 16) len) ∙ sym (wide_in_call c.args.expr.now c.in-Call.field-0 c.in-Call.args c.in-Call.is)
+    or_first _ _ _ (more_than 16 c.len.result c.if-len-gt-MAX_ARITY.true) (ap (nat_lt 16) len) ∙ sym (wide_in_call c.args.expr.now c.in-Call.field-0 c.in-Call.args c.in-Call.is)
 
-pub is_wide-returns-else-len-gt16 : goal.is_wide-returns-else-len-gt16
-is_wide-returns-else-len-gt16 g t c =
+pub is_wide-returns-else-len-gt-MAX_ARITY : goal.is_wide-returns-else-len-gt-MAX_ARITY
+is_wide-returns-else-len-gt-MAX_ARITY g t c =
     let len : c.len.result ≡ length c.in-Call.args.items = omega (arith, c.len.ensures, c.in-Call.args.ok.0) in
-    or_second _ _ _ _ (not_more_than 16 c.len.result c.if-len-gt16.false) (ap (nat_lt 16) len) (c.are_wide.ensures ∙ ap (λ es. are_wide (exprs_of (views es))) c.as_slice.ensures.value)
+    or_second _ _ _ _ (not_more_than 16 c.len.result c.if-len-gt-MAX_ARITY.false) (ap (nat_lt 16) len) (c.are_wide.ensures ∙ ap (λ es. are_wide (exprs_of (views es))) c.as_slice.ensures.value)
     ∙ sym (wide_in_call c.args.expr.now c.in-Call.field-0 c.in-Call.args c.in-Call.is)
 
 pub is_wide-returns-in-List : goal.is_wide-returns-in-List

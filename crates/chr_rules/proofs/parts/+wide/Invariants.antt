@@ -2,7 +2,7 @@ use Rattle.std.proofs.Common.{◌≡◌, ◌+◌, ◌*◌, drop}
 use Rattle.std.specs.List.{list_any}
 use Rattle.chr_semantics.specs.Checked.{are_wide, is_wide}
 use Rattle.chr_semantics.specs.Syntax.{exprs_of}
-use Rattle.chr_read.specs.View.{views}
+use Rattle.chr_read.specs.SyntaxView.{views}
 use Rattle.chr_rules.specs.Operands.{operands}
 use Rattle.chr_rules.specs.Weight.{operand_weights, weight, weights}
 use Rattle.chr_rules.proofs.parts.+wide.Given as goal

@@ -1,6 +1,6 @@
 use Rattle.std.proofs.Common.{◌∙◌, Ok, ap, sym}
 use Rattle.chr_semantics.specs.Checked.{error_in_query, query_from, unless}
-use Rattle.chr_read.specs.View.{item_views}
+use Rattle.chr_read.specs.SyntaxView.{item_views}
 use Rattle.chr_rules.proofs.Mistakes.{no_fault}
 use Rattle.chr_rules.proofs.queries.query.Goals as goal
 

@@ -1,11 +1,11 @@
 use Rattle.std.proofs.Common.{◌∙◌, [], ap, sym}
 use Rattle.chr_semantics.specs.Meaning.{head_from, in_turn, scope}
-use Rattle.chr_read.specs.View.{head_views}
+use Rattle.chr_read.specs.SyntaxView.{head_views}
 use Rattle.chr_rules.proofs.Turned.{in_turn_more}
 use Rattle.chr_rules.proofs.rules.heads.Goals as goal
 
-pub returns : goal.returns
-returns g c =
+pub returns-clause-heads : goal.returns-clause-heads
+returns-clause-heads g c =
     let here = scope c.args.names.now c.args.variables.now in
     let first = head_views c.args.written.now.heads.items in
     c.in_ok-add_heads-2.ensures.heads

@@ -1,6 +1,6 @@
 use Rattle.std.proofs.Common.{◌≡◌, drop, bytes_eq}
 use Rattle.std.specs.List.{list_any}
-use Rattle.chr_rules.specs.View.{rules_view}
+use Rattle.chr_rules.specs.RuleView.{rules_view}
 use Rattle.chr_rules.proofs.rules.is_label.Given as goal
 
 abbrev pub invariant-loop-rule : goal.invariant-loop-rule

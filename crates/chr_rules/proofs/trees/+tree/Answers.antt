@@ -4,9 +4,9 @@ use Rattle.chr_semantics.specs.Syntax.{call, exprs_of, list, nil}
 use Rattle.chr_semantics.specs.Meaning.{scope, tree_from}
 use Rattle.chr_semantics.specs.Tree.{node, none}
 use Rattle.std.specs.Prelude.{string_bytes}
-use Rattle.chr_term.specs.View.{trees_view, view}
+use Rattle.chr_term.specs.TermView.{trees_view, view}
 use Rattle.chr_term.specs.declared.term.Term.TheVariants.{Node}
-use Rattle.chr_read.specs.View.{additive_operands, multiplicative_operands, products, sums, view as syntax_view, views}
+use Rattle.chr_read.specs.SyntaxView.{operand_views, products, sums, view as syntax_view, views}
 use Rattle.chr_rules.specs.Turns.{factors_from, listed, summands_from, tree_turn}
 use Rattle.chr_rules.specs.Weight.{operand_weights, weight}
 use Rattle.chr_rules.proofs.Grown.{grows_both}
@@ -121,13 +121,13 @@ tree-returns-in-ListWithEnd-clause-tree g t c =
 pub tree-returns-in-Sum-clause-tree : goal.tree-returns-in-Sum-clause-tree
 tree-returns-in-Sum-clause-tree g t c =
     subst (λ e. IfOk c.sum.result (λ tree. (scope c.sum.new.names c.sum.new.variables, view tree) ≡ tree_from (scope c.args.names.now c.args.variables.now) e))
-    (ap (λ xs. sums (syntax_view c.deref-in-Sum.result.now) (additive_operands xs)) c.as_slice-in-Sum.ensures.value ∙ ap (λ e. sums (syntax_view e) (additive_operands c.in-Sum.others.items)) c.deref-in-Sum.ensures ∙ sym (sum_is c.args.expr.now c.in-Sum.first c.in-Sum.others c.in-Sum.is))
+    (ap (λ xs. sums (syntax_view c.deref-in-Sum.result.now) (operand_views xs)) c.as_slice-in-Sum.ensures.value ∙ ap (λ e. sums (syntax_view e) (operand_views c.in-Sum.others.items)) c.deref-in-Sum.ensures ∙ sym (sum_is c.args.expr.now c.in-Sum.first c.in-Sum.others c.in-Sum.is))
     c.sum.ensures.sum
 
 pub tree-returns-in-Product-clause-tree : goal.tree-returns-in-Product-clause-tree
 tree-returns-in-Product-clause-tree g t c =
     subst (λ e. IfOk c.product.result (λ tree. (scope c.product.new.names c.product.new.variables, view tree) ≡ tree_from (scope c.args.names.now c.args.variables.now) e))
-    (ap (λ xs. products (syntax_view c.deref-in-Product.result.now) (multiplicative_operands xs)) c.as_slice-in-Product.ensures.value ∙ ap (λ e. products (syntax_view e) (multiplicative_operands c.in-Product.others.items)) c.deref-in-Product.ensures ∙ sym (product_is c.args.expr.now c.in-Product.first c.in-Product.others c.in-Product.is))
+    (ap (λ xs. products (syntax_view c.deref-in-Product.result.now) (operand_views xs)) c.as_slice-in-Product.ensures.value ∙ ap (λ e. products (syntax_view e) (operand_views c.in-Product.others.items)) c.deref-in-Product.ensures ∙ sym (product_is c.args.expr.now c.in-Product.first c.in-Product.others c.in-Product.is))
     c.product.ensures.product
 
 pub trees-tree-requires : goal.trees-tree-requires

@@ -1,7 +1,7 @@
 use Rattle.std.proofs.Common.{◌≡◌, ◌+◌, ◌*◌, [], drop, map}
 use Rattle.chr_semantics.specs.Meaning.{in_turn, scope}
-use Rattle.chr_term.specs.View.{view}
-use Rattle.chr_read.specs.View.{views}
+use Rattle.chr_term.specs.TermView.{view}
+use Rattle.chr_read.specs.SyntaxView.{views}
 use Rattle.chr_rules.specs.Grown.{Grows}
 use Rattle.chr_rules.specs.Turns.{factors_from, summands_from, tree_turn}
 use Rattle.chr_rules.specs.Weight.{operand_weights, weight, weights}

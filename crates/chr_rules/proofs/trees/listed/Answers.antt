@@ -1,6 +1,6 @@
 use Rattle.std.proofs.Common.{rules, ◌∙◌, [], ◌∷◌, ap, map, sym}
 use Rattle.std.proofs.lemmas.List.{map-append}
-use Rattle.chr_term.specs.View.{view}
+use Rattle.chr_term.specs.TermView.{view}
 use Rattle.chr_rules.specs.Turns.{listed}
 use Rattle.chr_rules.proofs.Pushed.{listed_pushed}
 use Rattle.chr_rules.proofs.trees.listed.Goals as goal

@@ -1,5 +1,5 @@
 use Rattle.std.proofs.Common.{◌≡◌, map, vec_len}
-use Rattle.chr_term.specs.View.{view}
+use Rattle.chr_term.specs.TermView.{view}
 use Rattle.chr_rules.specs.Turns.{listed}
 use Rattle.chr_rules.proofs.trees.listed.Given as goal
 

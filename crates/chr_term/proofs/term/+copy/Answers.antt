@@ -1,4 +1,4 @@
-use Rattle.chr_term.specs.View.{view}
+use Rattle.chr_term.specs.TermView.{view}
 use Rattle.chr_term.proofs.Mapped.{map_pushed}
 use Rattle.chr_term.proofs.term.+copy.Goals as goal
 

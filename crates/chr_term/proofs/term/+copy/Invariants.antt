@@ -1,5 +1,5 @@
 use Rattle.std.proofs.Common.{◌≡◌, take, map}
-use Rattle.chr_term.specs.View.{view}
+use Rattle.chr_term.specs.TermView.{view}
 use Rattle.chr_term.proofs.term.+copy.Given as goal
 
 abbrev pub invariant-copy_all-loop-term : goal.invariant-copy_all-loop-term

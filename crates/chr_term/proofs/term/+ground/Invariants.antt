@@ -1,6 +1,6 @@
 use Rattle.std.proofs.Common.{◌≡◌, drop}
 use Rattle.chr_semantics.specs.Tree.{is_ground_trees}
-use Rattle.chr_term.specs.View.{trees_view}
+use Rattle.chr_term.specs.TermView.{trees_view}
 use Rattle.chr_term.proofs.term.+ground.Given as goal
 
 abbrev pub invariant-are_ground-loop-term : goal.invariant-are_ground-loop-term

@@ -1,5 +1,5 @@
 use Rattle.std.proofs.Common.{◌≡◌, ◌↔◌, drop}
-use Rattle.chr_term.specs.View.{trees_view}
+use Rattle.chr_term.specs.TermView.{trees_view}
 use Rattle.chr_term.proofs.term.+same.Given as goal
 
 abbrev pub invariant-same_all-loop-i : goal.invariant-same_all-loop-i

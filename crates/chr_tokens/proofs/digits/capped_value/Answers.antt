@@ -1,6 +1,7 @@
 -- A further digit is the step of the capped value.
 use Rattle.std.proofs.Common.{◌≡◌, ℕ, suc, ◌+◌, ◌-◌, ◌*◌, ◌<◌, List, ◌∷◌, length, drop, get_or, min, arith, sym, ap, ◌∙◌, drop-cons, add-one}
 use Rattle.chr_semantics.specs.Tokens.{digits_value}
+use Rattle.chr_semantics.specs.Value.{max_magnitude}
 use Rattle.chr_tokens.proofs.Capped.{capped_step}
 use Rattle.chr_tokens.proofs.digits.capped_value.Goals as goal
 
@@ -13,5 +14,5 @@ step k s i x v w d h e g f = rw (f, g) (ap (λ y. min (digits_value v y) k) (dro
 pub loop-c-preserved : goal.loop-c-preserved
 loop-c-preserved c = record {
   bound = omega arith;
-  whole = c.loop-c.invariant.whole ∙ step 170141183460469231731687303715884105729 c.args.digits.now c.loop-c.c-index _ c.loop-c.value _ _ c.loop-c-test.true c.c-item.is c.saturating_sub.ensures c.with_digit-value.ensures;
+  whole = c.loop-c.invariant.whole ∙ step (max_magnitude + 1) c.args.digits.now c.loop-c.c-index _ c.loop-c.value _ _ c.loop-c-test.true c.c-item.is c.saturating_sub.ensures c.with_digit-value.ensures;
 }

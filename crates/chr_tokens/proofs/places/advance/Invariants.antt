@@ -1,7 +1,7 @@
 -- The place is advanced over the characters up to here, and goes on over the rest.
 use Rattle.std.proofs.Common.{◌≡◌, ◌+◌, ◌≤◌, drop}
 use Rattle.chr_semantics.specs.Tokens.{advance}
-use Rattle.chr_tokens.specs.View.{place_view}
+use Rattle.chr_tokens.specs.TokenView.{place_view}
 use Rattle.chr_tokens.proofs.places.advance.Given as goal
 
 abbrev pub invariant-loop-c : goal.invariant-loop-c

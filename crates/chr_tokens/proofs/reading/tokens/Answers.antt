@@ -1,7 +1,7 @@
 -- Each arm of the loop is a step of the tokens.
 use Rattle.std.proofs.Common.{arith, sym}
 use Rattle.std.proofs.lemmas.List.{map_push}
-use Rattle.chr_tokens.specs.View.{token_view}
+use Rattle.chr_tokens.specs.TokenView.{token_view}
 use Rattle.chr_tokens.proofs.Lasts.{ends_so}
 use Rattle.chr_tokens.proofs.Cuts.{start, skip, take_one, done, stop}
 use Rattle.chr_tokens.proofs.reading.tokens.Goals as goal
@@ -22,7 +22,7 @@ pub loop-found-preserved-in-Blank : goal.loop-found-preserved-in-Blank
 loop-found-preserved-in-Blank g c =
     let cut = c.past.ensures in
     record {
-      whole = skip _ _ _ _ _ _ _ c.in-Blank.n c.loop-found.invariant.whole (sym c.in-Blank.ensures.is) (record { len = c.in-Blank.ensures.within; behind_is = cut.rest; place_is = cut.place });
+      whole = skip _ _ _ _ _ _ _ c.in-Blank.n c.loop-found.invariant.whole (sym c.in-Blank.ensures.is) (record { len = c.in-Blank.ensures.within; rest_is = cut.rest; place_is = cut.place });
       few = omega arith;
       line = omega arith;
       column = omega arith;
@@ -34,7 +34,7 @@ loop-found-preserved g c =
     let cut = c.past-in-Token.ensures in
     record {
       whole = rw (c.in_ok-push-in-Token.ensures.items, map_push, c.is_minus-signed.ensures)
-          (take_one _ _ _ _ _ _ _ (token_view c.in-Token.token) c.in-Token.n c.loop-found.invariant.whole (sym c.in-Token.ensures.is) (record { len = c.in-Token.ensures.within; behind_is = cut.rest; place_is = cut.place }));
+          (take_one _ _ _ _ _ _ _ (token_view c.in-Token.token) c.in-Token.n c.loop-found.invariant.whole (sym c.in-Token.ensures.is) (record { len = c.in-Token.ensures.within; rest_is = cut.rest; place_is = cut.place }));
       few = omega (arith, c.in_ok-push-in-Token.ensures.len, c.in-Token.ensures.within.0);
       line = omega arith;
       column = omega arith;

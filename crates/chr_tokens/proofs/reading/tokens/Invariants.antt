@@ -1,7 +1,7 @@
 -- The tokens of the text are those that are found and those of the rest, of which there are no more than it has characters.
 use Rattle.std.proofs.Common.{◌+◌, ◌≤◌, length}
 use Rattle.chr_semantics.specs.Tokens as semantics
-use Rattle.chr_tokens.specs.View.{place_view, placed_views}
+use Rattle.chr_tokens.specs.TokenView.{place_view, placed_views}
 use Rattle.chr_tokens.proofs.Cuts.{Reading}
 use Rattle.chr_tokens.proofs.reading.tokens.Given as goal
 

@@ -1,19 +1,19 @@
 use Rattle.std.proofs.Common.{Some, ◌∙◌, ap, subst, sym}
-use Rattle.chr_term.specs.View.{view}
+use Rattle.chr_term.specs.TermView.{view}
 use Rattle.chr_bind.specs.Chains.{owned_pairs, solution}
-use Rattle.chr_bind.specs.Standing.{Standing}
+use Rattle.chr_bind.specs.BindingsModel.{BindingsValue}
 use Rattle.chr_bind.specs.Unified.{IsUnification, IsUnified}
-use Rattle.chr_bind.proofs.Told.{length-owned, owned_pairs-append, unified_as}
+use Rattle.chr_bind.proofs.Eliminations.{length-owned, owned_pairs-append, unified_as}
 use Rattle.chr_bind.proofs.bindings.Bindings.unify.Goals as goal
 
 pub returns-clause-unified : goal.returns-clause-unified
 returns-clause-unified g c =
     let made = owned_pairs c.self.inside.made.items in
-    let more = owned_pairs c.in-Some.told.pairs.items in
+    let more = owned_pairs c.in-Some.added.pairs.items in
     let left = view c.args.left.now in
     let right = view c.args.right.now in
-    let lent = subst (IsUnification c.as_mut_slice-links.result.now c.unified.new.links (owned_pairs c.as_slice-made.result.now) left right) c.in-Some.is c.in_ok-unified.ensures.unified in
-    let told = subst (λ es. IsUnification c.as_mut_slice-links.result.now c.unified.new.links (owned_pairs es) left right (Some c.in-Some.told)) c.as_slice-made.ensures.value lent in
-    let all = ap owned_pairs c.in_ok-take_over.ensures.made ∙ owned_pairs-append c.self.inside.made.items c.in-Some.told.pairs.items in
-    let unified = subst (λ es. IsUnified left right (solution made) (solution es) c.answer_of-answer.result) (sym all) (unified_as made more left right _ c.answer_of-answer.result c.self.invariant.solved told.1 (length-owned c.in-Some.told.pairs.items) c.answer_of-answer.ensures) in
-    subst (λ (b : Standing). IsUnified left right b.subst (solution (owned_pairs c.take_over.new.made.items)) c.answer_of-answer.result) c.self.view_is unified
+    let lent = subst (IsUnification c.as_mut_slice-links.result.now c.unify_terms.new.links (owned_pairs c.as_slice-made.result.now) left right) c.in-Some.is c.in_ok-unify_terms.ensures.unified in
+    let added = subst (λ es. IsUnification c.as_mut_slice-links.result.now c.unify_terms.new.links (owned_pairs es) left right (Some c.in-Some.added)) c.as_slice-made.ensures.value lent in
+    let all = ap owned_pairs c.in_ok-take_over.ensures.made ∙ owned_pairs-append c.self.inside.made.items c.in-Some.added.pairs.items in
+    let unified = subst (λ es. IsUnified left right (solution made) (solution es) c.answer_of-answer.result) (sym all) (unified_as made more left right _ c.answer_of-answer.result c.self.invariant.solved added.1 (length-owned c.in-Some.added.pairs.items) c.answer_of-answer.ensures) in
+    subst (λ (b : BindingsValue). IsUnified left right b.subst (solution (owned_pairs c.take_over.new.made.items)) c.answer_of-answer.result) c.self.view_is unified

@@ -1,9 +1,9 @@
 use Rattle.std.proofs.Common.{◌≡◌, ◌+◌, drop}
 use Rattle.chr_semantics.specs.Tree.{is_ground_trees}
 use Rattle.chr_semantics.specs.Subst.{apply, instances, value_at}
-use Rattle.chr_term.specs.View.{view, trees_view}
+use Rattle.chr_term.specs.TermView.{view, trees_view}
 use Rattle.chr_bind.specs.Chains.{subst_of}
-use Rattle.chr_bind.specs.Terms.{size, size_all}
+use Rattle.chr_term.specs.Size.{size, size_all}
 use Rattle.chr_bind.proofs.chains.Chains.+ground.Given as goal
 
 abbrev pub decreases-is_ground : goal.decreases-is_ground

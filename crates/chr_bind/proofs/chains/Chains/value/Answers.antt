@@ -3,7 +3,7 @@ use Rattle.std.proofs.lemmas.Option.{slice_get_past}
 use Rattle.chr_semantics.specs.Tree.{var}
 use Rattle.chr_bind.specs.Chains.{IsLast, name_of, pairs_of}
 use Rattle.chr_bind.proofs.Links.{bound_within, free_beyond, linked_at, pair_below, read_link, stands}
-use Rattle.chr_bind.proofs.Seen.{seen_shown}
+use Rattle.chr_bind.proofs.Roots.{root_of_written}
 use Rattle.chr_bind.proofs.chains.Chains.value.Goals as goal
 
 pub returns-then-place-self : goal.returns-then-place-self
@@ -17,8 +17,8 @@ unreachable-requires g c = subst IsLast (read_link _ _ _ _ c.end-end.ensures.kno
 pub term-requires : goal.term-requires
 term-requires g c = bound_within _ _ _ _ c.requires (read_link _ _ _ _ c.end-end.ensures.known c.in-Bound.is)
 
-pub shown-requires : goal.shown-requires
-shown-requires g c = (stands _ _ _ _ _ c.requires (read_link _ _ _ _ c.end-end.ensures.known c.in-Bound.is) c.term.ensures).1
+pub written_root-requires : goal.written_root-requires
+written_root-requires g c = (stands _ _ _ _ _ c.requires (read_link _ _ _ _ c.end-end.ensures.known c.in-Bound.is) c.term.ensures).1
 
 pub returns-in-Free : goal.returns-in-Free
 returns-in-Free g c =
@@ -29,4 +29,4 @@ pub returns-in-Bound : goal.returns-in-Bound
 returns-in-Bound g c =
     let link = read_link _ _ _ _ c.end-end.ensures.known c.in-Bound.is in
     let s = stands _ _ _ _ _ c.requires link c.term.ensures in
-    seen_shown c.args.self.now (var c.args.var) _ c.shown.result (c.end-end.ensures.same ∙ s.0) (pair_below _ _ _ _ c.requires.below c.term.ensures) c.shown.ensures
+    root_of_written c.args.self.now (var c.args.var) _ c.written_root.result (c.end-end.ensures.same ∙ s.0) (pair_below _ _ _ _ c.requires.below c.term.ensures) c.written_root.ensures

@@ -1,5 +1,5 @@
-use Rattle.chr_machine.specs.Loaded.{rules_of}
-use Rattle.chr_rules.specs.View.{query_view}
+use Rattle.chr_rules.specs.ProgramView.{rules_of}
+use Rattle.chr_rules.specs.RuleView.{query_view}
 use Rattle.chr_machine.proofs.Stays.{thin_start}
 use Rattle.chr_machine.proofs.machine.Machine.start.Goals as goal
 

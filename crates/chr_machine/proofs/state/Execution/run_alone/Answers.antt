@@ -1,6 +1,6 @@
 use Rattle.std.proofs.Common.{◌≡◌, ◌≤◌, ◌∙◌, ◌-◌, ap, arith, sym}
 use Rattle.chr_semantics.specs.State.{State, running}
-use Rattle.chr_machine.specs.Loaded.{rules_of}
+use Rattle.chr_rules.specs.ProgramView.{rules_of}
 use Rattle.chr_machine.specs.State.{state_of}
 use Rattle.chr_machine.proofs.Runs.{ran-kept, ran-more, steps-all}
 use Rattle.chr_machine.proofs.state.Execution.run_alone.Goals as goal

@@ -1,5 +1,6 @@
 use Rattle.std.proofs.Common.{◌∙◌, ap, map}
-use Rattle.chr_rules.specs.View.{atom_view, goal_view, rule_view}
+use Rattle.chr_term.specs.TermView.{atom_view}
+use Rattle.chr_rules.specs.RuleView.{goal_view, rule_view}
 use Rattle.chr_machine.proofs.Simplified.{simplified}
 use Rattle.chr_machine.proofs.state.Execution.simplify.Goals as goal
 

@@ -1,7 +1,8 @@
 use Rattle.std.proofs.Common.{◌∙◌, sym, refl}
 use Rattle.chr_semantics.specs.State.{active}
-use Rattle.chr_machine.specs.Loaded.{rules_of}
-use Rattle.chr_rules.specs.View.{atom_view, rule_view}
+use Rattle.chr_rules.specs.ProgramView.{rules_of}
+use Rattle.chr_term.specs.TermView.{atom_view}
+use Rattle.chr_rules.specs.RuleView.{rule_view}
 use Rattle.chr_machine.specs.State.{state_of}
 use Rattle.chr_machine.specs.Step.{topped}
 use Rattle.chr_machine.proofs.Thin.{searched}

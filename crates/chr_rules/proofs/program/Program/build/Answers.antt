@@ -2,11 +2,11 @@ use Rattle.std.proofs.Common.{◌∙◌, [], ap, arith, subst, sym}
 use Rattle.chr_semantics.specs.Checked.{checked, declare_in, declared_only, each, rule_in}
 use Rattle.chr_semantics.specs.Names.{first_names}
 use Rattle.chr_semantics.specs.Program.{occurrences}
-use Rattle.chr_read.specs.View.{part_views}
+use Rattle.chr_read.specs.SyntaxView.{part_views}
 use Rattle.chr_rules.specs.Building.{checked_of}
 use Rattle.chr_rules.specs.Checks.{IsError}
 use Rattle.chr_rules.specs.Index.{pairs_of}
-use Rattle.chr_rules.specs.View.{rules_view}
+use Rattle.chr_rules.specs.RuleView.{rules_view}
 use Rattle.chr_rules.proofs.Each.{err_answers, want_answers}
 use Rattle.chr_rules.proofs.Few.{few_in_all}
 use Rattle.chr_rules.proofs.Placed.{first_refused, second_refused}

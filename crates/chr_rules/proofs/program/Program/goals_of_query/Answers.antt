@@ -1,4 +1,4 @@
-use Rattle.chr_rules.specs.View.{rules_view}
+use Rattle.chr_rules.specs.RuleView.{rules_view}
 use Rattle.chr_rules.proofs.Placed.{err_maps}
 use Rattle.chr_rules.proofs.Turned.{ok_answers}
 use Rattle.chr_rules.proofs.program.Program.goals_of_query.Goals as goal

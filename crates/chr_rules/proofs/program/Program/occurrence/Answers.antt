@@ -1,5 +1,5 @@
 use Rattle.std.proofs.Common.{◌<◌, arith}
-use Rattle.chr_rules.specs.Standing.{checked_view}
+use Rattle.chr_rules.specs.ProgramView.{checked_view}
 use Rattle.chr_rules.proofs.Occurrences.{numbered, numbered_rule, numbered_few}
 use Rattle.chr_rules.proofs.program.Program.occurrence.Goals as goal
 

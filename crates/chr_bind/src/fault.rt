@@ -1,0 +1,47 @@
+//! Why a term has no value.
+ghost use Rattle.std.specs.Prelude.{◌≡◌};
+ghost use Rattle.chr_semantics.specs.Text.{fault_text};
+
+use std::fmt;
+
+/// Why a term has no value.
+#[derive(Clone, Copy, PartialEq, Eq, Debug, Drop)]
+pub enum Fault {
+    /// It has a variable.
+    Unbound,
+    /// It has a symbol that is no operator.
+    NotNumber,
+    /// A result is outside 128 bits.
+    Overflow,
+    /// It divides by zero.
+    ZeroDivisor,
+}
+
+impl Fault {
+    ghost use Rattle.chr_bind.specs.Values.{fault_view};
+
+    /// The word that stands for the fault in a trace.
+    pub fn word(self) -> &'static str
+        ensures { result.now ≡ fault_text (fault_view self) }
+    {
+        match self {
+            Fault::Unbound => "unbound",
+            Fault::NotNumber => "type",
+            Fault::Overflow => "overflow",
+            Fault::ZeroDivisor => "zero_divisor",
+        }
+    }
+}
+
+impl fmt::Display for Fault {
+    ghost use Rattle.std.specs.Prelude.{Some};
+    ghost use Rattle.chr_bind.specs.Values.{fault_view};
+
+    ghost output = { λ fault. Some (fault_text (fault_view fault)) };
+
+    fn fmt<W: fmt::Write>(&self, f: &mut fmt::Formatter<W>) -> fmt::Result {
+        f.write_str(self.word())
+    }
+}
+
+impl std::error::Error for Fault {}

@@ -1,0 +1,13 @@
+use Rattle.std.proofs.Common.{◌∙◌, sym}
+use Rattle.chr_rules.specs.ProgramView.{names_of, rules_of}
+use Rattle.chr_rules.specs.RuleView.{query_view}
+use Rattle.chr_run.proofs.Accepted.{accepted_run, limits_refuse}
+use Rattle.chr_run.proofs.runs.run_text.Goals as goal
+
+pub returns-in-Err : goal.returns-in-Err
+returns-in-Err g c = limits_refuse _ _ _ _ _ c.in-Err.error c.in-Err.ensures.err
+
+pub returns : goal.returns
+returns g c =
+    accepted_run _ _ (names_of c.in-Ok.texts.program) (rules_of c.in-Ok.texts.program) (query_view c.in-Ok.texts.query) _ _ _ _ _ c.in-Ok.ensures.ok
+    (sym c.is_performed.ensures ∙ c.if-not-is_performed.false) c.run_into.ensures

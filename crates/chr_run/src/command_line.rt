@@ -1,0 +1,195 @@
+//! The program `chr`: what it reads, what it writes, and its exit status.
+ghost use Rattle.std.specs.Prelude.{◌≡◌, ◌⊎◌, codes, map, option_map};
+ghost use Rattle.std.specs.String.{string_bytes};
+ghost use Rattle.chr_run.specs.Command.{IsCommand, Refuses, RunsFile, RunsInput, RunsTexts, RunsWords, Shows, after_line, effect, first_line, status_code, unread_text};
+
+use crate::error::{RunError, TextError};
+use crate::output::write_bytes;
+use crate::refusal::{say, say_refusal, say_unread};
+use crate::runs::run_text;
+use chr_machine::Status;
+use chr_words::files::read_all;
+use chr_words::{Opens, Request, asked, read_file};
+use std::alloc::Global;
+use std::io::{Read, Write};
+
+/// The exit status where there is no run.
+const REFUSED: u8 = 2;
+
+/// The first line, without its line feed, and what stands after that.
+fn split(text: &[u8]) -> (&[u8], &[u8])
+    ensures line { result.0.now ≡ first_line text.now }
+    ensures rest { result.1.now ≡ after_line text.now }
+{
+    for k in 0..text.len() {
+        if text[k] == b'\n' {
+            return (&text[..k], &text[k + 1..]);
+        }
+    }
+    (text, &[])
+}
+
+/// The exit status of a run.
+fn status_code(status: Status) -> u8
+    ensures { result ≡ status_code status }
+{
+    match status {
+        Status::Done => 0,
+        Status::Failed => 3,
+        Status::Faulted(_) => 4,
+        Status::Running => 5,
+    }
+}
+
+/// Writes the text of the run of a program and a query, or says why there is none.
+fn run_texts<W: Write, E: Write>(
+    alloc: Global,
+    program: &[u8],
+    query: &[u8],
+    budget: u64,
+    output: &mut W,
+    error: &mut E,
+) -> u8
+    ensures { RunsTexts program.now query.now budget
+        (effect (W.contents output.old) (W.contents output.new)
+        (E.contents error.old) (E.contents error.new) result) }
+{
+    match run_text(alloc, program, query, budget, 0, output) {
+        Ok(status) => status_code(status),
+        Err(refusal) => {
+            say_refusal(error, refusal);
+            REFUSED
+        }
+    }
+}
+
+/// The run of what the input has: a query in its first line, and a program after it.
+fn run_input<R: Read, W: Write, E: Write>(
+    alloc: Global,
+    budget: u64,
+    input: &mut R,
+    output: &mut W,
+    error: &mut E,
+) -> u8
+    ensures { let done = effect (W.contents output.old) (W.contents output.new)
+        (E.contents error.old) (E.contents error.new) result in
+        RunsInput (R.remaining input.old) budget done ⊎ Refuses (codes "chr: cannot read\n") done }
+{
+    match read_all(alloc, input) {
+        Some(text) => {
+            let (query, program) = split(text.as_slice());
+            run_texts(alloc, program, query, budget, output, error)
+        }
+        None => {
+            say(error, &["chr: cannot read\n"]);
+            REFUSED
+        }
+    }
+}
+
+/// The run of the program in a file.
+fn run_file<O: Opens, W: Write, E: Write>(
+    alloc: Global,
+    files: &O,
+    path: &str,
+    query: &str,
+    budget: u64,
+    output: &mut W,
+    error: &mut E,
+) -> u8
+    ensures { let done = effect (W.contents output.old) (W.contents output.new)
+        (E.contents error.old) (E.contents error.new) result in
+        RunsFile (O.bytes_of files.now path.now) query.now budget done
+        ⊎ Refuses (unread_text path.now) done }
+{
+    match read_file(alloc, files, path) {
+        Some(program) => run_texts(
+            alloc,
+            program.as_slice(),
+            query.as_bytes(),
+            budget,
+            output,
+            error,
+        ),
+        None => {
+            say_unread(error, path);
+            REFUSED
+        }
+    }
+}
+
+/// The run that the words ask for.
+fn run_words<O: Opens, R: Read, W: Write, E: Write>(
+    alloc: Global,
+    program: Option<&str>,
+    query: Option<&str>,
+    budget: u64,
+    files: &O,
+    input: &mut R,
+    output: &mut W,
+    error: &mut E,
+) -> u8
+    ensures { RunsWords (option_map (λ t. t.now) program.entry) (option_map (λ t. t.now) query.entry)
+        budget (O.bytes_of files.now) (R.remaining input.old)
+        (effect (W.contents output.old) (W.contents output.new)
+        (E.contents error.old) (E.contents error.new) result) }
+{
+    match (program, query) {
+        (None, _) => run_input(alloc, budget, input, output, error),
+        (Some(_), None) => {
+            say(error, &["chr: QUERY is missing\n"]);
+            REFUSED
+        }
+        (Some(path), Some(query)) => run_file(alloc, files, path, query, budget, output, error),
+    }
+}
+
+/// Writes a text.
+fn show<W: Write, E: Write>(text: &str, output: &mut W, error: &mut E) -> u8
+    ensures { Shows text.now (effect (W.contents output.old) (W.contents output.new)
+        (E.contents error.old) (E.contents error.new) result) }
+{
+    match write_bytes(output, text.as_bytes()) {
+        Ok(()) => 0,
+        Err(_) => {
+            say_refusal(error, TextError::Write);
+            REFUSED
+        }
+    }
+}
+
+/// What the program `chr` does with the words after its name: PROGRAM, the path of a file, then QUERY, the text of a query, and
+/// `--budget N`. With neither PROGRAM nor QUERY the first line of the input is the query, and the rest is the program. The text of the run
+/// goes out, of 100,000 transitions where there is no N, or that of `--help`. The answer is the exit status: 0 done, 2 refused, 3 failed,
+/// 4 a fault, 5 the budget used up. Where it is 2, a line on `error` says why.
+pub fn command<O: Opens, R: Read, W: Write, E: Write>(
+    alloc: Global,
+    words: &[String],
+    files: &O,
+    input: &mut R,
+    output: &mut W,
+    error: &mut E,
+) -> u8
+    ensures { IsCommand (map string_bytes words.now) (O.bytes_of files.now) (R.remaining input.old)
+        (effect (W.contents output.old) (W.contents output.new)
+        (E.contents error.old) (E.contents error.new) result) }
+{
+    match asked(alloc, words) {
+        Ok(
+            Request::Run {
+                program,
+                query,
+                budget,
+            },
+        ) => run_words(alloc, program, query, budget, files, input, output, error),
+        Ok(Request::Help(text)) => show(text.as_str(), output, error),
+        Ok(Request::Refused(text)) => {
+            say(error, &[text.as_str()]);
+            REFUSED
+        }
+        Err(_) => {
+            say_refusal(error, TextError::Run(RunError::Memory));
+            REFUSED
+        }
+    }
+}

@@ -1,0 +1,421 @@
+#![tactic(auto, using(crate::proofs::Extensions::extended_on))]
+//! The printer of terms. Where memory is refused, the text begins with what it was before.
+ghost use Rattle.std.specs.Prelude.{◌≡◌, ◌&&◌, ◌||◌, ◌++◌, ◌∷◌, [], OnOk};
+ghost use Rattle.chr_semantics.specs.Names.{var_text};
+ghost use Rattle.chr_semantics.specs.Print.{call_text, in_parentheses, operator_text};
+ghost use Rattle.chr_semantics.specs.Print.{pair_printing, printing_of, sign_of, texts_from};
+ghost use Rattle.chr_term.specs.Arguments.{AreArguments};
+ghost use Rattle.chr_term.specs.Extension.{IsExtension};
+ghost use Rattle.chr_term.specs.TermView.{view};
+
+use crate::writing::{write_byte, write_bytes, write_integer, write_number};
+use crate::{Memory, Names, Sym, Term, VarNames};
+use std::alloc::Allocator;
+
+/// The arguments of a term, by their number.
+enum Arguments<'a, T: Allocator> {
+    Zero,
+    One(&'a Term<T>),
+    Two(&'a Term<T>, &'a Term<T>),
+    Many(&'a Term<T>, &'a Term<T>, &'a Term<T>, &'a [Term<T>]),
+}
+
+fn by_number<T: Allocator>(args: &[Term<T>]) -> Arguments<'_, T>
+    ensures { AreArguments result args.now }
+{
+    match args {
+        [] => Arguments::Zero,
+        [only] => Arguments::One(only),
+        [left, right] => Arguments::Two(left, right),
+        [first, second, third, others @ ..] => Arguments::Many(first, second, third, others),
+    }
+}
+
+/// Whether the term is `+` or `-` over two arguments.
+fn is_sum<T: Allocator>(term: &Term<T>) -> bool
+    ensures { (names : _) (vars : _) →
+        result ≡ (printing_of names vars (view term.now)).is_sum }
+{
+    match term {
+        Term::Var(_) => false,
+        Term::Int(_) => false,
+        Term::Node(sym, args) => match by_number(args.as_slice()) {
+            Arguments::Zero => false,
+            Arguments::One(_) => false,
+            Arguments::Two(_, _) => {
+                if *sym == Sym::CONS {
+                    false
+                } else if *sym == Sym::PLUS || *sym == Sym::MINUS {
+                    true
+                } else {
+                    false
+                }
+            }
+            Arguments::Many(_, _, _, _) => false,
+        },
+    }
+}
+
+/// Whether the term is `*`, `//` or `mod` over two arguments.
+fn is_product<T: Allocator>(term: &Term<T>) -> bool
+    ensures { (names : _) (vars : _) →
+        result ≡ (printing_of names vars (view term.now)).is_product }
+{
+    match term {
+        Term::Var(_) => false,
+        Term::Int(_) => false,
+        Term::Node(sym, args) => match by_number(args.as_slice()) {
+            Arguments::Zero => false,
+            Arguments::One(_) => false,
+            Arguments::Two(_, _) => {
+                if *sym == Sym::CONS {
+                    false
+                } else if *sym == Sym::PLUS || *sym == Sym::MINUS {
+                    false
+                } else if *sym == Sym::TIMES || *sym == Sym::DIVIDE || *sym == Sym::MODULO {
+                    true
+                } else {
+                    false
+                }
+            }
+            Arguments::Many(_, _, _, _) => false,
+        },
+    }
+}
+
+/// Whether the left operand of a product, or else of a sum, stands in parentheses.
+fn wraps_left<T: Allocator>(product: bool, term: &Term<T>) -> bool
+    ensures { (names : _) (vars : _) →
+        result ≡ (product && (printing_of names vars (view term.now)).is_sum) }
+{
+    product && is_sum(term)
+}
+
+/// Whether the right operand of a product, or else of a sum, stands in parentheses.
+fn wraps_right<T: Allocator>(product: bool, term: &Term<T>) -> bool
+    ensures { (names : _) (vars : _) →
+        let printing = printing_of names vars (view term.now) in
+        result ≡ (printing.is_sum || (product && printing.is_product)) }
+{
+    is_sum(term) || (product && is_product(term))
+}
+
+/// What the printing reads.
+#[derive(Drop)]
+pub(crate) struct Printer<'a, N: Allocator, V: Allocator> {
+    pub names: &'a Names<N>,
+    pub vars: &'a VarNames<V>,
+}
+
+impl<N: Allocator, V: Allocator> Printer<'_, N, V> {
+    ghost use Rattle.chr_term.specs.Printer.{name_by, node_text_by, printing_by, printings_by};
+
+    #[cycle(write)]
+    pub fn write<T: Allocator, O: Allocator>(
+        &self,
+        term: &Term<T>,
+        out: &mut Vec<u8, O>,
+    ) -> Result<(), Memory>
+        ensures ok { OnOk result
+            (out.new.items ≡ out.old.items ++ (printing_by self.now term.now).text) }
+        ensures kept { IsExtension out.old.items out.new.items }
+    {
+        match term {
+            Term::Var(number) => self.write_var(*number, out),
+            Term::Int(value) => write_integer(*value, out),
+            Term::Node(sym, args) => self.write_node(*sym, args.as_slice(), out),
+        }
+    }
+
+    fn write_var<O: Allocator>(&self, number: u64, out: &mut Vec<u8, O>) -> Result<(), Memory>
+        ensures ok { OnOk result
+            (out.new.items ≡ out.old.items ++ var_text self.now.vars.now number) }
+        ensures kept { IsExtension out.old.items out.new.items }
+    {
+        match self.vars.name(number as usize) {
+            Some(name) => write_bytes(name.as_bytes(), out),
+            None => {
+                write_byte(b'_', out)?;
+                write_number(number, out)
+            }
+        }
+    }
+
+    fn write_name<O: Allocator>(&self, sym: Sym, out: &mut Vec<u8, O>) -> Result<(), Memory>
+        ensures ok { OnOk result (out.new.items ≡ out.old.items ++ name_by self.now sym) }
+        ensures kept { IsExtension out.old.items out.new.items }
+    {
+        if (sym.0 as usize) < self.names.len() {
+            write_bytes(self.names.name(sym).as_bytes(), out)
+        } else {
+            write_byte(b'?', out)
+        }
+    }
+
+    /// A name with the parenthesis that opens its arguments.
+    fn write_opening<O: Allocator>(&self, sym: Sym, out: &mut Vec<u8, O>) -> Result<(), Memory>
+        ensures ok { OnOk result
+            (out.new.items ≡ out.old.items ++ (name_by self.now sym ++ 40 ∷ [])) }
+        ensures kept { IsExtension out.old.items out.new.items }
+    {
+        self.write_name(sym, out)?;
+        write_byte(b'(', out)
+    }
+
+    #[cycle(write)]
+    pub fn write_node<T: Allocator, O: Allocator>(
+        &self,
+        sym: Sym,
+        args: &[Term<T>],
+        out: &mut Vec<u8, O>,
+    ) -> Result<(), Memory>
+        ensures ok { OnOk result
+            (out.new.items ≡ out.old.items ++ node_text_by self.now sym args.now) }
+        ensures kept { IsExtension out.old.items out.new.items }
+    {
+        match by_number(args) {
+            Arguments::Zero => {
+                if sym == Sym::NIL {
+                    write_bytes(b"[]", out)
+                } else {
+                    self.write_name(sym, out)
+                }
+            }
+            Arguments::One(only) => {
+                self.write_opening(sym, out)?;
+                self.write(only, out)?;
+                write_byte(b')', out)
+            }
+            Arguments::Two(left, right) => self.write_pair(sym, left, right, out),
+            Arguments::Many(first, second, third, others) => {
+                self.write_many(sym, first, second, third, others, out)
+            }
+        }
+    }
+
+    #[cycle(write)]
+    fn write_pair<T: Allocator, O: Allocator>(
+        &self,
+        sym: Sym,
+        left: &Term<T>,
+        right: &Term<T>,
+        out: &mut Vec<u8, O>,
+    ) -> Result<(), Memory>
+        ensures ok { OnOk result (out.new.items ≡ out.old.items ++ (pair_printing
+            self.now.names.now sym.0
+            (printing_by self.now left.now) (printing_by self.now right.now)).text) }
+        ensures kept { IsExtension out.old.items out.new.items }
+    {
+        if sym == Sym::CONS {
+            write_byte(b'[', out)?;
+            self.write(left, out)?;
+            return self.write_tail(right, out);
+        }
+        if sym == Sym::PLUS || sym == Sym::MINUS {
+            return self.write_operator(false, sym, left, right, out);
+        }
+        if sym == Sym::TIMES || sym == Sym::DIVIDE || sym == Sym::MODULO {
+            return self.write_operator(true, sym, left, right, out);
+        }
+        self.write_two(sym, left, right, out)
+    }
+
+    /// A name with two arguments.
+    #[cycle(write)]
+    fn write_two<T: Allocator, O: Allocator>(
+        &self,
+        sym: Sym,
+        left: &Term<T>,
+        right: &Term<T>,
+        out: &mut Vec<u8, O>,
+    ) -> Result<(), Memory>
+        ensures ok { OnOk result (out.new.items ≡ out.old.items ++ call_text (name_by self.now sym)
+            (printing_by self.now left.now ∷ printing_by self.now right.now ∷ [])) }
+        ensures kept { IsExtension out.old.items out.new.items }
+    {
+        self.write_opening(sym, out)?;
+        self.write(left, out)?;
+        self.write_next(right, out)?;
+        write_byte(b')', out)
+    }
+
+    #[cycle(write)]
+    fn write_operator<T: Allocator, O: Allocator>(
+        &self,
+        product: bool,
+        sym: Sym,
+        left: &Term<T>,
+        right: &Term<T>,
+        out: &mut Vec<u8, O>,
+    ) -> Result<(), Memory>
+        ensures ok { OnOk result (out.new.items ≡ out.old.items ++ operator_text product sym.0
+            (printing_by self.now left.now) (printing_by self.now right.now)) }
+        ensures kept { IsExtension out.old.items out.new.items }
+    {
+        self.write_wrapped(wraps_left(product, left), left, out)?;
+        write_sign(sym, out)?;
+        self.write_wrapped(wraps_right(product, right), right, out)
+    }
+
+    #[cycle(write)]
+    fn write_many<T: Allocator, O: Allocator>(
+        &self,
+        sym: Sym,
+        first: &Term<T>,
+        second: &Term<T>,
+        third: &Term<T>,
+        others: &[Term<T>],
+        out: &mut Vec<u8, O>,
+    ) -> Result<(), Memory>
+        ensures ok { let one = printing_by self.now in OnOk result
+            (out.new.items ≡ out.old.items ++ call_text (name_by self.now sym)
+            (one first.now ∷ one second.now ∷ one third.now ∷ printings_by self.now others.now)) }
+        ensures kept { IsExtension out.old.items out.new.items }
+    {
+        self.write_opening(sym, out)?;
+        self.write(first, out)?;
+        self.write_next(second, out)?;
+        self.write_from(third, others, out)
+    }
+
+    /// An argument with its comma.
+    #[cycle(write)]
+    fn write_next<T: Allocator, O: Allocator>(
+        &self,
+        term: &Term<T>,
+        out: &mut Vec<u8, O>,
+    ) -> Result<(), Memory>
+        ensures ok { OnOk result
+            (out.new.items ≡ out.old.items ++ 44 ∷ (printing_by self.now term.now).text) }
+        ensures kept { IsExtension out.old.items out.new.items }
+    {
+        write_byte(b',', out)?;
+        self.write(term, out)
+    }
+
+    /// An argument with its comma, the others, and the closing parenthesis.
+    #[cycle(write)]
+    fn write_from<T: Allocator, O: Allocator>(
+        &self,
+        term: &Term<T>,
+        others: &[Term<T>],
+        out: &mut Vec<u8, O>,
+    ) -> Result<(), Memory>
+        ensures ok { OnOk result
+            (out.new.items ≡ out.old.items ++ 44 ∷ ((printing_by self.now term.now).text
+            ++ (texts_from (printings_by self.now others.now) ++ 41 ∷ []))) }
+        ensures kept { IsExtension out.old.items out.new.items }
+    {
+        self.write_next(term, out)?;
+        self.write_others(others, out)?;
+        write_byte(b')', out)
+    }
+
+    #[cycle(write)]
+    fn write_others<T: Allocator, O: Allocator>(
+        &self,
+        others: &[Term<T>],
+        out: &mut Vec<u8, O>,
+    ) -> Result<(), Memory>
+        ensures ok { OnOk result
+            (out.new.items ≡ out.old.items ++ texts_from (printings_by self.now others.now)) }
+        ensures kept { IsExtension out.old.items out.new.items }
+    {
+        for term in others {
+            self.write_next(term, out)?;
+        }
+        Ok(())
+    }
+
+    #[cycle(write)]
+    fn write_wrapped<T: Allocator, O: Allocator>(
+        &self,
+        wrap: bool,
+        term: &Term<T>,
+        out: &mut Vec<u8, O>,
+    ) -> Result<(), Memory>
+        ensures ok { OnOk result (out.new.items ≡
+            out.old.items ++ in_parentheses wrap (printing_by self.now term.now).text) }
+        ensures kept { IsExtension out.old.items out.new.items }
+    {
+        if wrap {
+            write_byte(b'(', out)?;
+            self.write(term, out)?;
+            write_byte(b')', out)
+        } else {
+            self.write(term, out)
+        }
+    }
+
+    /// The rest of a list, from after an element to the closing bracket.
+    #[cycle(write)]
+    fn write_tail<T: Allocator, O: Allocator>(
+        &self,
+        term: &Term<T>,
+        out: &mut Vec<u8, O>,
+    ) -> Result<(), Memory>
+        ensures ok { OnOk result
+            (out.new.items ≡ out.old.items ++ (printing_by self.now term.now).tail) }
+        ensures kept { IsExtension out.old.items out.new.items }
+    {
+        match term {
+            Term::Node(sym, args) => match by_number(args.as_slice()) {
+                Arguments::Zero => {
+                    if *sym == Sym::NIL {
+                        write_byte(b']', out)
+                    } else {
+                        self.write_end(term, out)
+                    }
+                }
+                Arguments::Two(first, rest) => {
+                    if *sym == Sym::CONS {
+                        write_byte(b',', out)?;
+                        self.write(first, out)?;
+                        self.write_tail(rest, out)
+                    } else {
+                        self.write_end(term, out)
+                    }
+                }
+                Arguments::One(_) => self.write_end(term, out),
+                Arguments::Many(_, _, _, _) => self.write_end(term, out),
+            },
+            Term::Var(_) => self.write_end(term, out),
+            Term::Int(_) => self.write_end(term, out),
+        }
+    }
+
+    /// The end of a list that is no list.
+    #[cycle(write)]
+    fn write_end<T: Allocator, O: Allocator>(
+        &self,
+        term: &Term<T>,
+        out: &mut Vec<u8, O>,
+    ) -> Result<(), Memory>
+        ensures ok { OnOk result (out.new.items ≡
+            out.old.items ++ 124 ∷ ((printing_by self.now term.now).text ++ 93 ∷ [])) }
+        ensures kept { IsExtension out.old.items out.new.items }
+    {
+        write_byte(b'|', out)?;
+        self.write(term, out)?;
+        write_byte(b']', out)
+    }
+}
+
+/// An operator, with spaces where it is a word.
+fn write_sign<O: Allocator>(sym: Sym, out: &mut Vec<u8, O>) -> Result<(), Memory>
+    ensures ok { OnOk result (out.new.items ≡ out.old.items ++ sign_of sym.0) }
+    ensures kept { IsExtension out.old.items out.new.items }
+{
+    let sign = if sym == Sym::PLUS {
+        "+"
+    } else if sym == Sym::MINUS {
+        "-"
+    } else if sym == Sym::TIMES {
+        "*"
+    } else if sym == Sym::DIVIDE {
+        "//"
+    } else {
+        " mod "
+    };
+    write_bytes(sign.as_bytes(), out)
+}
