@@ -1,5 +1,5 @@
 -- A checked program has few rules with few heads.
-use Rattle.std.proofs.Common.{zero, suc, ◌≡◌, ◌∙◌, ◌<◌, ◌≤◌, ◌+◌, ◌*◌, ◌++◌, ℕ, List, [], ◌∷◌, Bool, true, false, if◌then◌else◌, Option, Some, None, Result, Ok, Err, length, nat_lt, nat_le, refl, ap, sym, subst, arith}
+use Rattle.std.proofs.Common.{◌≡◌, ◌<◌, ◌≤◌, ◌+◌, ◌*◌, ◌++◌, ℕ, List, [], ◌∷◌, Bool, false, Option, Some, None, Ok, length, nat_lt, nat_le, refl, arith}
 use Rattle.std.proofs.lemmas.List.{length-append}
 use Rattle.chr_semantics.specs.Names.{Names}
 use Rattle.chr_semantics.specs.Program as semantics
@@ -7,24 +7,12 @@ use Rattle.chr_semantics.specs.Program.{Head, Program}
 use Rattle.chr_semantics.specs.Syntax as syntax
 use Rattle.chr_semantics.specs.Syntax.{Exprs, Item, Part, declares, ignored, rule, plain, related}
 use Rattle.chr_semantics.specs.Meaning.{Scope, all_heads, atom_from, call_of, fresh_scope, head_from, head_of, in_turn, rule_from, with_turn}
-use Rattle.chr_semantics.specs.Checked.{Checked, RuleErrorKind, too_many_heads, too_many_rules, RuleError, each, first_of, error_in_rule, rule_in, unless, with_rule}
-use Rattle.std.specs.Prelude.{slice_get}
+use Rattle.chr_semantics.specs.Checked.{Checked, too_many_heads, too_many_rules, each, error_in_rule, rule_in, with_rule}
 use Rattle.chr_rules.specs.Checks.{wrong_items, wrong_rule}
 use Rattle.chr_rules.specs.Index.{head_count}
+use Rattle.chr_rules.proofs.Kept.{kept_in_all}
+use Rattle.chr_rules.proofs.Mistakes.{none_each}
 use Rattle.chr_rules.proofs.Ruled.{head_variables, too_many}
-
-none_then : (x : Bool × RuleErrorKind) (xs : List (Bool × RuleErrorKind)) → first_of (x ∷ xs) ≡ None → (x.0 ≡ false) × (first_of xs ≡ None)
-none_then x xs h = by x.0 h
-  where
-    by : (b : Bool) → (if b then Some x.1 else first_of xs) ≡ None → (b ≡ false) × (first_of xs ≡ None)
-    by true e = cc
-    by false e = (refl, e)
-
--- where there is no mistake, none of them is there
-none_each : (xs : List (Bool × RuleErrorKind)) (k : ℕ) (x : Bool × RuleErrorKind) → first_of xs ≡ None → slice_get xs k ≡ Some x → x.0 ≡ false
-none_each [] k x h e = cc
-none_each (y ∷ xs) zero x h e = let same : y ≡ x = cc in ap (λ z. z.0) (sym same) ∙ (none_then y xs h).0
-none_each (y ∷ xs) (suc k) x h e = none_each xs k x (none_then y xs h).1 e
 
 few_heads : (names : Names) (d : ℕ) (earlier : Program) (r : syntax.Rule) → error_in_rule names d earlier r ≡ None → (length (all_heads r) ≤ 8) × (length earlier < 1024)
 few_heads names d earlier r h =
@@ -70,22 +58,5 @@ few_more c r h few =
     let len = length-append c.rules (made ∷ []) in
     (omega (arith, head_count_pushed c.rules made, heads, bounds.0, few.0, len), omega (arith, len, bounds.1))
 
-few_in_part : (c d : Checked) (p : Part) → rule_in c p ≡ Ok d → IsFew c.rules → IsFew d.rules
-few_in_part c d (declares line ds) h few = let same : c ≡ d = cc in subst (λ x. IsFew x.rules) same few
-few_in_part c d (ignored line) h few = let same : c ≡ d = cc in subst (λ x. IsFew x.rules) same few
-few_in_part c d (rule line r) h few = by (error_in_rule c.names c.declared c.rules r) refl h
-  where
-    by : (m : Option RuleErrorKind) → error_in_rule c.names c.declared c.rules r ≡ m → unless m line (length c.rules + 1) (with_rule c r) ≡ Ok d → IsFew d.rules
-    by None e i = let same : with_rule c r ≡ d = cc in subst (λ x. IsFew x.rules) same (few_more c r e few)
-    by (Some m) e i = cc
-
-abbrev behind : Result Checked RuleError → List Part → Result Checked RuleError
-behind r ps = elim r [ Ok x ↦ each rule_in x ps | Err e ↦ Err e ]
-
 pub few_in_all : (c d : Checked) (ps : List Part) → each rule_in c ps ≡ Ok d → IsFew c.rules → IsFew d.rules
-few_in_all c d [] h few = let same : c ≡ d = cc in subst (λ x. IsFew x.rules) same few
-few_in_all c d (p ∷ ps) h few = by (rule_in c p) refl h (λ x. few_in_all x d ps)
-  where
-    by : (r : Result Checked RuleError) → rule_in c p ≡ r → behind r ps ≡ Ok d → ((x : Checked) → each rule_in x ps ≡ Ok d → IsFew x.rules → IsFew d.rules) → IsFew d.rules
-    by (Ok x) e i rest = rest x i (few_in_part c x p e few)
-    by (Err e) f i rest = cc
+few_in_all = kept_in_all IsFew few_more

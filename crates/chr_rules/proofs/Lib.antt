@@ -12,3 +12,8 @@ pub mod Ruled
 pub mod Placed
 pub mod Few
 pub mod Grown
+pub mod Counted
+pub mod Unmet
+pub mod Kept
+pub mod Bounded
+pub mod QueriesOf

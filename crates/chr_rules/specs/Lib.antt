@@ -10,4 +10,6 @@ pub mod ProgramView
 pub mod Signs
 pub mod Weight
 pub mod Grown
+pub mod Bounds
+pub mod QueryOf
 pub mod ErrorText

@@ -3,9 +3,11 @@ ghost use Rattle.std.specs.Prelude.{◌≡◌, ◌≢◌, ◌<◌, ◌^◌, IfEr
 ghost use Rattle.chr_semantics.specs.Checked.{checked, checked_query};
 ghost use Rattle.chr_semantics.specs.Program.{occurrence, occurrences};
 ghost use Rattle.chr_read.specs.SyntaxView.{program_view, query_view as syntax_query};
+ghost use Rattle.chr_rules.specs.Bounds.{AreBounded, IsBounded, IsQueryBounded, bounds};
 ghost use Rattle.chr_rules.specs.Checks.{IsError};
 ghost use Rattle.chr_rules.specs.Grown.{Grows};
 ghost use Rattle.chr_rules.specs.Index.{AreListed, head_count, pair_of, pair_view, pairs_of, pairs_view};
+ghost use Rattle.chr_rules.specs.QueryOf.{IsQueryOf};
 ghost use Rattle.chr_rules.specs.RuleView.{query_view, rule_view, rules_view};
 ghost use Rattle.chr_rules.specs.declared.error.RuleErrorKind.TheVariants.{Memory as OutOfMemory};
 
@@ -29,6 +31,7 @@ pub struct Program<A: Allocator = Global> {
     rules: Vec<Rule<A>, A>,
     index: Vec<Vec<Occurrence, A>, A>,
     ghost listed: { AreListed index.items (rules_view rules.items) },
+    ghost bounded: { AreBounded (rules_view rules.items) } by { Prim.hlevel bounds },
     ghost few: { head_count (rules_view rules.items) < 2 ^ 31 },
 }
 
@@ -40,6 +43,7 @@ impl<A: Allocator + Copy> Program<A> {
     pub fn build(alloc: A, syntax: ProgramSyntax<A>) -> Result<Program<A>, RuleError>
         ensures accepted { IfOk result (λ program. checked (program_view syntax) ≡ Ok (checked_view program)) }
         ensures refused { IfErr result (λ e. IsError e (checked (program_view syntax))) }
+        ensures bounded { IfOk result (λ program. AreBounded (checked_view program).rules) }
     {
         let parts = syntax.parts.as_slice();
         let mut names = Names::new(alloc)?;
@@ -65,6 +69,8 @@ impl<A: Allocator + Copy> Program<A> {
         ensures rules { (checked_view self.new).rules ≡ (checked_view self.old).rules }
         ensures mistaken { IfErr result (λ e. e.kind ≢ OutOfMemory → (checked_view self.new).names ≡ (checked_view self.old).names) }
         ensures grows { Grows (checked_view self.old).names (checked_view self.new).names }
+        ensures bounded { IfOk result (λ query. IsQueryBounded (query_view query)) }
+        ensures made { IfOk result (λ query. IsQueryOf (checked_view self.new) (query_view query)) }
     {
         query(self.alloc, &mut self.names, self.declared, &syntax)
     }
@@ -90,7 +96,8 @@ impl<A: Allocator> Program<A> {
     /// The k-th rule, counted from 0.
     pub fn rule(&self, k: usize) -> &Rule<A>
         requires { k < length (checked_view self.now).rules }
-        ensures { slice_get (checked_view self.now).rules k ≡ Some (rule_view result.now) }
+        ensures is { slice_get (checked_view self.now).rules k ≡ Some (rule_view result.now) }
+        ensures bounded { IsBounded (rule_view result.now) }
     {
         &self.rules[k]
     }

@@ -1,12 +1,15 @@
 use Rattle.std.proofs.Common.{◌∙◌, [], ap, arith, subst, sym}
+use Rattle.std.proofs.lemmas.List.Elements.{All-nil}
 use Rattle.chr_semantics.specs.Checked.{checked, declare_in, declared_only, each, rule_in}
 use Rattle.chr_semantics.specs.Names.{first_names}
 use Rattle.chr_semantics.specs.Program.{occurrences}
 use Rattle.chr_read.specs.SyntaxView.{part_views}
+use Rattle.chr_rules.specs.Bounds.{IsBounded}
 use Rattle.chr_rules.specs.Building.{checked_of}
 use Rattle.chr_rules.specs.Checks.{IsError}
 use Rattle.chr_rules.specs.Index.{pairs_of}
 use Rattle.chr_rules.specs.RuleView.{rules_view}
+use Rattle.chr_rules.proofs.Bounded.{bounded_in_all}
 use Rattle.chr_rules.proofs.Each.{err_answers, want_answers}
 use Rattle.chr_rules.proofs.Few.{few_in_all}
 use Rattle.chr_rules.proofs.Placed.{first_refused, second_refused}
@@ -40,6 +43,7 @@ returns-in_err-index-clause-refused g c =
 pub invariant_of-result : goal.invariant_of-result
 invariant_of-result g c = record {
   listed = λ f. c.in_ok-index.ensures f ∙ ap (λ rs. pairs_of (occurrences (rules_view rs) f)) c.as_slice.ensures.value;
+  bounded = bounded_in_all (checked_of c.declare_all.new.names c.len-declared.result []) (checked_of c.rules.new.names c.len-declared.result (rules_view c.in_ok-rules.rules.items)) (part_views c.as_slice-parts.result.now) c.in_ok-rules.ensures.accepted (All-nil IsBounded);
   few =
       let few = few_in_all (checked_of c.declare_all.new.names c.len-declared.result []) (checked_of c.rules.new.names c.len-declared.result (rules_view c.in_ok-rules.rules.items)) (part_views c.as_slice-parts.result.now) c.in_ok-rules.ensures.accepted (omega arith, omega arith) in
       omega (arith, few.0, few.1);
