@@ -1,7 +1,7 @@
 //! Runs a query over a program of Constraint Handling Rules, and writes the text of the run.
 //!
 //! `chr PROGRAM QUERY` takes the program from a file. With no words the first line of the standard input is the query, and the program is
-//! what stands behind it.
+//! what stands after it.
 #![tactic(auto)]
 
 use chr_run::command;

@@ -6,6 +6,7 @@ use Rattle.std.proofs.lemmas.Option.{slice_get_within}
 use Rattle.chr_semantics.specs.Tree.{Tree, var}
 use Rattle.chr_semantics.specs.Subst.{Subst, value_at, apply, occurs, with_binding, IsSolved}
 use Rattle.chr_semantics.proofs.Instances.{instance-solves}
+use Rattle.chr_semantics.proofs.Lists.{eqb_other}
 use Rattle.chr_semantics.proofs.UnifierEqual.{IsFree, apply-bound, apply_absent, bound_is, bound_solved, here, one}
 use Rattle.std.specs.Borrow.{Bor}
 use Rattle.chr_term.specs.declared.term.Term.{Term}
@@ -74,9 +75,6 @@ last_later i (Some (Bound j)) h = tt
 
 name_absent : (n m : ℕ) → (n == m) ≡ false → n ≢ m
 name_absent n m h = grind (arith, Decides-eqb n m)
-
-eqb_other : (x y : ℕ) → x ≢ y → (x == y) ≡ false
-eqb_other x y h = grind (arith, Decides-eqb x y)
 
 module _ (links : List Link) (pairs : Pairs) (x n : ℕ) (t : Tree) (h : IsSound links pairs) (at : name_of (slice_get links x) ≡ Some n) (absent : occurs n (apply (solution pairs) t) ≡ false) where
   pub value_here : value_at (solution pairs) x ≡ var n

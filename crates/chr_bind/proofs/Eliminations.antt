@@ -6,6 +6,7 @@ use Rattle.chr_semantics.specs.Tree.{Tree, var, Trees}
 use Rattle.chr_semantics.specs.Subst.{Solves, Subst, value_at, apply, instances, occurs, with_binding, IsSolved}
 use Rattle.chr_semantics.specs.Mgu.{Equations, both, apart, apart_under, mgu, elimination, elimination_from, vars}
 use Rattle.chr_semantics.proofs.Instances.{instance-solves, instances-instances}
+use Rattle.chr_semantics.proofs.Lists.{no_items}
 use Rattle.chr_semantics.proofs.UnifierEqual.{bound_is, from_apart, mgu_makes_equal, one}
 use Rattle.chr_semantics.proofs.UnifierNone.{mgu_none}
 use Rattle.chr_term.specs.TermView.{view, trees_view}
@@ -145,10 +146,6 @@ length-eliminated : (x : ℕ) (u : Tree) (s : Subst) → length (with_binding x 
 length-eliminated x u [] = refl
 length-eliminated x u (p ∷ s) = let r = length-eliminated x u s in omega (arith, r)
 
-no_length : {A : Type 0} (xs : List A) → length xs ≡ 0 → xs ≡ []
-no_length [] e = refl
-no_length (x ∷ xs) e = absurd (omega arith)
-
 length-extension_by : (s : Subst) (es : Pairs) → length (extension_by s es) ≡ length s + length es
 length-extension_by s [] = omega arith
 length-extension_by s (e ∷ es) = omega (arith, length-extension_by (with_binding e.0 (apply s e.1) s) es, length-eliminated e.0 (apply s e.1) s)
@@ -163,7 +160,7 @@ same_unifier s a b e = ap (λ t. elimination_from (length (vars (apply s a) ++ v
 -- Where nothing was added, both stood for one term; where something was, they did not.
 pub unified_as : (pairs more : Pairs) (a b : Tree) (n : ℕ) (answer : Unified) → IsSolved (solution pairs) → mgu (solution pairs) a b ≡ Some (solution (pairs ++ more)) → length more ≡ n → IsAnswer n answer → IsUnified a b (solution pairs) (solution (pairs ++ more)) answer
 unified_as pairs more a b n Same h is l e =
-    let none : more ≡ [] = no_length more (omega (arith, l, e)) in
+    let none : more ≡ [] = no_items more (omega (arith, l, e)) in
     let same : solution (pairs ++ more) ≡ solution pairs = ap (λ es. solution (pairs ++ es)) none ∙ ap solution (append-nil pairs) in
     let both_equal = (mgu_makes_equal (solution pairs) a b h (solution (pairs ++ more)) is).2 in
     let equal : apply (solution pairs) a ≡ apply (solution pairs) b = subst (λ r. apply r a ≡ apply r b) same both_equal in

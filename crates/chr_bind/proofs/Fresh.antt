@@ -2,24 +2,14 @@
 use Rattle.std.proofs.Common.{◌≡◌, ℕ, ◌+◌, ◌<◌, ◌≤◌, Option, Some, None, List, [], ◌∷◌, ◌++◌, length, ap, refl, ◌∙◌, sym, subst, slice_get, ◌⊎◌, inl, inr, arith}
 use Rattle.std.proofs.lemmas.Bool.Decides.{eqb_tells}
 use Rattle.std.proofs.lemmas.Option.{slice_get_cases, slice_get_past}
-use Rattle.chr_semantics.specs.Tree.{Tree, var, int, node, Trees, none, more}
-use Rattle.chr_bind.specs.Terms.{AreBelow, IsBelow}
+use Rattle.chr_semantics.specs.Tree.{var}
 use Rattle.chr_bind.specs.Chains.{ArePairsBelow, IsLater, IsLinked, IsSound, Pairs, free_count, name_of, solution}
 use Rattle.chr_bind.specs.declared.chains.Link.{Link}
 use Rattle.chr_bind.specs.declared.chains.Link.TheVariants.{Free, Follows, Bound}
+use Rattle.chr_bind.proofs.Bounds.{below_more}
 use Rattle.chr_bind.proofs.Binds.{free_link, length-last}
 use Rattle.chr_bind.proofs.Changed.{slice_get-before, slice_get-last}
 use Rattle.chr_bind.proofs.Links.{free_beyond, linked_at}
-
-mutual
-  pub below_more : (n m : ℕ) (t : Tree) → n ≤ m → IsBelow n t → IsBelow m t
-  below_more n m (var x) h b = omega (arith, h, b)
-  below_more n m (int z) h b = tt
-  below_more n m (node f ts) h b = below_more_all n m ts h b
-
-  pub below_more_all : (n m : ℕ) (ts : Trees) → n ≤ m → AreBelow n ts → AreBelow m ts
-  below_more_all n m none h b = tt
-  below_more_all n m (more t ts) h b = (below_more n m t h b.0, below_more_all n m ts h b.1)
 
 pairs_below_more : (n m : ℕ) (es : Pairs) → n ≤ m → ArePairsBelow n es → ArePairsBelow m es
 pairs_below_more n m [] h b = tt

@@ -1,3 +1,4 @@
+pub mod Bounds
 mod Links
 mod Lists
 mod Roots

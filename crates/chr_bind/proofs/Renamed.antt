@@ -15,7 +15,7 @@ use Rattle.chr_term.specs.declared.term.Term.{Term}
 use Rattle.chr_bind.specs.Terms.{AreBelow, IsBelow}
 use Rattle.chr_term.specs.Extension.{IsExtension}
 use Rattle.chr_bind.specs.Renamed.{AreRenamed, IsNames, IsRenamed, old_variable}
-use Rattle.chr_bind.proofs.Fresh.{below_more, below_more_all}
+use Rattle.chr_bind.proofs.Bounds.{below_more, below_more_all}
 
 -- the first place of a number
 place_of : List ℕ → ℕ → ℕ

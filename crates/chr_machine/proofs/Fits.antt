@@ -1,11 +1,11 @@
 -- Matching with a head that has no variable is equality.
-use Rattle.std.proofs.Common.{◌≡◌, ◌∙◌, ◌↔◌, ℕ, List, [], ◌∷◌, length, refl, ap, sym, arith, Bool, true, false, ◌&&◌, ◌==◌, cond, Option, Some, None, IsTrue, get_or, Vec}
+use Rattle.std.proofs.Common.{◌≡◌, ◌∙◌, ◌↔◌, ℕ, List, [], ◌∷◌, length, refl, ap, sym, Bool, true, false, ◌&&◌, ◌==◌, cond, Option, Some, None, IsTrue, get_or, Vec}
 use Rattle.std.specs.Prelude.{is_some, option_and_then}
-use Rattle.std.proofs.lemmas.Bool.Decides.{Decides-int_eq}
 use Rattle.chr_semantics.specs.Tree.{Tree, var, int, node, Trees, none, more, is_ground_tree, is_ground_trees, same, same_all}
 use Rattle.chr_semantics.specs.Subst.{Subst}
 use Rattle.chr_semantics.specs.Program.{Atom, Head}
 use Rattle.chr_semantics.specs.Match.{fit, fit_all, fits}
+use Rattle.chr_semantics.proofs.SameLaw.{same_all_itself, same_all_true}
 use Rattle.chr_term.specs.declared.term.Sym.{Sym}
 use Rattle.chr_term.specs.declared.term.Term.{Term}
 use Rattle.chr_term.specs.TermView.{atom_view, trees_view}
@@ -39,50 +39,13 @@ mutual
   fit_ground_all (more t ts) (more u us) m h =
       chained (same t u) (same_all ts us) (fit_all ts us) (fit t u m) m (fit_ground t u m (both-left (is_ground_tree t) (is_ground_trees ts) h)) (fit_ground_all ts us m (both-right (is_ground_tree t) (is_ground_trees ts) h))
 
-test-equal : (x y : ℕ) → (x == y) ≡ true → x ≡ y
-test-equal x y h = grind arith
-
--- the test of identity decides equality
-mutual
-  same_equal : (t u : Tree) → same t u ≡ true → t ≡ u
-  same_equal (var x) (var y) h = ap var (test-equal x y h)
-  same_equal (var x) (int z) h = cc
-  same_equal (var x) (node g us) h = cc
-  same_equal (int z) (var y) h = cc
-  same_equal (int z) (int w) h = ap int ((Decides-int_eq z w).0 h)
-  same_equal (int z) (node g us) h = cc
-  same_equal (node f ts) (var y) h = cc
-  same_equal (node f ts) (int w) h = cc
-  same_equal (node f ts) (node g us) h =
-      rw (test-equal f g (both-left (f == g) (same_all ts us) h), same_all_equal ts us (both-right (f == g) (same_all ts us) h))
-
-  same_all_equal : (ts us : Trees) → same_all ts us ≡ true → ts ≡ us
-  same_all_equal none none h = refl
-  same_all_equal none (more u us) h = cc
-  same_all_equal (more t ts) none h = cc
-  same_all_equal (more t ts) (more u us) h =
-      rw (same_equal t u (both-left (same t u) (same_all ts us) h), same_all_equal ts us (both-right (same t u) (same_all ts us) h))
-
-test-itself : (x : ℕ) → (x == x) ≡ true
-test-itself x = grind arith
-
-mutual
-  same_itself : (t : Tree) → same t t ≡ true
-  same_itself (var x) = test-itself x
-  same_itself (int z) = (Decides-int_eq z z).1 refl
-  same_itself (node f ts) = rw (test-itself f, same_all_itself ts)
-
-  same_all_itself : (ts : Trees) → same_all ts ts ≡ true
-  same_all_itself none = refl
-  same_all_itself (more t ts) = rw (same_itself t, same_all_itself ts)
-
 equal_test : (b : Bool) (ts us : Trees) → (IsTrue b ↔ (ts ≡ us)) → same_all ts us ≡ b
 equal_test true ts us h = ap (same_all ts) (sym (h.0 refl)) ∙ same_all_itself ts
 equal_test false ts us h = no (same_all ts us) refl
   where
     no : (t : Bool) → same_all ts us ≡ t → t ≡ false
     no false e = refl
-    no true e = sym (h.1 (same_all_equal ts us e))
+    no true e = sym (h.1 (same_all_true ts us e))
 
 is_some-fit : (a b : Bool) (m : Subst) → is_some (option_and_then (λ (m : Subst). Some m) (cond a (cond b (Some m) None) None)) ≡ (a && b)
 is_some-fit true true m = refl

@@ -1,6 +1,6 @@
 -- With no bindings a term resolves to itself, and a term with no variable does under any.
-use Rattle.std.proofs.Common.{◌≡◌, ℕ, [], refl, ap, Bool, true, false, ◌&&◌}
-use Rattle.chr_semantics.specs.Tree.{Tree, var, int, node, Trees, none, more, is_ground_tree, is_ground_trees}
+use Rattle.std.proofs.Common.{◌≡◌, [], refl, ap, Bool, true, false, ◌&&◌}
+use Rattle.chr_semantics.specs.Tree.{Tree, var, int, node, Trees, none, more}
 use Rattle.chr_semantics.specs.Subst.{instance, instances, value_at}
 use Rattle.chr_semantics.specs.Program.{Atom}
 use Rattle.chr_semantics.specs.State.{resolved_atom}
@@ -25,14 +25,3 @@ both-left false b h = h
 pub both-right : (a b : Bool) → (a && b) ≡ true → b ≡ true
 both-right true b h = h
 both-right false b h = cc
-
-mutual
-  pub instance_ground : (f : ℕ → Tree) (t : Tree) → is_ground_tree t ≡ true → instance f t ≡ t
-  instance_ground f (var x) h = cc
-  instance_ground f (int z) h = refl
-  instance_ground f (node g ts) h = ap (node g) (instances_ground f ts h)
-
-  pub instances_ground : (f : ℕ → Tree) (ts : Trees) → is_ground_trees ts ≡ true → instances f ts ≡ ts
-  instances_ground f none h = refl
-  instances_ground f (more t ts) h =
-      rw (instance_ground f t (both-left (is_ground_tree t) (is_ground_trees ts) h), instances_ground f ts (both-right (is_ground_tree t) (is_ground_trees ts) h))

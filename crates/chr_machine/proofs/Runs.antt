@@ -8,7 +8,7 @@ use Rattle.chr_semantics.specs.Search.{History}
 use Rattle.chr_semantics.specs.State.{State, Element, Status, running, done, failed, faulted, goal, start, with_stack}
 use Rattle.chr_rules.specs.RuleView.{goal_view}
 use Rattle.chr_rules.specs.declared.goal.Goal.{Goal}
-use Rattle.chr_semantics.specs.Step.{step, after, count_steps, is_running, step_at, steps}
+use Rattle.chr_semantics.specs.Step.{step, after, is_running, step_at, steps}
 use Rattle.chr_semantics.proofs.Counts.{count-add}
 use Rattle.chr_semantics.specs.Trace.{line}
 use Rattle.chr_semantics.specs.Text.{line_texts, trace}

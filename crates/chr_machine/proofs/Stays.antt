@@ -10,14 +10,11 @@ use Rattle.chr_semantics.specs.Match.{Row, fits}
 use Rattle.chr_semantics.specs.Search.{ids_of, atom_of, has_number, no_firing, firing}
 use Rattle.chr_semantics.specs.State.{Element, goal, known, active, Status, running, done, failed, faulted, State, with_stack, start}
 use Rattle.chr_semantics.specs.Step.{goal_instance, body_of, in_body, solve, fire_step, search_at, search_step, step_top, step_at, step}
+use Rattle.chr_semantics.proofs.Ground.{ground_stays_all}
+use Rattle.chr_semantics.proofs.Lists.{list_all-more}
 use Rattle.chr_machine.specs.Fragment.{is_constraint, is_ground_constraint, is_thin_program, is_thin_query, is_thin_element, is_spent, IsThin, IsThinRule}
-use Rattle.chr_machine.proofs.Resolved.{both-left, both-right, instances_ground}
+use Rattle.chr_machine.proofs.Resolved.{both-left, both-right}
 use Rattle.chr_machine.proofs.Thin.{IsThinOccurrence, thin_occurrence, thin_found, search_thin, search_none}
-
--- what implies another test of each element
-list_all-implied : {X : Type 0} (p q : X → Bool) (xs : List X) → ((x : X) → p x ≡ true → q x ≡ true) → list_all p xs ≡ true → list_all q xs ≡ true
-list_all-implied p q [] h e = refl
-list_all-implied p q (x ∷ xs) h e = rw (h x (both-left (p x) (list_all p xs) e), list_all-implied p q xs h (both-right (p x) (list_all p xs) e))
 
 all-two : {X : Type 0} (p : X → Bool) (xs ys : List X) → list_all p xs ≡ true → list_all p ys ≡ true → list_all p (xs ++ ys) ≡ true
 all-two p xs ys h k = list_all-append p xs ys ∙ rw (h, k)
@@ -83,7 +80,7 @@ living_given (r ∷ store) n i a l h =
 
 -- a ground goal is the same whatever its variables stand for
 ground_goal : (f : ℕ → Tree) (g : Goal) → is_ground_constraint g ≡ true → goal_instance f g ≡ g
-ground_goal f (constraint a) h = rw (instances_ground f a.args h)
+ground_goal f (constraint a) h = rw (ground_stays_all f a.args h)
 ground_goal f (tell t u) h = cc
 ground_goal f (evaluate t u) h = cc
 ground_goal f (compare c t u) h = cc
@@ -106,14 +103,14 @@ constraint_of (compare c t u) h = h
 constraint_of fail h = h
 
 thin_body : (gs : List Goal) → list_all is_ground_constraint gs ≡ true → list_all is_thin_element (map (λ g. goal g) gs) ≡ true
-thin_body gs h = list_all-map is_thin_element (λ g. goal g) gs ∙ list_all-implied is_ground_constraint is_constraint gs constraint_of h
+thin_body gs h = list_all-map is_thin_element (λ g. goal g) gs ∙ list_all-more is_ground_constraint is_constraint gs constraint_of h
 
 thin_with : (p : Program) (s : State) (es : List Element) → IsThin p s → list_all is_thin_element es ≡ true → IsThin p (with_stack s es)
 thin_with p s es thin h = record { rules = thin.rules; stack = h; subst = thin.subst; given = thin.given; spent = thin.spent }
 
 spent_added : (store : List Row) (n : ℕ) (a : Atom) (e : ℕ × List ℕ) → is_spent store n e ≡ true → is_spent (store ++ (n, a) ∷ []) (n + 1) e ≡ true
 spent_added store n a e h =
-    list_all-implied (λ i. nat_lt i n && is_none (atom_of store i)) (λ i. nat_lt i (n + 1) && is_none (atom_of (store ++ (n, a) ∷ []) i)) e.1
+    list_all-more (λ i. nat_lt i n && is_none (atom_of store i)) (λ i. nat_lt i (n + 1) && is_none (atom_of (store ++ (n, a) ∷ []) i)) e.1
     (λ i k. let lt = both-left (nat_lt i n) (is_none (atom_of store i)) k in
     rw (below_more i n lt, absent-added store n i a lt (both-right (nat_lt i n) (is_none (atom_of store i)) k))) h
 
@@ -123,14 +120,14 @@ thin_activate p s a rest thin h = record {
   stack = h;
   subst = thin.subst;
   given = all-two (λ (r : Row). nat_lt r.0 (s.next_id + 1)) s.store ((s.next_id, a) ∷ [])
-      (list_all-implied (λ (r : Row). nat_lt r.0 s.next_id) (λ (r : Row). nat_lt r.0 (s.next_id + 1)) s.store (λ r k. below_more r.0 s.next_id k) thin.given)
+      (list_all-more (λ (r : Row). nat_lt r.0 s.next_id) (λ (r : Row). nat_lt r.0 (s.next_id + 1)) s.store (λ r k. below_more r.0 s.next_id k) thin.given)
       (rw (below_here s.next_id));
-  spent = list_all-implied (is_spent s.store s.next_id) (is_spent (s.store ++ (s.next_id, a) ∷ []) (s.next_id + 1)) s.history (spent_added s.store s.next_id a) thin.spent;
+  spent = list_all-more (is_spent s.store s.next_id) (is_spent (s.store ++ (s.next_id, a) ∷ []) (s.next_id + 1)) s.history (spent_added s.store s.next_id a) thin.spent;
 }
 
 spent_filtered : (keep : Row → Bool) (store : List Row) (n : ℕ) (e : ℕ × List ℕ) → is_spent store n e ≡ true → is_spent (filter keep store) n e ≡ true
 spent_filtered keep store n e h =
-    list_all-implied (λ i. nat_lt i n && is_none (atom_of store i)) (λ i. nat_lt i n && is_none (atom_of (filter keep store) i)) e.1
+    list_all-more (λ i. nat_lt i n && is_none (atom_of store i)) (λ i. nat_lt i n && is_none (atom_of (filter keep store) i)) e.1
     (λ i k. rw (both-left (nat_lt i n) (is_none (atom_of store i)) k, absent-filtered keep store i (both-right (nat_lt i n) (is_none (atom_of store i)) k))) h
 
 gone : (i : ℕ) (r : Row) → (r.0 == i) ≡ true → not (has_number (i ∷ []) r.0) ≡ false
@@ -151,7 +148,7 @@ thin_fired p s rest top n i rule b thin h is lives =
       subst = thin.subst;
       given = list_all-filter (λ (r : Row). nat_lt r.0 s.next_id) keep s.store thin.given;
       spent = all-two (is_spent (filter keep s.store) s.next_id) s.history ((n, i ∷ []) ∷ [])
-          (list_all-implied (is_spent s.store s.next_id) (is_spent (filter keep s.store) s.next_id) s.history (spent_filtered keep s.store s.next_id) thin.spent)
+          (list_all-more (is_spent s.store s.next_id) (is_spent (filter keep s.store) s.next_id) s.history (spent_filtered keep s.store s.next_id) thin.spent)
           (rw (living_given s.store s.next_id i b lives thin.given, absent-removed keep s.store i out));
     }
 

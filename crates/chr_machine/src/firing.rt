@@ -21,7 +21,8 @@ use std::alloc::Allocator;
 /// Puts goals on the stack, the first on top, with room for them.
 pub fn put_goals<A: Allocator>(stack: &mut Vec<Elem<A>, A>, mut goals: Vec<Goal<A>, A>)
     requires { vec_len stack.old + vec_len goals ≤ vec_capacity stack.old }
-    ensures { stack_view stack.new.items ≡ map (λ g. goal (goal_view g)) goals.items ++ stack_view stack.old.items }
+    ensures { stack_view stack.new.items ≡ map (λ g. goal (goal_view g)) goals.items
+        ++ stack_view stack.old.items }
 {
     while let Some(goal) = goals.pop() {
         stack.push_reserved(Elem::Goal(goal));
@@ -41,7 +42,8 @@ impl<'p, A: Allocator + Copy> Execution<'p, A> {
     /// Whether the rule's one head fits the constraint, which lives.
     fn fits(&self, id: Id, rule: &Rule<A>) -> bool
         requires { is_one_ground_head (rule_view rule.now).heads ≡ true }
-        ensures { result ≡ is_fit (rule_view rule.now).heads id.0 (atom_of (rows_of self.now.store) id.0) }
+        ensures { result
+            ≡ is_fit (rule_view rule.now).heads id.0 (atom_of (rows_of self.now.store) id.0) }
     {
         let Some(row) = self.store.row(id) else {
             return false;
@@ -63,9 +65,14 @@ impl<'p, A: Allocator + Copy> Execution<'p, A> {
         requires room { vec_len self.old.stack < vec_capacity self.old.stack }
         requires few { self.old.steps < MAX_TRANSITIONS }
         requires thin { IsThinRule (rule_view rule.now) }
-        requires found { IsFiring (search_at (rules_of self.old.program.now) (topped (active id.0 number (atom_view sym args.items)) (state_of self.old)) id.0 number (atom_view sym args.items)) index (rule_view rule.now) id.0 }
-        ensures ok { OnOk result (Made (active id.0 number (atom_view sym args.items)) self.old self.new) }
-        ensures err { IfErr result (λ top. elem_view top ≡ active id.0 number (atom_view sym args.items)) }
+        requires found { IsFiring
+            (search_at (rules_of self.old.program.now)
+            (topped (active id.0 number (atom_view sym args.items)) (state_of self.old)) id.0 number
+            (atom_view sym args.items)) index (rule_view rule.now) id.0 }
+        ensures ok { OnOk result
+            (Made (active id.0 number (atom_view sym args.items)) self.old self.new) }
+        ensures err { IfErr result
+            (λ top. elem_view top ≡ active id.0 number (atom_view sym args.items)) }
         ensures kept { OnErr result (Kept self.old self.new) }
         ensures room { OnErr result (vec_len self.new.stack < vec_capacity self.new.stack) }
     {
@@ -122,7 +129,14 @@ impl<'p, A: Allocator + Copy> Execution<'p, A> {
         requires history { vec_len self.old.history < vec_capacity self.old.history }
         requires few { self.old.steps < MAX_TRANSITIONS }
         requires one { ids_view ids.items ≡ id.0 ∷ [] }
-        ensures state { state_of self.new ≡ with_stack (record (state_of self.old) { store = filter (λ row. not (row.0 == id.0)) (rows_of self.old.store); history = (state_of self.old).history ++ (index, id.0 ∷ []) ∷ [] }) (map (λ g. goal (goal_view g)) goals.items ++ stack_view self.old.stack.items) }
+        ensures state { state_of self.new
+            ≡ with_stack
+            (record (state_of self.old) {
+              store = filter (λ row. not (row.0 == id.0))
+                  (rows_of self.old.store);
+              history = (state_of self.old).history ++ (index, id.0 ∷ [])
+                  ∷ [];
+            }) (map (λ g. goal (goal_view g)) goals.items ++ stack_view self.old.stack.items) }
         ensures lines { texts self.new.lines.items ≡ texts self.old.lines.items ++ line.items ∷ [] }
         ensures steps { self.new.steps ≡ self.old.steps + 1 }
         ensures same { SameRun self.old self.new }
@@ -147,9 +161,12 @@ impl<'p, A: Allocator + Copy> Execution<'p, A> {
     ) -> Result<(), Elem<A>>
         requires room { vec_len self.old.stack < vec_capacity self.old.stack }
         requires few { self.old.steps < MAX_TRANSITIONS }
-        requires thin { IsThin (rules_of self.old.program.now) (topped (active id.0 number (atom_view sym args.items)) (state_of self.old)) }
-        ensures ok { OnOk result (Made (active id.0 number (atom_view sym args.items)) self.old self.new) }
-        ensures err { IfErr result (λ top. elem_view top ≡ active id.0 number (atom_view sym args.items)) }
+        requires thin { IsThin (rules_of self.old.program.now)
+            (topped (active id.0 number (atom_view sym args.items)) (state_of self.old)) }
+        ensures ok { OnOk result
+            (Made (active id.0 number (atom_view sym args.items)) self.old self.new) }
+        ensures err { IfErr result
+            (λ top. elem_view top ≡ active id.0 number (atom_view sym args.items)) }
         ensures kept { OnErr result (Kept self.old self.new) }
         ensures room { OnErr result (vec_len self.new.stack < vec_capacity self.new.stack) }
     {

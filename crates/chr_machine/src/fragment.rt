@@ -14,7 +14,7 @@ fn is_constraint<A: Allocator>(goal: &Goal<A>) -> bool
 {
     match goal {
         Goal::Chr(_, _) => true,
-        Goal::Told(_, _, _) => false,
+        Goal::BuiltIn(_, _, _) => false,
         Goal::Fail => false,
     }
 }
@@ -24,7 +24,7 @@ fn is_ground_constraint<A: Allocator>(goal: &Goal<A>) -> bool
 {
     match goal {
         Goal::Chr(_, args) => are_ground(args.as_slice()),
-        Goal::Told(_, _, _) => false,
+        Goal::BuiltIn(_, _, _) => false,
         Goal::Fail => false,
     }
 }

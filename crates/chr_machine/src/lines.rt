@@ -38,7 +38,11 @@ impl<'p, A: Allocator + Copy> Execution<'p, A> {
         args: &[Term<A>],
     ) -> Result<Vec<u8, A>, Memory>
         requires { self.now.steps < 2 ^ 63 }
-        ensures { IfOk result (λ line. line.items ≡ decimal (self.now.steps + 1) ++ (word.now ++ known_text (names_of self.now.program.now) self.now.var_names (resolved_atom [] (atom_view sym args.now)) id.0)) }
+        ensures { IfOk result
+            (λ line. line.items ≡ decimal (self.now.steps + 1)
+            ++ (word.now
+            ++ known_text (names_of self.now.program.now) self.now.var_names
+            (resolved_atom [] (atom_view sym args.now)) id.0)) }
     {
         let mut line = self.line_start(word)?;
         print_known(
@@ -62,7 +66,11 @@ impl<'p, A: Allocator + Copy> Execution<'p, A> {
         args: &[Term<A>],
     ) -> Result<Vec<u8, A>, Memory>
         requires { self.now.steps < 2 ^ 63 }
-        ensures { IfOk result (λ line. line.items ≡ decimal (self.now.steps + 1) ++ (word.now ++ active_text (names_of self.now.program.now) self.now.var_names (resolved_atom [] (atom_view sym args.now)) id.0 occurrence)) }
+        ensures { IfOk result
+            (λ line. line.items ≡ decimal (self.now.steps + 1)
+            ++ (word.now
+            ++ active_text (names_of self.now.program.now) self.now.var_names
+            (resolved_atom [] (atom_view sym args.now)) id.0 occurrence)) }
     {
         let mut line = self.line_start(word)?;
         let occurrence = occurrence as u64;
@@ -81,7 +89,10 @@ impl<'p, A: Allocator + Copy> Execution<'p, A> {
     /// The line of an Activate.
     pub fn activate_line(&self, id: Id, sym: Sym, args: &[Term<A>]) -> Result<Vec<u8, A>, Memory>
         requires { self.now.steps < 2 ^ 63 }
-        ensures { IfOk result (λ line. line.items ≡ line_text (names_of self.now.program.now) self.now.var_names (self.now.steps + 1) (activates (resolved_atom [] (atom_view sym args.now)) id.0)) }
+        ensures { IfOk result
+            (λ line. line.items
+            ≡ line_text (names_of self.now.program.now) self.now.var_names (self.now.steps + 1)
+            (activates (resolved_atom [] (atom_view sym args.now)) id.0)) }
     {
         self.known_line(" activate ", id, sym, args)
     }
@@ -89,7 +100,10 @@ impl<'p, A: Allocator + Copy> Execution<'p, A> {
     /// The line of a Reactivate.
     pub fn reactivate_line(&self, id: Id, sym: Sym, args: &[Term<A>]) -> Result<Vec<u8, A>, Memory>
         requires { self.now.steps < 2 ^ 63 }
-        ensures { IfOk result (λ line. line.items ≡ line_text (names_of self.now.program.now) self.now.var_names (self.now.steps + 1) (reactivates (resolved_atom [] (atom_view sym args.now)) id.0)) }
+        ensures { IfOk result
+            (λ line. line.items
+            ≡ line_text (names_of self.now.program.now) self.now.var_names (self.now.steps + 1)
+            (reactivates (resolved_atom [] (atom_view sym args.now)) id.0)) }
     {
         self.known_line(" reactivate ", id, sym, args)
     }
@@ -103,7 +117,10 @@ impl<'p, A: Allocator + Copy> Execution<'p, A> {
         args: &[Term<A>],
     ) -> Result<Vec<u8, A>, Memory>
         requires { self.now.steps < 2 ^ 63 }
-        ensures { IfOk result (λ line. line.items ≡ line_text (names_of self.now.program.now) self.now.var_names (self.now.steps + 1) (drops (resolved_atom [] (atom_view sym args.now)) id.0 occurrence)) }
+        ensures { IfOk result
+            (λ line. line.items
+            ≡ line_text (names_of self.now.program.now) self.now.var_names (self.now.steps + 1)
+            (drops (resolved_atom [] (atom_view sym args.now)) id.0 occurrence)) }
     {
         self.active_line(" drop ", id, occurrence, sym, args)
     }
@@ -117,7 +134,10 @@ impl<'p, A: Allocator + Copy> Execution<'p, A> {
         args: &[Term<A>],
     ) -> Result<Vec<u8, A>, Memory>
         requires { self.now.steps < 2 ^ 63 }
-        ensures { IfOk result (λ line. line.items ≡ line_text (names_of self.now.program.now) self.now.var_names (self.now.steps + 1) (defaults (resolved_atom [] (atom_view sym args.now)) id.0 occurrence)) }
+        ensures { IfOk result
+            (λ line. line.items
+            ≡ line_text (names_of self.now.program.now) self.now.var_names (self.now.steps + 1)
+            (defaults (resolved_atom [] (atom_view sym args.now)) id.0 occurrence)) }
     {
         self.active_line(" default ", id, occurrence, sym, args)
     }
@@ -133,7 +153,11 @@ impl<'p, A: Allocator + Copy> Execution<'p, A> {
         ids: &[Id],
     ) -> Result<Vec<u8, A>, Memory>
         requires { self.now.steps < 2 ^ 63 }
-        ensures { IfOk result (λ line. line.items ≡ line_text (names_of self.now.program.now) self.now.var_names (self.now.steps + 1) (simplifies (resolved_atom [] (atom_view sym args.now)) id.0 occurrence (string_bytes rule.now.label) (ids_view ids.now))) }
+        ensures { IfOk result
+            (λ line. line.items
+            ≡ line_text (names_of self.now.program.now) self.now.var_names (self.now.steps + 1)
+            (simplifies (resolved_atom [] (atom_view sym args.now)) id.0 occurrence
+            (string_bytes rule.now.label) (ids_view ids.now))) }
     {
         let mut line = self.active_line(" simplify ", id, occurrence, sym, args)?;
         line.push(b' ')?;

@@ -36,7 +36,9 @@ impl<'p, A: Allocator + Copy> Machine<'p, A> {
     ) -> Result<Machine<'p, A>, Memory>
         requires program { is_thin_program (rules_of program.now) ≡ true }
         requires query { is_thin_query (query_view query) ≡ true }
-        ensures { IfOk result (λ machine. Starts (names_of program.now) (rules_of program.now) (query_view query) (machine_view machine)) }
+        ensures { IfOk result
+            (λ machine. Starts (names_of program.now) (rules_of program.now) (query_view query)
+            (machine_view machine)) }
     {
         let execution = Execution::start(alloc, program, query)?;
         Ok(Machine { execution })
@@ -45,7 +47,8 @@ impl<'p, A: Allocator + Copy> Machine<'p, A> {
     /// Makes one transition and appends its line. It answers Ended where the run is not running any more, else Spent where 1,000,000
     /// transitions were made; these and Memory leave the machine as before.
     pub fn step(&mut self) -> Result<Stepped, Memory>
-        ensures ok { IfOk result (λ stepped. Steps stepped (machine_view self.old) (machine_view self.new)) }
+        ensures ok { IfOk result
+            (λ stepped. Steps stepped (machine_view self.old) (machine_view self.new)) }
         ensures err { OnErr result (Same (machine_view self.old) (machine_view self.new)) }
     {
         self.execution.step()

@@ -53,7 +53,8 @@ impl<'p, A: Allocator + Copy> Execution<'p, A> {
         requires room { vec_len self.old.stack < vec_capacity self.old.stack }
         requires few { self.old.steps < MAX_TRANSITIONS }
         requires small { next_of self.old.store < 2 ^ 63 }
-        requires thin { IsThin (rules_of self.old.program.now) (topped (elem_view top) (state_of self.old)) }
+        requires thin { IsThin (rules_of self.old.program.now)
+            (topped (elem_view top) (state_of self.old)) }
         ensures ok { OnOk result (Made (elem_view top) self.old self.new) }
         ensures err { IfErr result (λ back. elem_view back ≡ elem_view top) }
         ensures kept { OnErr result (Kept self.old self.new) }
@@ -64,7 +65,7 @@ impl<'p, A: Allocator + Copy> Execution<'p, A> {
             Elem::Active(id, number, sym, args) => self.step_active(id, number, sym, args),
             Elem::Goal(goal) => match goal {
                 Goal::Chr(sym, args) => self.activate(sym, args),
-                Goal::Told(_, _, _) => unreachable!(),
+                Goal::BuiltIn(_, _, _) => unreachable!(),
                 Goal::Fail => unreachable!(),
             },
         }
@@ -110,7 +111,8 @@ impl<'p, A: Allocator + Copy> Execution<'p, A> {
         requires small { next_of self.old.store ≤ self.old.steps + 1 }
         requires thin { IsThin (rules_of self.old.program.now) (state_of self.old) }
         ensures ran { Ran (self.new.steps - self.old.steps) self.old self.new }
-        ensures ok { IfOk result (λ stepped. RunIs stepped n (self.new.steps - self.old.steps) self.old self.new) }
+        ensures ok { IfOk result
+            (λ stepped. RunIs stepped n (self.new.steps - self.old.steps) self.old self.new) }
         ensures err { OnErr result (self.new.steps - self.old.steps < n) }
         ensures ready { IsReady self.new }
         ensures limit { self.new.steps ≤ MAX_TRANSITIONS }

@@ -25,7 +25,8 @@ impl<'p, A: Allocator + Copy> Execution<'p, A> {
     /// Puts an element on the stack, with room for it.
     fn put(&mut self, elem: Elem<A>)
         requires { vec_len self.old.stack < vec_capacity self.old.stack }
-        ensures state { state_of self.new ≡ with_stack (state_of self.old) (elem_view elem ∷ stack_view self.old.stack.items) }
+        ensures state { state_of self.new
+            ≡ with_stack (state_of self.old) (elem_view elem ∷ stack_view self.old.stack.items) }
         ensures lines { self.new.lines ≡ self.old.lines }
         ensures steps { self.new.steps ≡ self.old.steps }
         ensures same { SameRun self.old self.new }
@@ -38,7 +39,8 @@ impl<'p, A: Allocator + Copy> Execution<'p, A> {
 
     /// Says how the run stands where nothing was put.
     pub fn settle(&mut self)
-        ensures state { state_of self.new ≡ with_stack (state_of self.old) (stack_view self.old.stack.items) }
+        ensures state { state_of self.new
+            ≡ with_stack (state_of self.old) (stack_view self.old.stack.items) }
         ensures lines { self.new.lines ≡ self.old.lines }
         ensures steps { self.new.steps ≡ self.old.steps }
         ensures same { SameRun self.old self.new }
@@ -78,8 +80,10 @@ impl<'p, A: Allocator + Copy> Execution<'p, A> {
         requires room { vec_len self.old.stack < vec_capacity self.old.stack }
         requires few { self.old.steps < MAX_TRANSITIONS }
         requires small { next_of self.old.store < 2 ^ 63 }
-        ensures ok { OnOk result (Made (goal (constraint (atom_view sym args.items))) self.old self.new) }
-        ensures err { IfErr result (λ top. elem_view top ≡ goal (constraint (atom_view sym args.items))) }
+        ensures ok { OnOk result
+            (Made (goal (constraint (atom_view sym args.items))) self.old self.new) }
+        ensures err { IfErr result
+            (λ top. elem_view top ≡ goal (constraint (atom_view sym args.items))) }
         ensures kept { OnErr result (Kept self.old self.new) }
         ensures room { OnErr result (vec_len self.new.stack < vec_capacity self.new.stack) }
     {
@@ -113,9 +117,13 @@ impl<'p, A: Allocator + Copy> Execution<'p, A> {
     ) -> Result<(), Elem<A>>
         requires room { vec_len self.old.stack < vec_capacity self.old.stack }
         requires few { self.old.steps < MAX_TRANSITIONS }
-        requires none { search_at (rules_of self.old.program.now) (topped (active id.0 number (atom_view sym args.items)) (state_of self.old)) id.0 number (atom_view sym args.items) ≡ no_occurrence }
-        ensures ok { OnOk result (Made (active id.0 number (atom_view sym args.items)) self.old self.new) }
-        ensures err { IfErr result (λ top. elem_view top ≡ active id.0 number (atom_view sym args.items)) }
+        requires none { search_at (rules_of self.old.program.now)
+            (topped (active id.0 number (atom_view sym args.items)) (state_of self.old)) id.0 number
+            (atom_view sym args.items) ≡ no_occurrence }
+        ensures ok { OnOk result
+            (Made (active id.0 number (atom_view sym args.items)) self.old self.new) }
+        ensures err { IfErr result
+            (λ top. elem_view top ≡ active id.0 number (atom_view sym args.items)) }
         ensures kept { OnErr result (Kept self.old self.new) }
         ensures room { OnErr result (vec_len self.new.stack < vec_capacity self.new.stack) }
     {
@@ -142,9 +150,13 @@ impl<'p, A: Allocator + Copy> Execution<'p, A> {
         requires room { vec_len self.old.stack < vec_capacity self.old.stack }
         requires few { self.old.steps < MAX_TRANSITIONS }
         requires small { number < 2 ^ 31 }
-        requires none { search_at (rules_of self.old.program.now) (topped (active id.0 number (atom_view sym args.items)) (state_of self.old)) id.0 number (atom_view sym args.items) ≡ no_firing }
-        ensures ok { OnOk result (Made (active id.0 number (atom_view sym args.items)) self.old self.new) }
-        ensures err { IfErr result (λ top. elem_view top ≡ active id.0 number (atom_view sym args.items)) }
+        requires none { search_at (rules_of self.old.program.now)
+            (topped (active id.0 number (atom_view sym args.items)) (state_of self.old)) id.0 number
+            (atom_view sym args.items) ≡ no_firing }
+        ensures ok { OnOk result
+            (Made (active id.0 number (atom_view sym args.items)) self.old self.new) }
+        ensures err { IfErr result
+            (λ top. elem_view top ≡ active id.0 number (atom_view sym args.items)) }
         ensures kept { OnErr result (Kept self.old self.new) }
         ensures room { OnErr result (vec_len self.new.stack < vec_capacity self.new.stack) }
     {

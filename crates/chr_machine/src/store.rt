@@ -56,7 +56,8 @@ impl<A: Allocator> Store<A> {
     /// The slot of an identity that was given.
     fn slot_of(&self, id: Id) -> Option<usize>
         ensures absent { IfNone result (IsAbsent (rows_of self.now) id.0) }
-        ensures given { IfSome result (λ slot. (slot + 1 ≡ id.0) × (slot < length self.now.slots.items)) }
+        ensures given { IfSome result
+            (λ slot. (slot + 1 ≡ id.0) × (slot < length self.now.slots.items)) }
     {
         if id.0 == 0 {
             return None;
@@ -105,7 +106,8 @@ impl<A: Allocator> Store<A> {
     /// Appends a constraint under the next identity, with room for it.
     pub(crate) fn add_reserved(&mut self, sym: Sym, args: Vec<Term<A>, A>) -> Id
         requires room { vec_len self.old.slots < vec_capacity self.old.slots }
-        ensures rows { rows_of self.new ≡ rows_of self.old ++ (next_of self.old, atom_view sym args.items) ∷ [] }
+        ensures rows { rows_of self.new ≡ rows_of self.old
+            ++ (next_of self.old, atom_view sym args.items) ∷ [] }
         ensures next { next_of self.new ≡ next_of self.old + 1 }
         ensures id { result.0 ≡ next_of self.old }
     {
@@ -115,7 +117,8 @@ impl<A: Allocator> Store<A> {
 
     /// Appends a constraint under the next identity. Where memory is refused, nothing changes, and the arguments come back.
     pub fn add(&mut self, sym: Sym, args: Vec<Term<A>, A>) -> Result<Id, (Vec<Term<A>, A>, Memory)>
-        ensures rows { OnOk result (rows_of self.new ≡ rows_of self.old ++ (next_of self.old, atom_view sym args.items) ∷ []) }
+        ensures rows { OnOk result
+            (rows_of self.new ≡ rows_of self.old ++ (next_of self.old, atom_view sym args.items) ∷ []) }
         ensures next { OnOk result (next_of self.new ≡ next_of self.old + 1) }
         ensures id { IfOk result (λ id. id.0 ≡ next_of self.old) }
         ensures back { IfErr result (λ refused. refused.0 ≡ args) }

@@ -9,7 +9,7 @@ use std::test::Fail;
 mod readers;
 mod refusals;
 
-/// p/1, q/1 and p/0, as the programs of these tests declare them: behind the seven symbols that each program has.
+/// p/1, q/1 and p/0, as the programs of these tests declare them: after the seven symbols that each program has.
 const P: Sym = Sym(7);
 
 const Q: Sym = Sym(8);

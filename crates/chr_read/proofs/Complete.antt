@@ -5,7 +5,7 @@ use Rattle.std.specs.Prelude.{codes, pos, neg_ℤ}
 use Rattle.chr_semantics.specs.Tokens as token
 use Rattle.chr_semantics.specs.Tokens.{Place, Additive, minus, Multiplicative, Relation, Sign, opens, closes, opens_list, closes_list, comma, bar, label, backslash, hash, simplifies, propagates, slash, stop, Token, name, numeral, additive, multiplicative, relation, sign, over, Placed, at}
 use Rattle.chr_semantics.specs.Syntax as syntax
-use Rattle.chr_semantics.specs.Syntax.{Expr, exprs_of, variable, number, call, nil, sum, product, list, Item, plain, related, Head, Arrow, simplification, propagation, Rule, Declaration, Part, ignored, Program, Query}
+use Rattle.chr_semantics.specs.Syntax.{Expr, exprs_of, variable, number, call, nil, list, Item, plain, related, Head, Arrow, simplification, propagation, Rule, Declaration, Part, ignored, Program, Query}
 use Rattle.chr_semantics.specs.Grammar.{IsPrimary, a_variable, a_number, a_negative, a_name, a_call, in_parens, an_empty_list, a_list, a_list_with_end, IsProduct, one_factor, more_factors, IsSum, one_summand, more_summands, AreExprs, one_expr, more_exprs, IsItem, an_expr, a_relation, AreItems, one_item, more_items, IsHead, an_active_head, a_passive_head, AreHeads, one_head, more_heads, IsLabel, no_label, a_label, AreAllHeads, one_list, two_lists, arrow_sign, IsBody, no_guard, a_guard, IsRule, a_rule, IsDeclaration, a_symbol, AreDeclarations, one_symbol, more_symbols, AreExports, no_exports, some_exports, line_of, IsPart, a_chr_constraint, a_use_module, a_module, some_rule, AreParts, no_parts, more_parts, IsProgram, a_program, IsQuery, a_query}
 use Rattle.chr_read.specs.Reads.{Slot, in_body, in_guarded, in_query, slot_section, Side, in_heads, in_behind, side_section}
 use Rattle.chr_read.specs.Automaton as m

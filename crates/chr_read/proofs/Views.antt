@@ -4,17 +4,13 @@ use Rattle.std.proofs.lemmas.Bool.Decides.{Decides-eqb}
 use Rattle.chr_semantics.specs.Syntax as s
 use Rattle.chr_tokens.specs.TokenView.{placed_views}
 use Rattle.chr_tokens.specs.declared.token.Placed.{Placed}
-use Rattle.chr_tokens.specs.declared.token.Additive.{Additive}
-use Rattle.chr_tokens.specs.declared.token.Multiplicative.{Multiplicative}
-use Rattle.chr_read.specs.SyntaxView.{chain, operand_views, products, sums, view, views}
+use Rattle.chr_read.specs.SyntaxView.{chain, operand_views, operator_view, view, views}
 use Rattle.chr_read.specs.declared.syntax.Expr.{Expr, the_lemmas}
-use Rattle.chr_read.specs.declared.syntax.Expr.TheVariants.{Call, List as Listed, ListWithEnd, Sum, Product}
+use Rattle.chr_read.specs.declared.syntax.Operator.{Operator}
+use Rattle.chr_read.specs.declared.syntax.Expr.TheVariants.{Call, List as Listed, ListWithEnd, Chain}
 
-pub view-Sum : (A : Type 0) (e : Box (Expr A) A) (es : Vec (Additive × Expr A) A) → view {A = A} (Sum e es) ≡ sums (view (box_value e)) (operand_views es.items)
-view-Sum A e es = search (rules, the_lemmas)
-
-pub view-Product : (A : Type 0) (e : Box (Expr A) A) (es : Vec (Multiplicative × Expr A) A) → view {A = A} (Product e es) ≡ products (view (box_value e)) (operand_views es.items)
-view-Product A e es = search (rules, the_lemmas)
+pub view-Chain : (A : Type 0) (e : Box (Expr A) A) (es : Vec (Operator × Expr A) A) → view {A = A} (Chain e es) ≡ chain (view (box_value e)) (operand_views es.items)
+view-Chain A e es = search (rules, the_lemmas)
 
 pub view-Call : (A : Type 0) (w : String A) (es : Vec (Expr A) A) → view {A = A} (Call w es) ≡ s.call (string_bytes w) (s.exprs_of (views es.items))
 view-Call A w es = search (rules, the_lemmas)
@@ -26,12 +22,12 @@ pub view-ListWithEnd : (A : Type 0) (es : Vec (Expr A) A) (e : Box (Expr A) A) �
 view-ListWithEnd A es e = search (rules, the_lemmas)
 
 -- one more operand, of a list that is one longer
-chain_pushed : {A O : Type 0} (join : O → s.Expr → s.Expr → s.Expr) (e : s.Expr) (es : List (O × Expr A)) (x : O × Expr A) → chain join e (operand_views (es ++ x ∷ [])) ≡ join x.0 (chain join e (operand_views es)) (view x.1)
-chain_pushed join e [] x = refl
-chain_pushed join e (y ∷ es) x = chain_pushed join (join y.0 e (view y.1)) es x
+chain_pushed : {A : Type 0} (e : s.Expr) (es : List (Operator × Expr A)) (x : Operator × Expr A) → chain e (operand_views (es ++ x ∷ [])) ≡ s.operation (operator_view x.0) (chain e (operand_views es)) (view x.1)
+chain_pushed e [] x = refl
+chain_pushed e (y ∷ es) x = chain_pushed (s.operation (operator_view y.0) e (view y.1)) es x
 
-pub chain_grown : {A O : Type 0} (join : O → s.Expr → s.Expr → s.Expr) (e : s.Expr) (es longer : List (O × Expr A)) (x : O × Expr A) → longer ≡ es ++ x ∷ [] → join x.0 (chain join e (operand_views es)) (view x.1) ≡ chain join e (operand_views longer)
-chain_grown join e es longer x h = sym (ap (λ os. chain join e (operand_views os)) h ∙ chain_pushed join e es x)
+pub chain_grown : {A : Type 0} (e : s.Expr) (es longer : List (Operator × Expr A)) (x : Operator × Expr A) → longer ≡ es ++ x ∷ [] → s.operation (operator_view x.0) (chain e (operand_views es)) (view x.1) ≡ chain e (operand_views longer)
+chain_grown e es longer x h = sym (ap (λ os. chain e (operand_views os)) h ∙ chain_pushed e es x)
 
 pub map_pushed : {X Y : Type 0} (f : X → Y) (xs : List X) (x : X) → map f (xs ++ x ∷ []) ≡ map f xs ++ f x ∷ []
 map_pushed f [] x = refl

@@ -4,7 +4,7 @@ use Rattle.std.specs.Str.{encode_utf8_all}
 use Rattle.chr_semantics.specs.Tokens as token
 use Rattle.chr_semantics.specs.Tokens.{Place, Additive, minus, Multiplicative, Relation, Sign, opens, closes, opens_list, closes_list, comma, bar, label, backslash, hash, simplifies, propagates, slash, stop, Token, name, numeral, additive, multiplicative, relation, sign, over, Placed, at}
 use Rattle.chr_semantics.specs.Syntax as syntax
-use Rattle.chr_semantics.specs.Syntax.{Expr, exprs_of, variable, number, call, nil, sum, product, list, Item, plain, related, Head, Arrow, simplification, propagation, Rule, Declaration, Part, ignored, Program, Query}
+use Rattle.chr_semantics.specs.Syntax.{Expr, exprs_of, variable, number, call, nil, adding, multiplying, operation, list, Item, plain, related, Head, Arrow, simplification, propagation, Rule, Declaration, Part, ignored, Program, Query}
 use Rattle.chr_semantics.specs.declared.limits.TheConstants.{MAX_OPEN_BRACKETS}
 use Rattle.chr_semantics.specs.Grammar.{is_number, is_magnitude, IsProgram, IsQuery}
 
@@ -86,11 +86,11 @@ no_prefix = record { sum = None; product = None }
 
 abbrev pub product_with : Option (Expr × Multiplicative) → Expr → Expr
 product_with None e = e
-product_with (Some l) e = product l.1 l.0 e
+product_with (Some l) e = operation (multiplying l.1) l.0 e
 
 abbrev pub sum_with : Option (Expr × Additive) → Expr → Expr
 sum_with None e = e
-sum_with (Some l) e = sum l.1 l.0 e
+sum_with (Some l) e = operation (adding l.1) l.0 e
 
 -- a primary is read
 abbrev pub state_after_primary : Prefix → Expr → List Frame → State

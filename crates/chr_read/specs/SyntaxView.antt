@@ -2,10 +2,10 @@
 use Rattle.std.specs.Prelude.{List, [], ◌∷◌, map, option_map, string_bytes, box_value}
 use Rattle.chr_semantics.specs.Syntax as s
 use Rattle.chr_tokens.specs.TokenView.{additive_view, multiplicative_view, relation_view}
-use Rattle.chr_tokens.specs.declared.token.Additive.{Additive}
-use Rattle.chr_tokens.specs.declared.token.Multiplicative.{Multiplicative}
 use Rattle.chr_read.specs.declared.syntax.Expr.{Expr, fold-Expr}
 use Rattle.chr_read.specs.declared.syntax.Expr.TheOpen.{Expr-F}
+use Rattle.chr_read.specs.declared.syntax.Operator.{Operator}
+use Rattle.chr_read.specs.declared.syntax.Operator.TheVariants.{Additive, Multiplicative}
 use Rattle.chr_read.specs.declared.syntax.Item.{Item}
 use Rattle.chr_read.specs.declared.syntax.Item.TheVariants.{Plain, Related}
 use Rattle.chr_read.specs.declared.syntax.Head.{Head}
@@ -18,16 +18,14 @@ use Rattle.chr_read.specs.declared.syntax.Part.TheVariants.{Declares, Ignored, R
 use Rattle.chr_read.specs.declared.syntax.ProgramSyntax.{ProgramSyntax}
 use Rattle.chr_read.specs.declared.syntax.QuerySyntax.{QuerySyntax}
 
--- a chain of operators associates to the left, where `join` is the tree of an operator with its two sides
-abbrev pub chain : {O : Type 0} → (O → s.Expr → s.Expr → s.Expr) → s.Expr → List (O × s.Expr) → s.Expr
-chain join e [] = e
-chain join e (x ∷ xs) = chain join (join x.0 e x.1) xs
+abbrev pub operator_view : Operator → s.Operator
+operator_view (Additive o) = s.adding (additive_view o)
+operator_view (Multiplicative o) = s.multiplying (multiplicative_view o)
 
-abbrev pub sums : s.Expr → List (Additive × s.Expr) → s.Expr
-sums = chain (λ o. s.sum (additive_view o))
-
-abbrev pub products : s.Expr → List (Multiplicative × s.Expr) → s.Expr
-products = chain (λ o. s.product (multiplicative_view o))
+-- a chain of operators associates to the left
+abbrev pub chain : s.Expr → List (Operator × s.Expr) → s.Expr
+chain e [] = e
+chain e (x ∷ xs) = chain (s.operation (operator_view x.0) e x.1) xs
 
 -- one level, with each expression inside already seen as its tree
 abbrev pub view_step : {A : Type 0} → Expr-F A s.Expr → s.Expr
@@ -36,14 +34,13 @@ view_step (Expr-F.Number z) = s.number z
 view_step (Expr-F.Call w es) = s.call (string_bytes w) (s.exprs_of es.items)
 view_step (Expr-F.List es) = s.list es.items s.nil
 view_step (Expr-F.ListWithEnd es e) = s.list es.items (box_value e)
-view_step (Expr-F.Sum e es) = sums (box_value e) es.items
-view_step (Expr-F.Product e es) = products (box_value e) es.items
+view_step (Expr-F.Chain e es) = chain (box_value e) es.items
 
 abbrev pub view : {A : Type 0} → Expr A → s.Expr
 view {A} = fold-Expr A s.Expr view_step
 
 -- the operators of a chain, each with the operand after it
-abbrev pub operand_views : {A O : Type 0} → List (O × Expr A) → List (O × s.Expr)
+abbrev pub operand_views : {A : Type 0} → List (Operator × Expr A) → List (Operator × s.Expr)
 operand_views es = map (λ x. (x.0, view x.1)) es
 
 abbrev pub views : {A : Type 0} → List (Expr A) → List s.Expr

@@ -5,15 +5,15 @@ ghost use Rattle.chr_semantics.specs.Syntax.{call, exprs_of, list as syntax_list
 ghost use Rattle.chr_semantics.specs.Tokens.{comma};
 ghost use Rattle.chr_tokens.specs.TokenView.{placed_views};
 ghost use Rattle.chr_read.specs.Reads.{Lacks, NoAdditive, NoMultiplicative, ReadsElements, ReadsInParens, ReadsList, ReadsNamed, ReadsPrimary, ReadsProduct, ReadsSigned, ReadsSum};
-ghost use Rattle.chr_read.specs.SyntaxView.{operand_views, products, sums, view, views};
+ghost use Rattle.chr_read.specs.SyntaxView.{chain, operand_views, view, views};
 
 use crate::halt::Halt;
-use crate::syntax::Expr;
+use crate::syntax::{Expr, Operator};
 use crate::words::{
     additive, after_sign, multiplicative, negative, number, split_first, string_of,
 };
 use chr_semantics::limits::MAX_OPEN_BRACKETS;
-use chr_tokens::{Additive, Memory, Multiplicative, Placed, Sign, Token};
+use chr_tokens::{Additive, Memory, Placed, Sign, Token};
 use std::alloc::Allocator;
 
 /// Products with `+` or `-` between them.
@@ -34,25 +34,10 @@ pub(crate) fn sum<'a, A: Allocator + Copy>(
     let mut operands = Vec::new(alloc);
     while let Some((operator, after)) = additive(rest) {
         let (operand, others) = product(alloc, after, room)?;
-        operands.push((operator, operand))?;
+        operands.push((Operator::Additive(operator), operand))?;
         rest = others;
     }
-    Ok((sum_of(alloc, first, operands)?, rest))
-}
-
-/// A sum, or its only operand.
-fn sum_of<A: Allocator + Copy>(
-    alloc: A,
-    first: Expr<A>,
-    operands: Vec<(Additive, Expr<A>), A>,
-) -> Result<Expr<A>, Memory>
-    ensures { IfOk result (λ e. view e ≡ sums (view first) (operand_views operands.items)) }
-{
-    if operands.is_empty() {
-        Ok(first)
-    } else {
-        Ok(Expr::Sum(Box::new(alloc, first)?, operands))
-    }
+    Ok((chain_of(alloc, first, operands)?, rest))
 }
 
 /// Primaries with `*`, `//` or `mod` between them.
@@ -72,24 +57,24 @@ fn product<'a, A: Allocator + Copy>(
     let mut operands = Vec::new(alloc);
     while let Some((operator, after)) = multiplicative(rest) {
         let (operand, others) = primary(alloc, after, room)?;
-        operands.push((operator, operand))?;
+        operands.push((Operator::Multiplicative(operator), operand))?;
         rest = others;
     }
-    Ok((product_of(alloc, first, operands)?, rest))
+    Ok((chain_of(alloc, first, operands)?, rest))
 }
 
-/// A product, or its only operand.
-fn product_of<A: Allocator + Copy>(
+/// A chain of operators, or its only operand.
+fn chain_of<A: Allocator + Copy>(
     alloc: A,
     first: Expr<A>,
-    operands: Vec<(Multiplicative, Expr<A>), A>,
+    operands: Vec<(Operator, Expr<A>), A>,
 ) -> Result<Expr<A>, Memory>
-    ensures { IfOk result (λ e. view e ≡ products (view first) (operand_views operands.items)) }
+    ensures { IfOk result (λ e. view e ≡ chain (view first) (operand_views operands.items)) }
 {
     if operands.is_empty() {
         Ok(first)
     } else {
-        Ok(Expr::Product(Box::new(alloc, first)?, operands))
+        Ok(Expr::Chain(Box::new(alloc, first)?, operands))
     }
 }
 

@@ -18,7 +18,7 @@ pub use chr_tokens::{Additive, Memory, Multiplicative, Relation};
 pub use error::{ReadError, ReadErrorKind};
 pub use reading::{read_program, read_query};
 pub use syntax::{
-    Arrow, Declaration, Expr, Head, Item, Part, ProgramSyntax, QuerySyntax, RuleSyntax,
+    Arrow, Declaration, Expr, Head, Item, Operator, Part, ProgramSyntax, QuerySyntax, RuleSyntax,
 };
 
 #[cfg(test)]

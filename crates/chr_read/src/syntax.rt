@@ -16,10 +16,17 @@ pub enum Expr<A: Allocator = Global> {
     List(Vec<Expr<A>, A>),
     /// `[a, b | end]`: the elements, and what stands after the bar.
     ListWithEnd(Vec<Expr<A>, A>, Box<Expr<A>, A>),
-    /// `a + b - c`: the first operand, and from the left each operator with the operand after it.
-    Sum(Box<Expr<A>, A>, Vec<(Additive, Expr<A>), A>),
-    /// `a * b // c`, as a sum.
-    Product(Box<Expr<A>, A>, Vec<(Multiplicative, Expr<A>), A>),
+    /// `a + b - c` or `a * b // c`: the first operand, and from the left each operator with the operand after it.
+    Chain(Box<Expr<A>, A>, Vec<(Operator, Expr<A>), A>),
+}
+
+/// The operator of a sum, or of a product.
+#[derive(Clone, Copy, PartialEq, Eq, Debug, Drop)]
+pub enum Operator {
+    /// `+` or `-`
+    Additive(Additive),
+    /// `*`, `//` or `mod`
+    Multiplicative(Multiplicative),
 }
 
 /// An item of a rule or a query.

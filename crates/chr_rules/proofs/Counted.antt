@@ -9,9 +9,10 @@ use Rattle.chr_semantics.specs.Program.{Goal, constraint, tell, evaluate, compar
 use Rattle.chr_semantics.specs.Tokens as token
 use Rattle.chr_semantics.specs.Tokens.{Relation}
 use Rattle.chr_semantics.specs.Syntax as syntax
-use Rattle.chr_semantics.specs.Syntax.{Expr, Exprs, variable, number, call, nil, pair, sum, product, Item, plain, related}
+use Rattle.chr_semantics.specs.Syntax.{Expr, Exprs, variable, number, call, nil, pair, operation, Item, plain, related}
 use Rattle.chr_semantics.specs.Meaning.{Scope, atom_from, call_of, count, goal_from, goal_of, head_from, head_of, in_turn, is_anonymous, is_fail, is_ground_test, is_integer_test, is_true, relation_goal, relation_test, sides_from, test_from, test_of, tree_from, trees_from, variable_in, variable_of, with_name, with_turn, with_variable}
 use Rattle.chr_bind.specs.Terms.{AreBelow, IsBelow}
+use Rattle.chr_bind.proofs.Bounds.{below_more, below_more_all}
 use Rattle.chr_rules.specs.Bounds.{IsGoalBelow, IsHeadBelow, IsTestBelow}
 
 abbrev pub width : Scope → ℕ
@@ -46,17 +47,6 @@ variables_more vs w = by (variable_of vs w)
     by None = omega (arith, length-append vs (w ∷ []))
     by (Some k) = omega arith
 
--- what is below a number is below a larger one
-mutual
-  below_more : (n m : ℕ) (t : Tree) → n ≤ m → IsBelow n t → IsBelow m t
-  below_more n m (var x) h b = omega (arith, h, b)
-  below_more n m (int z) h b = tt
-  below_more n m (node f ts) h b = below_more_all n m ts h b
-
-  below_more_all : (n m : ℕ) (ts : Trees) → n ≤ m → AreBelow n ts → AreBelow m ts
-  below_more_all n m none h b = tt
-  below_more_all n m (more t ts) h b = (below_more n m t h b.0, below_more_all n m ts h b.1)
-
 -- variables are only added
 mutual
   tree_more : (s : Scope) (e : Expr) → width s ≤ width (tree_from s e).0
@@ -65,8 +55,7 @@ mutual
   tree_more s (call w es) = trees_more (with_name s w (count es)) es
   tree_more s nil = omega arith
   tree_more s (pair e f) = omega (arith, tree_more s e, tree_more (tree_from s e).0 f)
-  tree_more s (sum o e f) = omega (arith, tree_more s e, tree_more (tree_from s e).0 f)
-  tree_more s (product o e f) = omega (arith, tree_more s e, tree_more (tree_from s e).0 f)
+  tree_more s (operation o e f) = omega (arith, tree_more s e, tree_more (tree_from s e).0 f)
 
   trees_more : (s : Scope) (es : Exprs) → width s ≤ width (trees_from s es).0
   trees_more s syntax.none = omega arith
@@ -80,8 +69,7 @@ mutual
   tree_below s (call w es) = trees_below (with_name s w (count es)) es
   tree_below s nil = tt
   tree_below s (pair e f) = let b = tree_below (tree_from s e).0 f in (below_more _ _ _ (tree_more (tree_from s e).0 f) (tree_below s e), (b, tt))
-  tree_below s (sum o e f) = let b = tree_below (tree_from s e).0 f in (below_more _ _ _ (tree_more (tree_from s e).0 f) (tree_below s e), (b, tt))
-  tree_below s (product o e f) = let b = tree_below (tree_from s e).0 f in (below_more _ _ _ (tree_more (tree_from s e).0 f) (tree_below s e), (b, tt))
+  tree_below s (operation o e f) = let b = tree_below (tree_from s e).0 f in (below_more _ _ _ (tree_more (tree_from s e).0 f) (tree_below s e), (b, tt))
 
   trees_below : (s : Scope) (es : Exprs) → AreBelow (width (trees_from s es).0) (trees_from s es).1
   trees_below s syntax.none = tt

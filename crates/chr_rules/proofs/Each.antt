@@ -18,13 +18,13 @@ each_ok f s t x xs h = ap (λ r. elim r [ Ok u ↦ each f u xs | Err e ↦ Err e
 pub each_more : {S X Y E : Type 0} (f : S → X → Result S E) (v : Y → X) (s t : S) (ys : List Y) (k : ℕ) (y : Y) → k < length ys → y ≡ get_or ys k y → f s (v y) ≡ Ok t → each f s (map v (drop k ys)) ≡ each f t (map v (drop (k + 1) ys))
 each_more f v s t ys k y h e ok = ap (each f s) (dropped v ys k y h e) ∙ each_ok f s t (v y) (map v (drop (k + 1) ys)) ok
 
--- want of memory is an answer to all
-pub want_answers : {S : Type 0} (r : Result S semantics.RuleError) → IsError (record { kind = Memory; line = 0; rule = 0 }) r
-want_answers (Ok s) = refl
-want_answers (Err r) = λ h. absurd (h refl)
+-- `Memory` is an answer to all
+pub memory_answers : {S : Type 0} (r : Result S semantics.RuleError) → IsError (record { kind = Memory; line = 0; rule = 0 }) r
+memory_answers (Ok s) = refl
+memory_answers (Err r) = λ h. absurd (h refl)
 
 error_first : {S X : Type 0} (f : S → X → Result S semantics.RuleError) (s : S) (x : X) (xs : List X) (e : RuleError) (r : Result S semantics.RuleError) → f s x ≡ r → IsError e r → IsError e (each f s (x ∷ xs))
-error_first f s x xs e (Ok t) h i = subst (λ q. IsError e (elim q [ Ok u ↦ each f u xs | Err b ↦ Err b ])) (sym h) (subst (λ d. IsError d (each f t xs)) (sym i) (want_answers (each f t xs)))
+error_first f s x xs e (Ok t) h i = subst (λ q. IsError e (elim q [ Ok u ↦ each f u xs | Err b ↦ Err b ])) (sym h) (subst (λ d. IsError d (each f t xs)) (sym i) (memory_answers (each f t xs)))
 error_first f s x xs e (Err r) h i = subst (λ q. IsError e (elim q [ Ok u ↦ each f u xs | Err b ↦ Err b ])) (sym h) i
 
 -- an element that is refused

@@ -5,34 +5,32 @@ use Rattle.std.proofs.lemmas.Simd.{map-map}
 use Rattle.std.specs.Prelude.{slice_get, reverse}
 use Rattle.chr_semantics.specs.Program as semantics
 use Rattle.chr_semantics.specs.Program.{Head, places_from, occurrences_in, occurrences_from}
+use Rattle.chr_semantics.proofs.Lists.{eqb_other}
 use Rattle.chr_term.specs.declared.term.Sym.{Sym}
 use Rattle.chr_term.specs.declared.term.Term.{Term}
 use Rattle.chr_rules.specs.RuleView.{flag_at, heads_from, rule_view, rules_view}
 use Rattle.chr_rules.specs.declared.rule.Rule.{Rule}
 use Rattle.std.proofs.lemmas.Grind.{common_steps}
-use Rattle.chr_rules.specs.Index.{listed, pair_view, pairs_of}
+use Rattle.chr_rules.specs.Index.{pairs_in, pair_view, pairs_of}
 use Rattle.chr_rules.specs.declared.index.Occurrence.{Occurrence}
 
 -- an empty place at the end shows nothing more
-pub listed-empty_more : {A : Type 0} (ps : List (Vec Occurrence A)) (v : Vec Occurrence A) → v.items ≡ [] → (f : ℕ) → listed (slice_get (ps ++ v ∷ []) f) ≡ listed (slice_get ps f)
-listed-empty_more [] v e zero = rw e
-listed-empty_more [] v e (suc f) = refl
-listed-empty_more (p ∷ ps) v e zero = refl
-listed-empty_more (p ∷ ps) v e (suc f) = listed-empty_more ps v e f
-
-test-other : (f g : ℕ) → f ≢ g → (f == g) ≡ false
-test-other f g h = grind arith
+pub pairs_in-empty_more : {A : Type 0} (ps : List (Vec Occurrence A)) (v : Vec Occurrence A) → v.items ≡ [] → (f : ℕ) → pairs_in (slice_get (ps ++ v ∷ []) f) ≡ pairs_in (slice_get ps f)
+pairs_in-empty_more [] v e zero = rw e
+pairs_in-empty_more [] v e (suc f) = refl
+pairs_in-empty_more (p ∷ ps) v e zero = refl
+pairs_in-empty_more (p ∷ ps) v e (suc f) = pairs_in-empty_more ps v e f
 
 test-suc : (f g : ℕ) → (suc f == suc g) ≡ (f == g)
 test-suc f g = grind arith
 
 -- one more occurrence at the place of its symbol
-pub listed-put : {A : Type 0} (ps : List (Vec Occurrence A)) (f g : ℕ) (v d : Vec Occurrence A) (o : Occurrence) → f < length ps → v.items ≡ (get_or ps f d).items ++ o ∷ [] → listed (slice_get (slice_set ps f v) g) ≡ listed (slice_get ps g) ++ cond (f == g) (pair_view o ∷ []) []
-listed-put [] f g v d o h e = absurd (omega (arith, h))
-listed-put (p ∷ ps) zero zero v d o h e = rw (e, map-append)
-listed-put (p ∷ ps) zero (suc g) v d o h e = rw (test-other 0 (suc g) (omega arith), append-nil)
-listed-put (p ∷ ps) (suc f) zero v d o h e = rw (test-other (suc f) 0 (omega arith), append-nil)
-listed-put (p ∷ ps) (suc f) (suc g) v d o h e = rw (test-suc f g) (listed-put ps f g v d o (omega (arith, h)) e)
+pub pairs_in-put : {A : Type 0} (ps : List (Vec Occurrence A)) (f g : ℕ) (v d : Vec Occurrence A) (o : Occurrence) → f < length ps → v.items ≡ (get_or ps f d).items ++ o ∷ [] → pairs_in (slice_get (slice_set ps f v) g) ≡ pairs_in (slice_get ps g) ++ cond (f == g) (pair_view o ∷ []) []
+pairs_in-put [] f g v d o h e = absurd (omega (arith, h))
+pairs_in-put (p ∷ ps) zero zero v d o h e = rw (e, map-append)
+pairs_in-put (p ∷ ps) zero (suc g) v d o h e = rw (eqb_other 0 (suc g) (omega arith), append-nil)
+pairs_in-put (p ∷ ps) (suc f) zero v d o h e = rw (eqb_other (suc f) 0 (omega arith), append-nil)
+pairs_in-put (p ∷ ps) (suc f) (suc g) v d o h e = rw (test-suc f g) (pairs_in-put ps f g v d o (omega (arith, h)) e)
 
 -- the occurrences of the symbol f at the heads from the k-th on
 abbrev pub pairs_from : {A : Type 0} → ℕ → List Bool → ℕ → List (Sym × Vec (Term A) A) → ℕ → List (ℕ × ℕ)
@@ -77,8 +75,8 @@ occurrences_from-more r (q ∷ p) rule f =
     rw (occurrences_from-more (r + 1) p rule f, e, append_assoc)
 
 -- the occurrences in the rules up to the n-th, and with it
-pub listed-more : {A : Type 0} (rules : List (Rule A)) (n : ℕ) (rule : Rule A) (f : ℕ) → n < length rules → rule ≡ get_or rules n rule → pairs_of (occurrences_from 0 (rules_view (take n rules)) f) ++ pairs_of (occurrences_in n (rule_view rule) f) ≡ pairs_of (occurrences_from 0 (rules_view (take (n + 1) rules)) f)
-listed-more {A} rules n rule f lt e =
+pub pairs_in-more : {A : Type 0} (rules : List (Rule A)) (n : ℕ) (rule : Rule A) (f : ℕ) → n < length rules → rule ≡ get_or rules n rule → pairs_of (occurrences_from 0 (rules_view (take n rules)) f) ++ pairs_of (occurrences_in n (rule_view rule) f) ≡ pairs_of (occurrences_from 0 (rules_view (take (n + 1) rules)) f)
+pairs_in-more {A} rules n rule f lt e =
     let more : take (n + 1) rules ≡ take n rules ++ rule ∷ [] = grind (arith, common_steps) in
     let len : 0 + length (rules_view (take n rules)) ≡ n = omega (arith, length-map (take n rules) (λ (r : Rule A). rule_view r), length-take-le n rules (omega arith)) in
     let before = rules_view (take n rules) in

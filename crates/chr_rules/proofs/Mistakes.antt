@@ -6,7 +6,7 @@ use Rattle.chr_semantics.specs.Checked.{first_of}
 use Rattle.chr_rules.specs.Checks.{fault_of}
 use Rattle.chr_rules.specs.declared.error.RuleErrorKind.{RuleErrorKind}
 
--- where the first of these is none, those behind decide
+-- where the first of these is none, those after it decide
 pub first_after : (xs ys : List (Bool × semantics.RuleErrorKind)) → first_of xs ≡ None → first_of (xs ++ ys) ≡ first_of ys
 first_after [] ys h = refl
 first_after (x ∷ xs) ys h = by x.0 (first_after xs ys) h

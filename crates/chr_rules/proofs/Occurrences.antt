@@ -3,6 +3,7 @@ use Rattle.std.proofs.Common.{◌≡◌, ◌∙◌, ℕ, zero, suc, ◌+◌, ◌
 use Rattle.std.specs.Prelude.{slice_get, reverse}
 use Rattle.std.proofs.lemmas.List.{reverse-append, length-append, length-map}
 use Rattle.chr_semantics.specs.Program.{Head, Rule, Program, Occurrence, places_from, occurrences_in, occurrences_from, occurrences, occurrence}
+use Rattle.chr_semantics.proofs.Lists.{got_below}
 use Rattle.chr_rules.specs.Index.{pair_view, pairs_view, pair_of, pairs_of, head_count}
 use Rattle.chr_rules.specs.declared.index.Occurrence.{Occurrence as Pair}
 
@@ -101,11 +102,6 @@ length-occurrences_from r (rule ∷ p) f =
 pub length-occurrences : (p : Program) (f : ℕ) → length (occurrences p f) ≤ head_count p
 length-occurrences p f = length-occurrences_from 0 p f
 
-get_below : {X : Type 0} (xs : List X) (k : ℕ) (x : X) → slice_get xs k ≡ Some x → k < length xs
-get_below [] k x e = cc
-get_below (y ∷ xs) zero x e = omega arith
-get_below (y ∷ xs) (suc k) x e = omega (arith, get_below xs k x e)
-
 -- the occurrence with a number, as a pair
 pub record IsNumbered (p : Program) (f n : ℕ) (pair : ℕ × ℕ) : Type 0 where
   pub is : Occurrence
@@ -129,7 +125,7 @@ numbered p f n os d e some within =
 
 -- it is of a rule of the program
 pub numbered_rule : (p : Program) (f n : ℕ) (pair : ℕ × ℕ) → IsNumbered p f n pair → pair.0 < length p
-numbered_rule p f n pair h = let within = get_below p h.is.number h.is.rule (occurrence_in p f n h.is h.found).rule in omega (arith, within, ap (λ (q : ℕ × ℕ). q.0) h.as_pair)
+numbered_rule p f n pair h = let within = got_below p h.is.number h.is.rule (occurrence_in p f n h.is h.found).rule in omega (arith, within, ap (λ (q : ℕ × ℕ). q.0) h.as_pair)
 
 -- and its number is no more than the heads
 pub numbered_few : (p : Program) (f : ℕ) (os : List Pair) → pairs_view os ≡ pairs_of (occurrences p f) → length os ≤ head_count p

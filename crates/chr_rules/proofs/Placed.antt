@@ -8,7 +8,7 @@ use Rattle.chr_rules.specs.Checks.{IsError, IsFault, fault_of}
 use Rattle.chr_rules.specs.declared.error.RuleErrorKind.{RuleErrorKind}
 use Rattle.chr_rules.specs.declared.error.RuleErrorKind.TheVariants as fault
 use Rattle.chr_rules.specs.declared.error.RuleError.{RuleError}
-use Rattle.chr_rules.proofs.Each.{want_answers}
+use Rattle.chr_rules.proofs.Each.{memory_answers}
 
 some_equal : (x y : RuleErrorKind) → Some x ≡ Some y → x ≡ y
 some_equal x y h = cc
@@ -19,7 +19,7 @@ placed_fault f (Some m) line k e s n h i = λ _. h ∙ ap (λ x. record { kind =
 
 -- a fault of what is checked is the error there
 pub placed : {S : Type 0} (f : RuleErrorKind) (m : Option semantics.RuleErrorKind) (line k : ℕ) (e : RuleError) (s : S) → IsPlaced f line k e → IsFault f m → IsError e (unless m line k s)
-placed fault.Memory m line k e s h i = subst (λ x. IsError x (unless m line k s)) (sym h) (want_answers (unless m line k s))
+placed fault.Memory m line k e s h i = subst (λ x. IsError x (unless m line k s)) (sym h) (memory_answers (unless m line k s))
 placed fault.Undeclared m line k e s h i = placed_fault fault.Undeclared m line k e s (λ x. cc) h i
 placed fault.BuiltinInHead m line k e s h i = placed_fault fault.BuiltinInHead m line k e s (λ x. cc) h i
 placed fault.NotAGoal m line k e s h i = placed_fault fault.NotAGoal m line k e s (λ x. cc) h i
@@ -39,7 +39,7 @@ err_maps P Q (Err e) f h = f e h
 
 -- an error of the first of two is one of both
 pub first_refused : {S T : Type 0} (e : RuleError) (r : Result S semantics.RuleError) (f : S → Result T semantics.RuleError) → IsError e r → IsError e (elim r [ Ok s ↦ f s | Err x ↦ Err x ])
-first_refused e (Ok s) f h = subst (λ x. IsError x (f s)) (sym h) (want_answers (f s))
+first_refused e (Ok s) f h = subst (λ x. IsError x (f s)) (sym h) (memory_answers (f s))
 first_refused e (Err x) f h = h
 
 pub second_refused : {S T : Type 0} (e : RuleError) (r : Result S semantics.RuleError) (f : S → Result T semantics.RuleError) (s : S) → r ≡ Ok s → IsError e (f s) → IsError e (elim r [ Ok s ↦ f s | Err x ↦ Err x ])

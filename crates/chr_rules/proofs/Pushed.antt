@@ -5,7 +5,7 @@ use Rattle.chr_semantics.specs.Meaning.{node_of}
 use Rattle.chr_semantics.specs.Names.{pair_symbol}
 use Rattle.chr_term.specs.declared.term.Sym.{Sym}
 use Rattle.chr_term.specs.declared.term.Term.{Term}
-use Rattle.chr_rules.specs.Turns.{listed}
+use Rattle.chr_rules.specs.Turns.{list_of}
 use Rattle.chr_term.specs.TermView.{atom_view}
 use Rattle.chr_rules.specs.RuleView.{flag_at, heads_from}
 
@@ -29,6 +29,6 @@ heads_pushed flags p k (g ∷ hs) h e =
     let rest = heads_pushed flags p (k + 1) hs h (omega (arith, e)) in
     rw (flag_before flags p k below, rest) refl
 
-pub listed_pushed : (ts : List Tree) (t end : Tree) → listed (ts ++ t ∷ []) end ≡ listed ts (node_of pair_symbol t end)
-listed_pushed [] t end = refl
-listed_pushed (u ∷ ts) t end = ap (λ x. node_of pair_symbol u x) (listed_pushed ts t end)
+pub list_of_pushed : (ts : List Tree) (t end : Tree) → list_of (ts ++ t ∷ []) end ≡ list_of ts (node_of pair_symbol t end)
+list_of_pushed [] t end = refl
+list_of_pushed (u ∷ ts) t end = ap (λ x. node_of pair_symbol u x) (list_of_pushed ts t end)

@@ -1,5 +1,5 @@
 -- What is wrong with a rule, and what it stands for, part by part.
-use Rattle.std.proofs.Common.{◌≡◌, ◌∙◌, ◌<◌, ◌≤◌, ◌++◌, ℕ, List, [], ◌∷◌, Bool, if◌then◌else◌, Option, Some, None, Result, length, nat_lt, ap, refl, sym, option_map}
+use Rattle.std.proofs.Common.{◌≡◌, ◌∙◌, ◌<◌, ◌≤◌, ◌++◌, ℕ, List, [], ◌∷◌, Bool, true, false, if◌then◌else◌, Option, Some, None, Result, length, nat_lt, ap, refl, sym, option_map, arith}
 use Rattle.std.specs.Prelude.{IfErr}
 use Rattle.std.specs.Result.{IsErrAnd}
 use Rattle.chr_semantics.specs.Names.{Names}
@@ -14,11 +14,16 @@ use Rattle.chr_rules.specs.declared.error.RuleErrorKind.{RuleErrorKind}
 use Rattle.chr_rules.specs.declared.error.RuleErrorKind.TheVariants.{Memory, TooManyVariables}
 use Rattle.chr_rules.proofs.Each.{err_answers}
 use Rattle.chr_rules.proofs.Mistakes.{fault_of_part, first_after, first_within, no_fault}
-use Rattle.chr_rules.proofs.Within.{more_than, not_more_than}
 
--- want of memory is answered whatever is wrong with the rule
-pub memory_wanted : {T : Type 0} (r : Result T RuleErrorKind) (m : Option checks.RuleErrorKind) → IsErrAnd r (λ fault. fault ≡ Memory) → IfErr r (λ fault. IsFault fault m)
-memory_wanted r m h = err_answers r Memory (λ fault. IsFault fault m) h (λ n. absurd (n refl))
+more_than : (m n : ℕ) → m < n → nat_lt m n ≡ true
+more_than m n h = grind (arith, h)
+
+not_more_than : (m n : ℕ) → n ≤ m → nat_lt m n ≡ false
+not_more_than m n h = grind (arith, h)
+
+-- `Memory` may be returned whatever is wrong with the rule
+pub memory_refused : {T : Type 0} (r : Result T RuleErrorKind) (m : Option checks.RuleErrorKind) → IsErrAnd r (λ fault. fault ≡ Memory) → IfErr r (λ fault. IsFault fault m)
+memory_refused r m h = err_answers r Memory (λ fault. IsFault fault m) h (λ n. absurd (n refl))
 
 -- the variables of the heads
 abbrev pub head_variables : Names → syntax.Rule → List (List ℕ)

@@ -11,13 +11,11 @@ use Rattle.chr_semantics.specs.Tree.{Tree, trees_of, node, more}
 use Rattle.chr_semantics.specs.Names.{Names, symbol_of, with_symbol}
 use Rattle.chr_semantics.specs.Syntax as s
 use Rattle.chr_semantics.specs.Syntax.{Expr, exprs_of, list}
-use Rattle.chr_semantics.specs.Meaning.{Scope, additive_symbol, atom_from, count, in_turn, multiplicative_symbol, node_of, scope, symbol_in, tree_from, trees_from, with_name, with_turn}
-use Rattle.chr_tokens.specs.TokenView.{additive_view, multiplicative_view}
-use Rattle.chr_tokens.specs.declared.token.Additive.{Additive}
-use Rattle.chr_tokens.specs.declared.token.Multiplicative.{Multiplicative}
-use Rattle.chr_read.specs.SyntaxView.{operand_views, products, sums, view}
+use Rattle.chr_semantics.specs.Meaning.{Scope, atom_from, count, in_turn, node_of, operator_symbol, scope, symbol_in, tree_from, trees_from, with_name, with_turn}
+use Rattle.chr_read.specs.SyntaxView.{chain, operand_views, operator_view, view}
+use Rattle.chr_read.specs.declared.syntax.Operator.{Operator}
 use Rattle.chr_read.specs.declared.syntax.Expr.{Expr as Code}
-use Rattle.chr_rules.specs.Turns.{factors_from, listed, summands_from, tree_turn}
+use Rattle.chr_rules.specs.Turns.{list_of, operands_from, tree_turn}
 
 -- what is done before stays in front
 turned_onto : (s : Scope) (done : List Tree) (es : List Expr) → in_turn tree_turn (s, done) es ≡ ((in_turn tree_turn (s, []) es).0, done ++ (in_turn tree_turn (s, []) es).1)
@@ -36,12 +34,12 @@ trees_turned s (e ∷ es) =
     ap (λ q. (q.0, more r.1 q.1)) (trees_turned r.0 es)
     ∙ sym (ap (λ q. (q.0, trees_of q.1)) (turned_onto r.0 (r.1 ∷ []) es))
 
-pub list_made : (s : Scope) (es : List Expr) (end : Expr) → tree_from s (list es end) ≡ ((tree_from (in_turn tree_turn (s, []) es).0 end).0, listed (in_turn tree_turn (s, []) es).1 (tree_from (in_turn tree_turn (s, []) es).0 end).1)
+pub list_made : (s : Scope) (es : List Expr) (end : Expr) → tree_from s (list es end) ≡ ((tree_from (in_turn tree_turn (s, []) es).0 end).0, list_of (in_turn tree_turn (s, []) es).1 (tree_from (in_turn tree_turn (s, []) es).0 end).1)
 list_made s [] end = refl
 list_made s (e ∷ es) end =
     let r = tree_from s e in
     ap (λ q. (q.0, node_of 1 r.1 q.1)) (list_made r.0 es end)
-    ∙ sym (ap (λ q. ((tree_from q.0 end).0, listed q.1 (tree_from q.0 end).1)) (turned_onto r.0 (r.1 ∷ []) es))
+    ∙ sym (ap (λ q. ((tree_from q.0 end).0, list_of q.1 (tree_from q.0 end).1)) (turned_onto r.0 (r.1 ∷ []) es))
 
 -- a name, whose symbol is known, over trees that were built
 pub atom_made : (names : Names) (vars : List (List ℕ)) (w : List ℕ) (es : List Expr) (n f : ℕ) (names' : Names) (q : Scope × List Tree) → n ≡ count (exprs_of es) → names' ≡ with_symbol names w n → symbol_of names' w n ≡ Some f
@@ -57,32 +55,20 @@ atom_made names vars w es n f names' q a b c d =
     ∙ ap (λ t. ((trees_from t (exprs_of es)).0, record { sym = symbol_in t w (count (exprs_of es)); args = (trees_from t (exprs_of es)).1 })) (sym inner)
 
 -- chains
-pub sums_made : {A : Type 0} (here : Scope) (e : Expr) (xs : List (Additive × Code A)) → tree_from here (sums e (operand_views xs)) ≡ summands_from (tree_from here e) xs
-sums_made here e [] = refl
-sums_made here e (x ∷ xs) = sums_made here (s.sum (additive_view x.0) e (view x.1)) xs
-
-pub products_made : {A : Type 0} (here : Scope) (e : Expr) (xs : List (Multiplicative × Code A)) → tree_from here (products e (operand_views xs)) ≡ factors_from (tree_from here e) xs
-products_made here e [] = refl
-products_made here e (x ∷ xs) = products_made here (s.product (multiplicative_view x.0) e (view x.1)) xs
+pub chain_made : {A : Type 0} (here : Scope) (e : Expr) (xs : List (Operator × Code A)) → tree_from here (chain e (operand_views xs)) ≡ operands_from (tree_from here e) xs
+chain_made here e [] = refl
+chain_made here e (x ∷ xs) = chain_made here (s.operation (operator_view x.0) e (view x.1)) xs
 
 pub one_dropped : {X : Type 0} (xs : List X) (k : ℕ) (x : X) → k < length xs → x ≡ get_or xs k x → drop k xs ≡ x ∷ drop (k + 1) xs
 one_dropped xs k x h e = rw (add-one, drop-cons xs k x, ← e)
 
-pub summand_done : {A : Type 0} (q : Scope × Tree) (xs : List (Additive × Code A)) (k : ℕ) (x : Additive × Code A) (next : Scope) (operand whole : Tree) (f : ℕ) → k < length xs → x ≡ get_or xs k x → (next, operand) ≡ tree_from q.0 (view x.1) → f ≡ additive_symbol (additive_view x.0)
-    → whole ≡ node_of f q.1 operand → summands_from q (drop k xs) ≡ summands_from (next, whole) (drop (k + 1) xs)
-summand_done q xs k x next operand whole f h e a b c =
-    ap (summands_from q) (one_dropped xs k x h e)
-    ∙ ap (λ r. summands_from (r.0, node_of (additive_symbol (additive_view x.0)) q.1 r.1) (drop (k + 1) xs)) (sym a)
-    ∙ ap (λ g. summands_from (next, node_of g q.1 operand) (drop (k + 1) xs)) (sym b)
-    ∙ ap (λ t. summands_from (next, t) (drop (k + 1) xs)) (sym c)
-
-pub factor_done : {A : Type 0} (q : Scope × Tree) (xs : List (Multiplicative × Code A)) (k : ℕ) (x : Multiplicative × Code A) (next : Scope) (operand whole : Tree) (f : ℕ) → k < length xs → x ≡ get_or xs k x → (next, operand) ≡ tree_from q.0 (view x.1) → f ≡ multiplicative_symbol (multiplicative_view x.0)
-    → whole ≡ node_of f q.1 operand → factors_from q (drop k xs) ≡ factors_from (next, whole) (drop (k + 1) xs)
-factor_done q xs k x next operand whole f h e a b c =
-    ap (factors_from q) (one_dropped xs k x h e)
-    ∙ ap (λ r. factors_from (r.0, node_of (multiplicative_symbol (multiplicative_view x.0)) q.1 r.1) (drop (k + 1) xs)) (sym a)
-    ∙ ap (λ g. factors_from (next, node_of g q.1 operand) (drop (k + 1) xs)) (sym b)
-    ∙ ap (λ t. factors_from (next, t) (drop (k + 1) xs)) (sym c)
+pub operand_done : {A : Type 0} (q : Scope × Tree) (xs : List (Operator × Code A)) (k : ℕ) (x : Operator × Code A) (next : Scope) (operand whole : Tree) (f : ℕ) → k < length xs → x ≡ get_or xs k x → (next, operand) ≡ tree_from q.0 (view x.1)
+    → f ≡ operator_symbol (operator_view x.0) → whole ≡ node_of f q.1 operand → operands_from q (drop k xs) ≡ operands_from (next, whole) (drop (k + 1) xs)
+operand_done q xs k x next operand whole f h e a b c =
+    ap (operands_from q) (one_dropped xs k x h e)
+    ∙ ap (λ r. operands_from (r.0, node_of (operator_symbol (operator_view x.0)) q.1 r.1) (drop (k + 1) xs)) (sym a)
+    ∙ ap (λ g. operands_from (next, node_of g q.1 operand) (drop (k + 1) xs)) (sym b)
+    ∙ ap (λ t. operands_from (next, t) (drop (k + 1) xs)) (sym c)
 
 -- one element more, of any kind
 pub turn_done : {X Y Z : Type 0} (f : Scope → X → Scope × List Y) (v : Z → X) (q r : Scope × List Y) (zs : List Z) (k : ℕ) (z : Z) → k < length zs → z ≡ get_or zs k z → r ≡ with_turn f q (v z) → in_turn f q (map v (drop k zs)) ≡ in_turn f r (map v (drop (k + 1) zs))

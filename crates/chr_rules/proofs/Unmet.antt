@@ -3,9 +3,13 @@ use Rattle.std.proofs.Common.{◌≡◌, ◌∙◌, ◌||◌, ℕ, List, [], ◌
 use Rattle.std.specs.List.{list_any}
 use Rattle.chr_semantics.specs.Program.{Test, is_ground, is_integer}
 use Rattle.chr_semantics.specs.Syntax as syntax
-use Rattle.chr_semantics.specs.Syntax.{Expr, Exprs, variable, number, call, nil, pair, sum, product, Item, plain, related}
+use Rattle.chr_semantics.specs.Syntax.{Expr, Exprs, variable, number, call, nil, pair, operation, Item, plain, related}
 use Rattle.chr_semantics.specs.Meaning.{Scope, count, in_turn, is_ground_test, is_integer_test, test_from, test_of, tree_from, trees_from, variable_of, with_name, with_turn, with_variable}
-use Rattle.chr_semantics.specs.Checked.{are_free, is_free, on_sides}
+use Rattle.chr_semantics.specs.Checked.{have_part, is_free, on_sides}
+
+-- an expression has a variable that is none of these
+abbrev are_free : List (List ℕ) → Exprs → Bool
+are_free vs = have_part (λ w. is_none (variable_of vs w)) (λ n. false)
 
 -- where one of two holds not, and neither does the other
 neither : (a b : Bool) → (a || b) ≡ false → (a ≡ false) × (b ≡ false)
@@ -25,11 +29,7 @@ mutual
       let parts = neither (is_free s.variables e) (is_free s.variables f) h in
       let first = tree_stays s e parts.0 in
       tree_stays (tree_from s e).0 f (ap (λ vs. is_free vs f) first ∙ parts.1) ∙ first
-  tree_stays s (sum o e f) h =
-      let parts = neither (is_free s.variables e) (is_free s.variables f) h in
-      let first = tree_stays s e parts.0 in
-      tree_stays (tree_from s e).0 f (ap (λ vs. is_free vs f) first ∙ parts.1) ∙ first
-  tree_stays s (product o e f) h =
+  tree_stays s (operation o e f) h =
       let parts = neither (is_free s.variables e) (is_free s.variables f) h in
       let first = tree_stays s e parts.0 in
       tree_stays (tree_from s e).0 f (ap (λ vs. is_free vs f) first ∙ parts.1) ∙ first
@@ -60,8 +60,7 @@ plain_stays s (number z) h = refl
 plain_stays s (call w es) h = test_of_stays s w es h
 plain_stays s nil h = refl
 plain_stays s (pair e f) h = refl
-plain_stays s (sum o e f) h = refl
-plain_stays s (product o e f) h = refl
+plain_stays s (operation o e f) h = refl
 
 test_stays : (s : Scope) (i : Item) → on_sides (is_free s.variables) i ≡ false → (test_from s i).0.variables ≡ s.variables
 test_stays s (related r e f) h = tree_stays s (pair e f) h

@@ -2,10 +2,9 @@
 use Rattle.std.proofs.Common.{rules, ◌≡◌, ◌∙◌, ◌<◌, ◌+◌, ℕ, zero, suc, List, [], ◌∷◌, Vec, Box, String, length, get_or, map, ap, arith}
 use Rattle.std.proofs.lemmas.Simd.{map-map}
 use Rattle.std.specs.Prelude.{box_value}
-use Rattle.chr_tokens.specs.declared.token.Additive.{Additive}
-use Rattle.chr_tokens.specs.declared.token.Multiplicative.{Multiplicative}
 use Rattle.chr_read.specs.declared.syntax.Expr.{Expr, the_lemmas}
-use Rattle.chr_read.specs.declared.syntax.Expr.TheVariants.{Call, List as ListOf, ListWithEnd, Sum, Product}
+use Rattle.chr_read.specs.declared.syntax.Operator.{Operator}
+use Rattle.chr_read.specs.declared.syntax.Expr.TheVariants.{Call, List as ListOf, ListWithEnd, Chain}
 use Rattle.chr_rules.specs.Weight.{total, weight, weights, operand_weights}
 
 -- an element weighs less than the list
@@ -23,14 +22,8 @@ list_weighs e es h = ap weight h ∙ search (rules, the_lemmas)
 pub list_with_end_weighs : {A : Type 0} (e : Expr A) (es : Vec (Expr A) A) (end : Box (Expr A) A) → e ≡ ListWithEnd es end → weight e ≡ suc (weights es.items + weight (box_value end))
 list_with_end_weighs e es end h = ap weight h ∙ search (rules, the_lemmas)
 
-weight-Sum : (A : Type 0) (f : Box (Expr A) A) (es : Vec (Additive × Expr A) A) → weight {A = A} (Sum f es) ≡ suc (total (map (λ x. x.1) (map {B = Additive × ℕ} (λ x. (x.0, weight x.1)) es.items)) + weight (box_value f))
-weight-Sum A f es = search (rules, the_lemmas)
+weight-Chain : (A : Type 0) (f : Box (Expr A) A) (es : Vec (Operator × Expr A) A) → weight {A = A} (Chain f es) ≡ suc (total (map (λ x. x.1) (map {B = Operator × ℕ} (λ x. (x.0, weight x.1)) es.items)) + weight (box_value f))
+weight-Chain A f es = search (rules, the_lemmas)
 
-weight-Product : (A : Type 0) (f : Box (Expr A) A) (es : Vec (Multiplicative × Expr A) A) → weight {A = A} (Product f es) ≡ suc (total (map (λ x. x.1) (map {B = Multiplicative × ℕ} (λ x. (x.0, weight x.1)) es.items)) + weight (box_value f))
-weight-Product A f es = search (rules, the_lemmas)
-
-pub sum_weighs : {A : Type 0} (e : Expr A) (f : Box (Expr A) A) (es : Vec (Additive × Expr A) A) → e ≡ Sum f es → weight e ≡ suc (operand_weights es.items + weight (box_value f))
-sum_weighs {A} e f es h = ap weight h ∙ weight-Sum A f es ∙ ap (λ ns. suc (total ns + weight (box_value f))) (map-map {C = ℕ} (λ x. x.1) (λ x. (x.0, weight x.1)) es.items)
-
-pub product_weighs : {A : Type 0} (e : Expr A) (f : Box (Expr A) A) (es : Vec (Multiplicative × Expr A) A) → e ≡ Product f es → weight e ≡ suc (operand_weights es.items + weight (box_value f))
-product_weighs {A} e f es h = ap weight h ∙ weight-Product A f es ∙ ap (λ ns. suc (total ns + weight (box_value f))) (map-map {C = ℕ} (λ x. x.1) (λ x. (x.0, weight x.1)) es.items)
+pub chain_weighs : {A : Type 0} (e : Expr A) (f : Box (Expr A) A) (es : Vec (Operator × Expr A) A) → e ≡ Chain f es → weight e ≡ suc (operand_weights es.items + weight (box_value f))
+chain_weighs {A} e f es h = ap weight h ∙ weight-Chain A f es ∙ ap (λ ns. suc (total ns + weight (box_value f))) (map-map {C = ℕ} (λ x. x.1) (λ x. (x.0, weight x.1)) es.items)

@@ -9,6 +9,7 @@ use Rattle.chr_semantics.specs.Meaning.{all_heads, has_backslash, propagates}
 use Rattle.chr_semantics.specs.Checked as semantics
 use Rattle.chr_semantics.specs.Checked.{undeclared, builtin_in_head, not_a_goal, not_a_test, guard_variable, guard_only, duplicate_name, too_many_heads, arity_too_large, too_many_rules, backslash_in_propagation, too_many_variables, is_undeclared, is_built_in, is_no_goal, is_no_test, is_guard_only, is_free, is_wide, on_sides, head_items, has_label}
 use Rattle.chr_semantics.specs.declared.limits.TheConstants.{MAX_HEADS, MAX_RULES}
+use Rattle.chr_rules.specs.Parts.{has_sought}
 use Rattle.chr_rules.specs.declared.checks.Check.{Check}
 use Rattle.chr_rules.specs.declared.checks.Check.TheVariants as C
 use Rattle.chr_rules.specs.declared.error.RuleErrorKind.{RuleErrorKind}
@@ -20,9 +21,8 @@ check_view (C.Undeclared names declared) = is_undeclared names.now declared
 check_view C.BuiltIn = is_built_in
 check_view C.NoGoal = is_no_goal
 check_view C.NoTest = is_no_test
-check_view (C.Free variables) = on_sides (is_free variables.now)
 check_view C.GuardOnly = is_guard_only
-check_view C.Wide = on_sides is_wide
+check_view (C.Part sought) = on_sides (has_sought sought)
 
 -- a mistake as it is answered
 abbrev pub fault_of : semantics.RuleErrorKind → RuleErrorKind

@@ -18,13 +18,13 @@ abbrev pub pairs_of : List semantics.Occurrence → List (ℕ × ℕ)
 pairs_of os = map pair_of os
 
 -- what an index has for a symbol: nothing past its end
-abbrev pub listed : {A : Type 0} → Option (Vec Occurrence A) → List (ℕ × ℕ)
-listed None = []
-listed (Some v) = pairs_view v.items
+abbrev pub pairs_in : {A : Type 0} → Option (Vec Occurrence A) → List (ℕ × ℕ)
+pairs_in None = []
+pairs_in (Some v) = pairs_view v.items
 
 -- the index has for each symbol its occurrences in their order
 abbrev pub AreListed : {A : Type 0} → List (Vec Occurrence A) → semantics.Program → Type 0
-AreListed index p = (f : ℕ) → listed (slice_get index f) ≡ pairs_of (occurrences p f)
+AreListed index p = (f : ℕ) → pairs_in (slice_get index f) ≡ pairs_of (occurrences p f)
 
 -- the number of all heads of a program
 abbrev pub head_count : semantics.Program → ℕ

@@ -2,7 +2,7 @@ pub mod Words
 pub mod RuleView
 pub mod Heads
 pub mod Turns
-pub mod Operands
+pub mod Parts
 pub mod Index
 pub mod Checks
 pub mod Building

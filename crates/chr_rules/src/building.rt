@@ -2,7 +2,7 @@
 ghost use Rattle.std.specs.Prelude.{◌≡◌, [], IfErr, IfOk, Ok, OnOk};
 ghost use Rattle.chr_semantics.specs.Checked.{declare, declare_in, each, rule_in};
 ghost use Rattle.chr_read.specs.SyntaxView.{declaration_view, declaration_views, part_view, part_views, rule_view as syntax_rule};
-ghost use Rattle.chr_rules.specs.Building.{IsPlaced, checked_of, unless_mistaken};
+ghost use Rattle.chr_rules.specs.Building.{IsPlaced, checked_of, with_rule_in_line};
 ghost use Rattle.chr_rules.specs.Checks.{IsError};
 ghost use Rattle.chr_rules.specs.RuleView.{rules_view};
 
@@ -48,8 +48,10 @@ fn declare_each<A: Allocator + Copy>(
     line: u64,
     declarations: &[Declaration<A>],
 ) -> Result<(), RuleError>
-    ensures declared { OnOk result (each (declare line) names.old (declaration_views declarations.now) ≡ Ok names.new) }
-    ensures refused { IfErr result (λ e. IsError e (each (declare line) names.old (declaration_views declarations.now))) }
+    ensures declared { OnOk result
+        (each (declare line) names.old (declaration_views declarations.now) ≡ Ok names.new) }
+    ensures refused { IfErr result
+        (λ e. IsError e (each (declare line) names.old (declaration_views declarations.now))) }
 {
     for declaration in declarations {
         declare(names, line, declaration)?;
@@ -63,8 +65,10 @@ fn declare<A: Allocator + Copy>(
     line: u64,
     declaration: &Declaration<A>,
 ) -> Result<(), RuleError>
-    ensures declared { OnOk result (declare line names.old (declaration_view declaration.now) ≡ Ok names.new) }
-    ensures refused { IfErr result (λ e. IsError e (declare line names.old (declaration_view declaration.now))) }
+    ensures declared { OnOk result
+        (declare line names.old (declaration_view declaration.now) ≡ Ok names.new) }
+    ensures refused { IfErr result
+        (λ e. IsError e (declare line names.old (declaration_view declaration.now))) }
 {
     let name = declaration.name.as_str();
     if declaration.arity > MAX_ARITY as u128 {
@@ -85,8 +89,11 @@ pub(crate) fn rules<A: Allocator + Copy>(
     declared: usize,
     parts: &[Part<A>],
 ) -> Result<Vec<Rule<A>, A>, RuleError>
-    ensures accepted { IfOk result (λ rules. each rule_in (checked_of names.old declared []) (part_views parts.now) ≡ Ok (checked_of names.new declared (rules_view rules.items))) }
-    ensures refused { IfErr result (λ e. IsError e (each rule_in (checked_of names.old declared []) (part_views parts.now))) }
+    ensures accepted { IfOk result
+        (λ rules. each rule_in (checked_of names.old declared []) (part_views parts.now)
+        ≡ Ok (checked_of names.new declared (rules_view rules.items))) }
+    ensures refused { IfErr result
+        (λ e. IsError e (each rule_in (checked_of names.old declared []) (part_views parts.now))) }
 {
     let mut rules = Vec::new(alloc);
     for part in parts {
@@ -103,8 +110,13 @@ fn add_part<A: Allocator + Copy>(
     rules: &mut Vec<Rule<A>, A>,
     part: &Part<A>,
 ) -> Result<(), RuleError>
-    ensures accepted { OnOk result (rule_in (checked_of names.old declared (rules_view rules.old.items)) (part_view part.now) ≡ Ok (checked_of names.new declared (rules_view rules.new.items))) }
-    ensures refused { IfErr result (λ e. IsError e (rule_in (checked_of names.old declared (rules_view rules.old.items)) (part_view part.now))) }
+    ensures accepted { OnOk result
+        (rule_in (checked_of names.old declared (rules_view rules.old.items)) (part_view part.now)
+        ≡ Ok (checked_of names.new declared (rules_view rules.new.items))) }
+    ensures refused { IfErr result
+        (λ e. IsError e
+        (rule_in (checked_of names.old declared (rules_view rules.old.items))
+        (part_view part.now))) }
 {
     match part {
         Part::Declares(_, _) => Ok(()),
@@ -122,8 +134,14 @@ fn add_rule<A: Allocator + Copy>(
     line: u64,
     written: &RuleSyntax<A>,
 ) -> Result<(), RuleError>
-    ensures accepted { OnOk result (unless_mistaken (checked_of names.old declared (rules_view rules.old.items)) line (syntax_rule written.now) ≡ Ok (checked_of names.new declared (rules_view rules.new.items))) }
-    ensures refused { IfErr result (λ e. IsError e (unless_mistaken (checked_of names.old declared (rules_view rules.old.items)) line (syntax_rule written.now))) }
+    ensures accepted { OnOk result
+        (with_rule_in_line (checked_of names.old declared (rules_view rules.old.items)) line
+        (syntax_rule written.now)
+        ≡ Ok (checked_of names.new declared (rules_view rules.new.items))) }
+    ensures refused { IfErr result
+        (λ e. IsError e
+        (with_rule_in_line (checked_of names.old declared (rules_view rules.old.items)) line
+        (syntax_rule written.now))) }
 {
     let number = count(rules.as_slice()) + 1;
     match rule(alloc, names, declared, rules.as_slice(), written) {
@@ -135,7 +153,7 @@ fn add_rule<A: Allocator + Copy>(
     }
 }
 
-/// A fault in this line and rule; want of memory has neither.
+/// A fault in this line and rule; `Memory` has neither.
 pub(crate) fn error(kind: RuleErrorKind, line: u64, rule: usize) -> RuleError
     ensures { IsPlaced kind line rule result }
 {

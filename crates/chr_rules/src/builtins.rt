@@ -33,7 +33,9 @@ pub(crate) fn is_ground_test(name: &str, arity: usize) -> bool
 
 /// One of the tests that are names: `true`, `integer(t)`, `ground(t)`.
 pub(crate) fn is_test(name: &str, arity: usize) -> bool
-    ensures { result ≡ (is_true name.now arity || (is_integer_test name.now arity || is_ground_test name.now arity)) }
+    ensures { result
+        ≡ (is_true name.now arity ||
+        (is_integer_test name.now arity || is_ground_test name.now arity)) }
 {
     is_true(name, arity) || (is_integer_test(name, arity) || is_ground_test(name, arity))
 }

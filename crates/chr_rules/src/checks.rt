@@ -1,13 +1,13 @@
 //! What can be wrong with the items of rules and queries.
 ghost use Rattle.std.specs.Prelude.{◌≡◌, ◌++◌};
 ghost use Rattle.std.specs.List.{list_any};
-ghost use Rattle.chr_semantics.specs.Checked.{head_items, is_built_in, is_declared, is_free, is_guard_only, is_no_goal, is_no_test, is_undeclared, is_wide, items_of, on_sides};
+ghost use Rattle.chr_semantics.specs.Checked.{head_items, is_built_in, is_declared, is_guard_only, is_no_goal, is_no_test, is_undeclared, items_of, on_sides};
 ghost use Rattle.chr_read.specs.SyntaxView.{head_views, item_view, item_views, rule_view as syntax_rule};
 ghost use Rattle.chr_rules.specs.Checks.{check_view};
+ghost use Rattle.chr_rules.specs.Parts.{has_sought};
 
 use crate::builtins::{is_builtin, is_ground_test, is_integer_test, is_test};
-use crate::parts::{as_call, is_free, is_wide};
-use crate::variables::Variables;
+use crate::parts::{Sought, as_call, has_sought};
 use chr_read::{Head, Item, RuleSyntax};
 use chr_term::Names;
 use chr_tokens::Relation;
@@ -15,7 +15,7 @@ use std::alloc::Allocator;
 
 /// What is looked for in an item.
 #[derive(Clone, Copy, Drop)]
-pub(crate) enum Check<'c, 's, A: Allocator> {
+pub(crate) enum Check<'c, A: Allocator> {
     /// A name that is neither built in nor, by these names, among the declared symbols, which are those from 7 up to this number.
     Undeclared(&'c Names<A>, usize),
     /// Something built in.
@@ -24,16 +24,14 @@ pub(crate) enum Check<'c, 's, A: Allocator> {
     NoGoal,
     /// What is no test.
     NoTest,
-    /// A variable that is none of these.
-    Free(&'c Variables<'s, A>),
     /// A test that is no goal.
     GuardOnly,
-    /// A name with more than `MAX_ARITY` arguments.
-    Wide,
+    /// This in one of its expressions.
+    Part(Sought<'c, A>),
 }
 
 /// Whether the item is so.
-fn finds<A: Allocator + Copy>(check: Check<'_, '_, A>, item: &Item<A>) -> bool
+fn finds<A: Allocator + Copy>(check: Check<'_, A>, item: &Item<A>) -> bool
     ensures { result ≡ check_view check.entry (item_view item.now) }
 {
     match check {
@@ -41,14 +39,13 @@ fn finds<A: Allocator + Copy>(check: Check<'_, '_, A>, item: &Item<A>) -> bool
         Check::BuiltIn => is_built_in(item),
         Check::NoGoal => is_no_goal(item),
         Check::NoTest => is_no_test(item),
-        Check::Free(variables) => has_free(variables, item),
         Check::GuardOnly => is_guard_only(item),
-        Check::Wide => has_wide(item),
+        Check::Part(sought) => on_sides(sought, item),
     }
 }
 
 /// Whether an item is so.
-pub(crate) fn in_items<A: Allocator + Copy>(check: Check<'_, '_, A>, items: &[Item<A>]) -> bool
+pub(crate) fn in_items<A: Allocator + Copy>(check: Check<'_, A>, items: &[Item<A>]) -> bool
     ensures { result ≡ list_any (check_view check.entry) (item_views items.now) }
 {
     for item in items {
@@ -60,7 +57,7 @@ pub(crate) fn in_items<A: Allocator + Copy>(check: Check<'_, '_, A>, items: &[It
 }
 
 /// Whether a head is so.
-fn in_heads<A: Allocator + Copy>(check: Check<'_, '_, A>, heads: &[Head<A>]) -> bool
+fn in_heads<A: Allocator + Copy>(check: Check<'_, A>, heads: &[Head<A>]) -> bool
     ensures { result ≡ list_any (check_view check.entry) (items_of (head_views heads.now)) }
 {
     for head in heads {
@@ -72,10 +69,7 @@ fn in_heads<A: Allocator + Copy>(check: Check<'_, '_, A>, heads: &[Head<A>]) -> 
 }
 
 /// Whether a head of a rule is so.
-pub(crate) fn in_all_heads<A: Allocator + Copy>(
-    check: Check<'_, '_, A>,
-    rule: &RuleSyntax<A>,
-) -> bool
+pub(crate) fn in_all_heads<A: Allocator + Copy>(check: Check<'_, A>, rule: &RuleSyntax<A>) -> bool
     ensures { result ≡ list_any (check_view check.entry) (head_items (syntax_rule rule.now)) }
 {
     in_heads(check, rule.heads.as_slice()) || in_heads(check, rule.behind.as_slice())
@@ -83,17 +77,22 @@ pub(crate) fn in_all_heads<A: Allocator + Copy>(
 
 /// Whether a head or a goal of the body of a rule is so.
 pub(crate) fn in_heads_and_body<A: Allocator + Copy>(
-    check: Check<'_, '_, A>,
+    check: Check<'_, A>,
     rule: &RuleSyntax<A>,
 ) -> bool
-    ensures { result ≡ list_any (check_view check.entry) (head_items (syntax_rule rule.now) ++ item_views rule.now.body.items) }
+    ensures { result
+        ≡ list_any (check_view check.entry)
+        (head_items (syntax_rule rule.now) ++ item_views rule.now.body.items) }
 {
     in_all_heads(check, rule) || in_items(check, rule.body.as_slice())
 }
 
 /// Whether an item of a rule is so.
-pub(crate) fn in_rule<A: Allocator + Copy>(check: Check<'_, '_, A>, rule: &RuleSyntax<A>) -> bool
-    ensures { result ≡ list_any (check_view check.entry) (head_items (syntax_rule rule.now) ++ (item_views rule.now.guard.items ++ item_views rule.now.body.items)) }
+pub(crate) fn in_rule<A: Allocator + Copy>(check: Check<'_, A>, rule: &RuleSyntax<A>) -> bool
+    ensures { result
+        ≡ list_any (check_view check.entry)
+        (head_items (syntax_rule rule.now)
+        ++ (item_views rule.now.guard.items ++ item_views rule.now.body.items)) }
 {
     in_all_heads(check, rule)
         || (in_items(check, rule.guard.as_slice()) || in_items(check, rule.body.as_slice()))
@@ -174,20 +173,12 @@ fn is_guard_only<A: Allocator>(item: &Item<A>) -> bool
     }
 }
 
-fn has_free<A: Allocator + Copy>(variables: &Variables<'_, A>, item: &Item<A>) -> bool
-    ensures { result ≡ on_sides (is_free variables.now) (item_view item.now) }
+/// Whether what is looked for stands in an expression of the item.
+fn on_sides<A: Allocator + Copy>(sought: Sought<'_, A>, item: &Item<A>) -> bool
+    ensures { result ≡ on_sides (has_sought sought.entry) (item_view item.now) }
 {
     match item {
-        Item::Plain(expr) => is_free(variables, expr),
-        Item::Related(_, left, right) => is_free(variables, left) || is_free(variables, right),
-    }
-}
-
-fn has_wide<A: Allocator>(item: &Item<A>) -> bool
-    ensures { result ≡ on_sides is_wide (item_view item.now) }
-{
-    match item {
-        Item::Plain(expr) => is_wide(expr),
-        Item::Related(_, left, right) => is_wide(left) || is_wide(right),
+        Item::Plain(expr) => has_sought(sought, expr),
+        Item::Related(_, left, right) => has_sought(sought, left) || has_sought(sought, right),
     }
 }

@@ -28,7 +28,9 @@ pub(crate) fn goals<'s, A: Allocator + Copy>(
     variables: &mut Variables<'s, A>,
     items: &'s [Item<A>],
 ) -> Result<Vec<Goal<A>, A>, Memory>
-    ensures goals { IfOk result (λ goals. (scope names.new variables.new, map goal_view goals.items) ≡ in_turn goal_from (scope names.old variables.old, []) (item_views items.now)) }
+    ensures goals { IfOk result
+        (λ goals. (scope names.new variables.new, map goal_view goals.items)
+        ≡ in_turn goal_from (scope names.old variables.old, []) (item_views items.now)) }
     ensures grows { Grows names.old names.new }
 {
     let mut goals = Vec::new(alloc);
@@ -46,7 +48,10 @@ fn add_goal<'s, A: Allocator + Copy>(
     goals: &mut Vec<Goal<A>, A>,
     item: &'s Item<A>,
 ) -> Result<(), Memory>
-    ensures goal { OnOk result ((scope names.new variables.new, map goal_view goals.new.items) ≡ with_turn goal_from (scope names.old variables.old, map goal_view goals.old.items) (item_view item.now)) }
+    ensures goal { OnOk result
+        ((scope names.new variables.new, map goal_view goals.new.items)
+        ≡ with_turn goal_from (scope names.old variables.old, map goal_view goals.old.items)
+        (item_view item.now)) }
     ensures grows { Grows names.old names.new }
 {
     if let Some(made) = goal(alloc, names, variables, item)? {
@@ -62,30 +67,34 @@ fn goal<'s, A: Allocator + Copy>(
     variables: &mut Variables<'s, A>,
     item: &'s Item<A>,
 ) -> Result<Option<Goal<A>>, Memory>
-    ensures goal { IfOk result (λ goal. (scope names.new variables.new, goals_of goal) ≡ goal_from (scope names.old variables.old) (item_view item.now)) }
+    ensures goal { IfOk result
+        (λ goal. (scope names.new variables.new, goals_of goal)
+        ≡ goal_from (scope names.old variables.old) (item_view item.now)) }
     ensures grows { Grows names.old names.new }
 {
     match item {
         Item::Related(relation, left, right) => {
             let (left, right) = sides(alloc, names, variables, left, right)?;
-            Ok(told(*relation, left, right))
+            Ok(relation_goal(*relation, left, right))
         }
         Item::Plain(expr) => match as_call(expr) {
-            Some((name, args)) => called(alloc, names, variables, name, args),
+            Some((name, args)) => goal_of(alloc, names, variables, name, args),
             None => Ok(None),
         },
     }
 }
 
 /// The goal of a name over expressions.
-fn called<'s, A: Allocator + Copy>(
+fn goal_of<'s, A: Allocator + Copy>(
     alloc: A,
     names: &mut Names<A>,
     variables: &mut Variables<'s, A>,
     name: &str,
     args: &'s [Expr<A>],
 ) -> Result<Option<Goal<A>>, Memory>
-    ensures goal { IfOk result (λ goal. (scope names.new variables.new, goals_of goal) ≡ goal_of (scope names.old variables.old) name.now (exprs_of (views args.now))) }
+    ensures goal { IfOk result
+        (λ goal. (scope names.new variables.new, goals_of goal)
+        ≡ goal_of (scope names.old variables.old) name.now (exprs_of (views args.now))) }
     ensures grows { Grows names.old names.new }
 {
     let arity = args.len();
@@ -107,7 +116,10 @@ fn sides<'s, A: Allocator + Copy>(
     left: &'s Expr<A>,
     right: &'s Expr<A>,
 ) -> Result<(Term<A>, Term<A>), Memory>
-    ensures sides { IfOk result (λ sides. (scope names.new variables.new, (view sides.0, view sides.1)) ≡ sides_from (scope names.old variables.old) (syntax_view left.now) (syntax_view right.now)) }
+    ensures sides { IfOk result
+        (λ sides. (scope names.new variables.new, (view sides.0, view sides.1))
+        ≡ sides_from (scope names.old variables.old) (syntax_view left.now)
+        (syntax_view right.now)) }
     ensures grows { Grows names.old names.new }
 {
     let left = tree(alloc, names, variables, left)?;
@@ -116,7 +128,7 @@ fn sides<'s, A: Allocator + Copy>(
 }
 
 /// The goal that two sides make, if any.
-fn told<A: Allocator>(relation: Relation, left: Term<A>, right: Term<A>) -> Option<Goal<A>>
+fn relation_goal<A: Allocator>(relation: Relation, left: Term<A>, right: Term<A>) -> Option<Goal<A>>
     ensures { goals_of result ≡ relation_goal (relation_view relation) (view left) (view right) }
 {
     let op = match relation {
@@ -130,7 +142,7 @@ fn told<A: Allocator>(relation: Relation, left: Term<A>, right: Term<A>) -> Opti
         Relation::Differs => Op::Differs,
         Relation::Is => Op::Is,
     };
-    Some(Goal::Told(op, left, right))
+    Some(Goal::BuiltIn(op, left, right))
 }
 
 /// The tests of a guard, from the left.
@@ -140,7 +152,9 @@ pub(crate) fn tests<'s, A: Allocator + Copy>(
     variables: &mut Variables<'s, A>,
     items: &'s [Item<A>],
 ) -> Result<Vec<Test<A>, A>, Memory>
-    ensures { IfOk result (λ tests. (scope names.new variables.new, map test_view tests.items) ≡ in_turn test_from (scope names.old variables.old, []) (item_views items.now)) }
+    ensures { IfOk result
+        (λ tests. (scope names.new variables.new, map test_view tests.items)
+        ≡ in_turn test_from (scope names.old variables.old, []) (item_views items.now)) }
 {
     let mut tests = Vec::new(alloc);
     for item in items {
@@ -157,7 +171,10 @@ fn add_test<'s, A: Allocator + Copy>(
     tests: &mut Vec<Test<A>, A>,
     item: &'s Item<A>,
 ) -> Result<(), Memory>
-    ensures { OnOk result ((scope names.new variables.new, map test_view tests.new.items) ≡ with_turn test_from (scope names.old variables.old, map test_view tests.old.items) (item_view item.now)) }
+    ensures { OnOk result
+        ((scope names.new variables.new, map test_view tests.new.items)
+        ≡ with_turn test_from (scope names.old variables.old, map test_view tests.old.items)
+        (item_view item.now)) }
 {
     if let Some(made) = test(alloc, names, variables, item)? {
         tests.push(made)?;
@@ -172,46 +189,52 @@ fn test<'s, A: Allocator + Copy>(
     variables: &mut Variables<'s, A>,
     item: &'s Item<A>,
 ) -> Result<Option<Test<A>>, Memory>
-    ensures { IfOk result (λ test. (scope names.new variables.new, tests_of test) ≡ test_from (scope names.old variables.old) (item_view item.now)) }
+    ensures { IfOk result
+        (λ test. (scope names.new variables.new, tests_of test)
+        ≡ test_from (scope names.old variables.old) (item_view item.now)) }
 {
     match item {
         Item::Related(relation, left, right) => {
             let (left, right) = sides(alloc, names, variables, left, right)?;
-            Ok(tested(*relation, left, right))
+            Ok(relation_test(*relation, left, right))
         }
         Item::Plain(expr) => match as_call(expr) {
-            Some((name, args)) => called_test(alloc, names, variables, name, args),
+            Some((name, args)) => test_of(alloc, names, variables, name, args),
             None => Ok(None),
         },
     }
 }
 
 /// The test of a name over expressions.
-fn called_test<'s, A: Allocator + Copy>(
+fn test_of<'s, A: Allocator + Copy>(
     alloc: A,
     names: &mut Names<A>,
     variables: &mut Variables<'s, A>,
     name: &str,
     args: &'s [Expr<A>],
 ) -> Result<Option<Test<A>>, Memory>
-    ensures { IfOk result (λ test. (scope names.new variables.new, tests_of test) ≡ test_of (scope names.old variables.old) name.now (exprs_of (views args.now))) }
+    ensures { IfOk result
+        (λ test. (scope names.new variables.new, tests_of test)
+        ≡ test_of (scope names.old variables.old) name.now (exprs_of (views args.now))) }
 {
     match args {
         [] => Ok(None),
-        [arg] => tested_alone(alloc, names, variables, name, arg),
+        [arg] => test_alone(alloc, names, variables, name, arg),
         [_, _, ..] => Ok(None),
     }
 }
 
 /// The test of a name over one expression.
-fn tested_alone<'s, A: Allocator + Copy>(
+fn test_alone<'s, A: Allocator + Copy>(
     alloc: A,
     names: &mut Names<A>,
     variables: &mut Variables<'s, A>,
     name: &str,
     arg: &'s Expr<A>,
 ) -> Result<Option<Test<A>>, Memory>
-    ensures { IfOk result (λ test. (scope names.new variables.new, tests_of test) ≡ test_alone (scope names.old variables.old) name.now (syntax_view arg.now)) }
+    ensures { IfOk result
+        (λ test. (scope names.new variables.new, tests_of test)
+        ≡ test_alone (scope names.old variables.old) name.now (syntax_view arg.now)) }
 {
     if is_integer_test(name, 1) {
         let arg = tree(alloc, names, variables, arg)?;
@@ -225,7 +248,7 @@ fn tested_alone<'s, A: Allocator + Copy>(
 }
 
 /// The test that two sides make, if any.
-fn tested<A: Allocator>(relation: Relation, left: Term<A>, right: Term<A>) -> Option<Test<A>>
+fn relation_test<A: Allocator>(relation: Relation, left: Term<A>, right: Term<A>) -> Option<Test<A>>
     ensures { tests_of result ≡ relation_test (relation_view relation) (view left) (view right) }
 {
     match relation {
@@ -268,7 +291,10 @@ pub(crate) fn add_heads<'s, A: Allocator + Copy>(
     written: &'s [Head<A>],
 ) -> Result<(), Memory>
     requires { IsFlagged heads.old }
-    ensures heads { OnOk result ((scope names.new variables.new, heads_of heads.new) ≡ in_turn head_from (scope names.old variables.old, heads_of heads.old) (head_views written.now)) }
+    ensures heads { OnOk result
+        ((scope names.new variables.new, heads_of heads.new)
+        ≡ in_turn head_from (scope names.old variables.old, heads_of heads.old)
+        (head_views written.now)) }
     ensures flagged { OnOk result (IsFlagged heads.new) }
 {
     for head in written {
@@ -286,7 +312,10 @@ fn add_head<'s, A: Allocator + Copy>(
     written: &'s Head<A>,
 ) -> Result<(), Memory>
     requires { IsFlagged heads.old }
-    ensures head { OnOk result ((scope names.new variables.new, heads_of heads.new) ≡ with_turn head_from (scope names.old variables.old, heads_of heads.old) (syntax_head written.now)) }
+    ensures head { OnOk result
+        ((scope names.new variables.new, heads_of heads.new)
+        ≡ with_turn head_from (scope names.old variables.old, heads_of heads.old)
+        (syntax_head written.now)) }
     ensures flagged { OnOk result (IsFlagged heads.new) }
 {
     match &written.item {
@@ -309,7 +338,9 @@ fn push_head<A: Allocator>(
     passive: bool,
 ) -> Result<(), Memory>
     requires { IsFlagged heads.old }
-    ensures head { OnOk result (heads_of heads.new ≡ heads_of heads.old ++ record { atom = atom_view sym args.items; passive = passive } ∷ []) }
+    ensures head { OnOk result
+        (heads_of heads.new ≡ heads_of heads.old
+        ++ record { atom = atom_view sym args.items; passive = passive } ∷ []) }
     ensures flagged { OnOk result (IsFlagged heads.new) }
 {
     heads.atoms.push((sym, args))?;

@@ -1,7 +1,7 @@
 //! The occurrences of each symbol.
 ghost use Rattle.std.specs.Prelude.{◌≡◌, ◌<◌, ◌++◌, ◌∷◌, [], ◌==◌, ℕ, if◌then◌else◌, IfOk, OnOk, slice_get, vec_len};
 ghost use Rattle.chr_semantics.specs.Program.{occurrences_in};
-ghost use Rattle.chr_rules.specs.Index.{AreListed, listed, pair_view, pairs_of};
+ghost use Rattle.chr_rules.specs.Index.{AreListed, pairs_in, pair_view, pairs_of};
 ghost use Rattle.chr_rules.specs.RuleView.{flag_at, rule_view, rules_view};
 
 use crate::rule::Rule;
@@ -23,7 +23,8 @@ fn place_for<A: Allocator + Copy>(
     index: &mut Vec<Vec<Occurrence, A>, A>,
     sym: Sym,
 ) -> Result<(), Memory>
-    ensures kept { (f : ℕ) → listed (slice_get index.new.items f) ≡ listed (slice_get index.old.items f) }
+    ensures kept { (f : ℕ) → pairs_in (slice_get index.new.items f)
+        ≡ pairs_in (slice_get index.old.items f) }
     ensures room { OnOk result (sym.0 < vec_len index.new) }
 {
     while index.len() <= sym.0 as usize {
@@ -39,7 +40,9 @@ fn append<A: Allocator + Copy>(
     sym: Sym,
     occurrence: Occurrence,
 ) -> Result<(), Memory>
-    ensures { OnOk result ((f : ℕ) → listed (slice_get index.new.items f) ≡ listed (slice_get index.old.items f) ++ (if sym.0 == f then pair_view occurrence ∷ [] else [])) }
+    ensures { OnOk result
+        ((f : ℕ) → pairs_in (slice_get index.new.items f) ≡ pairs_in (slice_get index.old.items f)
+        ++ (if sym.0 == f then pair_view occurrence ∷ [] else [])) }
 {
     place_for(alloc, index, sym)?;
     let places = &mut index[sym.0 as usize];
@@ -54,7 +57,9 @@ fn append_rule<A: Allocator + Copy>(
     number: usize,
     rule: &Rule<A>,
 ) -> Result<(), Memory>
-    ensures { OnOk result ((f : ℕ) → listed (slice_get index.new.items f) ≡ listed (slice_get index.old.items f) ++ pairs_of (occurrences_in number (rule_view rule.now) f)) }
+    ensures { OnOk result
+        ((f : ℕ) → pairs_in (slice_get index.new.items f) ≡ pairs_in (slice_get index.old.items f)
+        ++ pairs_of (occurrences_in number (rule_view rule.now) f)) }
 {
     for place in (0..rule.heads.len()).rev() {
         let sym = rule.heads[place].0;

@@ -1,16 +1,14 @@
 //! What stands somewhere in an expression.
 ghost use Rattle.std.specs.Prelude.{◌≡◌, option_map};
 ghost use Rattle.std.specs.List.{list_any};
-ghost use Rattle.chr_semantics.specs.Checked.{are_free, are_wide, is_free, is_wide};
 ghost use Rattle.chr_semantics.specs.Meaning.{call_of};
 ghost use Rattle.chr_semantics.specs.Syntax.{exprs_of};
 ghost use Rattle.chr_read.specs.SyntaxView.{view, views};
-ghost use Rattle.chr_rules.specs.Operands.{operands};
+ghost use Rattle.chr_rules.specs.Parts.{has_sought, have_sought, is_arity_sought, is_variable_sought, operands};
 
 use crate::variables::Variables;
-use chr_read::Expr;
+use chr_read::{Expr, Operator};
 use chr_semantics::limits::MAX_ARITY;
-use chr_tokens::{Additive, Multiplicative};
 use std::alloc::Allocator;
 
 /// The name and the arguments of an expression that is a name. A chain, or a list with an end, that has nothing else is its one part.
@@ -30,14 +28,7 @@ pub(crate) fn as_call<'e, A: Allocator>(expr: &'e Expr<A>) -> Option<(&'e str, &
                 None
             }
         }
-        Expr::Sum(first, others) => {
-            if others.is_empty() {
-                as_call(&**first)
-            } else {
-                None
-            }
-        }
-        Expr::Product(first, others) => {
+        Expr::Chain(first, others) => {
             if others.is_empty() {
                 as_call(&**first)
             } else {
@@ -47,116 +38,75 @@ pub(crate) fn as_call<'e, A: Allocator>(expr: &'e Expr<A>) -> Option<(&'e str, &
     }
 }
 
-/// Whether a name stands with more than `MAX_ARITY` arguments.
-#[cycle(wide)]
-pub(crate) fn is_wide<A: Allocator>(expr: &Expr<A>) -> bool
-    ensures { result ≡ is_wide (view expr.now) }
+/// What is looked for in the parts of an expression.
+#[derive(Clone, Copy, Drop)]
+pub(crate) enum Sought<'v, A: Allocator> {
+    /// A variable that is none of these.
+    Free(&'v Variables<'v, A>),
+    /// A name with more than `MAX_ARITY` arguments.
+    Wide,
+}
+
+fn is_variable_sought<A: Allocator + Copy>(sought: Sought<'_, A>, word: &str) -> bool
+    ensures { result ≡ is_variable_sought sought.entry word.now }
+{
+    match sought {
+        Sought::Free(variables) => variables.number(word).is_none(),
+        Sought::Wide => false,
+    }
+}
+
+fn is_arity_sought<A: Allocator + Copy>(sought: Sought<'_, A>, arity: usize) -> bool
+    ensures { result ≡ is_arity_sought sought.entry arity }
+{
+    match sought {
+        Sought::Free(_) => false,
+        Sought::Wide => arity > MAX_ARITY,
+    }
+}
+
+/// Whether what is looked for stands in the expression.
+#[cycle(part)]
+pub(crate) fn has_sought<A: Allocator + Copy>(sought: Sought<'_, A>, expr: &Expr<A>) -> bool
+    ensures { result ≡ has_sought sought.entry (view expr.now) }
 {
     match expr {
-        Expr::Variable(_) => false,
+        Expr::Variable(word) => is_variable_sought(sought, word.as_str()),
         Expr::Number(_) => false,
-        Expr::Call(_, args) => args.len() > MAX_ARITY || are_wide(args.as_slice()),
-        Expr::List(items) => are_wide(items.as_slice()),
-        Expr::ListWithEnd(items, end) => are_wide(items.as_slice()) || is_wide(&**end),
-        Expr::Sum(first, others) => is_wide(&**first) || any_wide_summand(others.as_slice()),
-        Expr::Product(first, others) => is_wide(&**first) || any_wide_factor(others.as_slice()),
-    }
-}
-
-#[cycle(wide)]
-fn are_wide<A: Allocator>(exprs: &[Expr<A>]) -> bool
-    ensures { result ≡ are_wide (exprs_of (views exprs.now)) }
-{
-    for expr in exprs {
-        if is_wide(expr) {
-            return true;
+        Expr::Call(_, args) => {
+            is_arity_sought(sought, args.len()) || have_sought(sought, args.as_slice())
         }
-    }
-    false
-}
-
-#[cycle(wide)]
-fn any_wide_summand<A: Allocator>(others: &[(Additive, Expr<A>)]) -> bool
-    ensures { result ≡ list_any is_wide (operands others.now) }
-{
-    for other in others {
-        if is_wide(&other.1) {
-            return true;
-        }
-    }
-    false
-}
-
-#[cycle(wide)]
-fn any_wide_factor<A: Allocator>(others: &[(Multiplicative, Expr<A>)]) -> bool
-    ensures { result ≡ list_any is_wide (operands others.now) }
-{
-    for other in others {
-        if is_wide(&other.1) {
-            return true;
-        }
-    }
-    false
-}
-
-/// Whether a variable stands that is none of these.
-#[cycle(free)]
-pub(crate) fn is_free<A: Allocator + Copy>(variables: &Variables<'_, A>, expr: &Expr<A>) -> bool
-    ensures { result ≡ is_free variables.now (view expr.now) }
-{
-    match expr {
-        Expr::Variable(word) => variables.number(word.as_str()).is_none(),
-        Expr::Number(_) => false,
-        Expr::Call(_, args) => are_free(variables, args.as_slice()),
-        Expr::List(items) => are_free(variables, items.as_slice()),
+        Expr::List(items) => have_sought(sought, items.as_slice()),
         Expr::ListWithEnd(items, end) => {
-            are_free(variables, items.as_slice()) || is_free(variables, &**end)
+            have_sought(sought, items.as_slice()) || has_sought(sought, &**end)
         }
-        Expr::Sum(first, others) => {
-            is_free(variables, &**first) || any_free_summand(variables, others.as_slice())
-        }
-        Expr::Product(first, others) => {
-            is_free(variables, &**first) || any_free_factor(variables, others.as_slice())
+        Expr::Chain(first, others) => {
+            has_sought(sought, &**first) || operands_have_sought(sought, others.as_slice())
         }
     }
 }
 
-#[cycle(free)]
-fn are_free<A: Allocator + Copy>(variables: &Variables<'_, A>, exprs: &[Expr<A>]) -> bool
-    ensures { result ≡ are_free variables.now (exprs_of (views exprs.now)) }
+#[cycle(part)]
+fn have_sought<A: Allocator + Copy>(sought: Sought<'_, A>, exprs: &[Expr<A>]) -> bool
+    ensures { result ≡ have_sought sought.entry (exprs_of (views exprs.now)) }
 {
     for expr in exprs {
-        if is_free(variables, expr) {
+        if has_sought(sought, expr) {
             return true;
         }
     }
     false
 }
 
-#[cycle(free)]
-fn any_free_summand<A: Allocator + Copy>(
-    variables: &Variables<'_, A>,
-    others: &[(Additive, Expr<A>)],
+#[cycle(part)]
+fn operands_have_sought<A: Allocator + Copy>(
+    sought: Sought<'_, A>,
+    others: &[(Operator, Expr<A>)],
 ) -> bool
-    ensures { result ≡ list_any (is_free variables.now) (operands others.now) }
+    ensures { result ≡ list_any (has_sought sought.entry) (operands others.now) }
 {
     for other in others {
-        if is_free(variables, &other.1) {
-            return true;
-        }
-    }
-    false
-}
-
-#[cycle(free)]
-fn any_free_factor<A: Allocator + Copy>(
-    variables: &Variables<'_, A>,
-    others: &[(Multiplicative, Expr<A>)],
-) -> bool
-    ensures { result ≡ list_any (is_free variables.now) (operands others.now) }
-{
-    for other in others {
-        if is_free(variables, &other.1) {
+        if has_sought(sought, &other.1) {
             return true;
         }
     }

@@ -41,7 +41,8 @@ impl<A: Allocator + Copy> Program<A> {
     /// What a syntax stands for, or what is wrong with it first: the declarations are looked at first, then the rules, both in their order.
     /// `Memory` is also answered where more than 4,294,967,295 symbols would be named.
     pub fn build(alloc: A, syntax: ProgramSyntax<A>) -> Result<Program<A>, RuleError>
-        ensures accepted { IfOk result (λ program. checked (program_view syntax) ≡ Ok (checked_view program)) }
+        ensures accepted { IfOk result
+            (λ program. checked (program_view syntax) ≡ Ok (checked_view program)) }
         ensures refused { IfErr result (λ e. IsError e (checked (program_view syntax))) }
         ensures bounded { IfOk result (λ program. AreBounded (checked_view program).rules) }
     {
@@ -60,14 +61,19 @@ impl<A: Allocator + Copy> Program<A> {
         })
     }
 
-    /// What a query over this program stands for, or what is wrong with it first. The names grow: new ones go behind those that were there.
-    /// Where the query has a mistake, the names are as before. Where memory is refused, some of the query's new names may stand behind already.
+    /// What a query over this program stands for, or what is wrong with it first. The names grow: new ones go after those that were there.
+    /// Where the query has a mistake, the names are as before. Where memory is refused, some of the query's new names may stand there already.
     pub fn goals_of_query(&mut self, syntax: QuerySyntax<A>) -> Result<Query<A>, RuleError>
-        ensures accepted { IfOk result (λ query. checked_query (checked_view self.old) (syntax_query syntax) ≡ Ok ((checked_view self.new).names, query_view query)) }
-        ensures refused { IfErr result (λ e. IsError e (checked_query (checked_view self.old) (syntax_query syntax))) }
+        ensures accepted { IfOk result
+            (λ query. checked_query (checked_view self.old) (syntax_query syntax)
+            ≡ Ok ((checked_view self.new).names, query_view query)) }
+        ensures refused { IfErr result
+            (λ e. IsError e (checked_query (checked_view self.old) (syntax_query syntax))) }
         ensures declared { (checked_view self.new).declared ≡ (checked_view self.old).declared }
         ensures rules { (checked_view self.new).rules ≡ (checked_view self.old).rules }
-        ensures mistaken { IfErr result (λ e. e.kind ≢ OutOfMemory → (checked_view self.new).names ≡ (checked_view self.old).names) }
+        ensures mistaken { IfErr result
+            (λ e. e.kind ≢ OutOfMemory → (checked_view self.new).names
+            ≡ (checked_view self.old).names) }
         ensures grows { Grows (checked_view self.old).names (checked_view self.new).names }
         ensures bounded { IfOk result (λ query. IsQueryBounded (query_view query)) }
         ensures made { IfOk result (λ query. IsQueryOf (checked_view self.new) (query_view query)) }
@@ -120,7 +126,8 @@ impl<A: Allocator> Program<A> {
 
     /// The occurrence of a symbol by its number, which counts from 1.
     pub fn occurrence(&self, sym: Sym, number: u32) -> Option<Occurrence>
-        ensures found { option_map pair_view result ≡ option_map pair_of (occurrence (checked_view self.now).rules sym.0 number) }
+        ensures found { option_map pair_view result
+            ≡ option_map pair_of (occurrence (checked_view self.now).rules sym.0 number) }
         ensures rule { IfSome result (λ found. found.rule < length (checked_view self.now).rules) }
         ensures few { OnSome result (number < 2 ^ 31) }
     {

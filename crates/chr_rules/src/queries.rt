@@ -14,6 +14,7 @@ use crate::checks::{Check, in_items};
 use crate::error::{RuleError, RuleErrorKind};
 use crate::goal::Query;
 use crate::goals::goals;
+use crate::parts::Sought;
 use crate::variables::Variables;
 use chr_read::{Item, QuerySyntax};
 use chr_term::{Memory, Names};
@@ -27,8 +28,14 @@ pub(crate) fn query<A: Allocator + Copy>(
     declared: usize,
     syntax: &QuerySyntax<A>,
 ) -> Result<Query<A>, RuleError>
-    ensures accepted { IfOk result (λ query. (rules : Program) → checked_query (checked_of names.old declared rules) (syntax_query syntax.now) ≡ Ok (names.new, query_view query)) }
-    ensures refused { IfErr result (λ e. (rules : Program) → IsError e (checked_query (checked_of names.old declared rules) (syntax_query syntax.now))) }
+    ensures accepted { IfOk result
+        (λ query. (rules : Program)
+        → checked_query (checked_of names.old declared rules) (syntax_query syntax.now)
+        ≡ Ok (names.new, query_view query)) }
+    ensures refused { IfErr result
+        (λ e. (rules : Program)
+        → IsError e (checked_query (checked_of names.old declared rules)
+        (syntax_query syntax.now))) }
     ensures mistaken { IfErr result (λ e. e.kind ≢ OutOfMemory → names.new ≡ names.old) }
     ensures grows { Grows names.old names.new }
 {
@@ -45,7 +52,8 @@ fn accepted<A: Allocator + Copy>(
     names: &mut Names<A>,
     items: &[Item<A>],
 ) -> Result<Query<A>, Memory>
-    ensures query { IfOk result (λ query. query_from names.old (item_views items.now) ≡ (names.new, query_view query)) }
+    ensures query { IfOk result
+        (λ query. query_from names.old (item_views items.now) ≡ (names.new, query_view query)) }
     ensures grows { Grows names.old names.new }
 {
     let mut variables = Variables::new(alloc);
@@ -73,7 +81,7 @@ fn wrong_goals<A: Allocator + Copy>(
     if in_items(Check::GuardOnly, items) {
         return Some(RuleErrorKind::GuardOnly);
     }
-    if in_items(Check::Wide, items) {
+    if in_items(Check::Part(Sought::Wide), items) {
         return Some(RuleErrorKind::ArityTooLarge);
     }
     None

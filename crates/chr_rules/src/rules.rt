@@ -11,6 +11,7 @@ ghost use Rattle.chr_rules.specs.RuleView.{rule_view, rules_view};
 use crate::checks::{Check, in_all_heads, in_heads_and_body, in_items, in_rule};
 use crate::error::RuleErrorKind;
 use crate::goals::{Heads, add_heads, goals, no_heads, tests};
+use crate::parts::Sought;
 use crate::rule::Rule;
 use crate::variables::Variables;
 use chr_read::{Arrow, RuleSyntax};
@@ -18,7 +19,7 @@ use chr_semantics::limits::{MAX_HEADS, MAX_RULE_VARIABLES, MAX_RULES};
 use chr_term::{Memory, Names};
 use std::alloc::Allocator;
 
-/// The rule behind these, or what is wrong with it first.
+/// The rule after these, or what is wrong with it first.
 pub(crate) fn rule<'s, A: Allocator + Copy>(
     alloc: A,
     names: &mut Names<A>,
@@ -26,9 +27,15 @@ pub(crate) fn rule<'s, A: Allocator + Copy>(
     earlier: &[Rule<A>],
     written: &'s RuleSyntax<A>,
 ) -> Result<Rule<A>, RuleErrorKind>
-    ensures accepted { IfOk result (λ rule. error_in_rule names.old declared (rules_view earlier.now) (syntax_rule written.now) ≡ None) }
-    ensures rule { IfOk result (λ rule. (names.new, rule_view rule) ≡ rule_from names.old (length (rules_view earlier.now) + 1) (syntax_rule written.now)) }
-    ensures refused { IfErr result (λ fault. IsFault fault (error_in_rule names.old declared (rules_view earlier.now) (syntax_rule written.now))) }
+    ensures accepted { IfOk result
+        (λ rule. error_in_rule names.old declared (rules_view earlier.now) (syntax_rule written.now)
+        ≡ None) }
+    ensures rule { IfOk result
+        (λ rule. (names.new, rule_view rule)
+        ≡ rule_from names.old (length (rules_view earlier.now) + 1) (syntax_rule written.now)) }
+    ensures refused { IfErr result
+        (λ fault. IsFault fault
+        (error_in_rule names.old declared (rules_view earlier.now) (syntax_rule written.now))) }
 {
     if let Some(fault) = wrong_items(names, declared, written) {
         return Err(fault);
@@ -91,7 +98,8 @@ fn wrong_items<A: Allocator + Copy>(
     declared: usize,
     rule: &RuleSyntax<A>,
 ) -> Option<RuleErrorKind>
-    ensures { result ≡ option_map fault_of (first_of (wrong_items names.now declared (syntax_rule rule.now))) }
+    ensures { result
+        ≡ option_map fault_of (first_of (wrong_items names.now declared (syntax_rule rule.now))) }
 {
     if in_heads_and_body(Check::Undeclared(names, declared), rule) {
         return Some(RuleErrorKind::Undeclared);
@@ -114,9 +122,11 @@ fn wrong_rule<A: Allocator + Copy>(
     earlier: &[Rule<A>],
     rule: &RuleSyntax<A>,
 ) -> Option<RuleErrorKind>
-    ensures { result ≡ option_map fault_of (first_of (wrong_rule variables.now (rules_view earlier.now) (syntax_rule rule.now))) }
+    ensures { result
+        ≡ option_map fault_of
+        (first_of (wrong_rule variables.now (rules_view earlier.now) (syntax_rule rule.now))) }
 {
-    if in_items(Check::Free(variables), rule.guard.as_slice()) {
+    if in_items(Check::Part(Sought::Free(variables)), rule.guard.as_slice()) {
         return Some(RuleErrorKind::GuardVariable);
     }
     if in_items(Check::GuardOnly, rule.body.as_slice()) {
@@ -128,7 +138,7 @@ fn wrong_rule<A: Allocator + Copy>(
     if head_count(rule) > MAX_HEADS {
         return Some(RuleErrorKind::TooManyHeads);
     }
-    if in_rule(Check::Wide, rule) {
+    if in_rule(Check::Part(Sought::Wide), rule) {
         return Some(RuleErrorKind::ArityTooLarge);
     }
     if count(earlier) >= MAX_RULES {
@@ -189,7 +199,8 @@ fn propagates(arrow: Arrow) -> bool
 
 /// Whether a rule has both `\` and `==>`.
 fn keeps_and_removes<A: Allocator>(rule: &RuleSyntax<A>) -> bool
-    ensures { result ≡ (propagates (syntax_rule rule.now).arrow && has_backslash (syntax_rule rule.now)) }
+    ensures { result
+        ≡ (propagates (syntax_rule rule.now).arrow && has_backslash (syntax_rule rule.now)) }
 {
     propagates(rule.arrow) && has_backslash(rule)
 }
@@ -211,7 +222,8 @@ fn label<A: Allocator + Copy>(
     number: usize,
     name: &Option<String<A>>,
 ) -> Result<String<A>, Memory>
-    ensures { IfOk result (λ label. string_bytes label ≡ label_of number (option_map string_bytes name.now)) }
+    ensures { IfOk result
+        (λ label. string_bytes label ≡ label_of number (option_map string_bytes name.now)) }
 {
     match name {
         Some(name) => String::from_str(alloc, name.as_str()),

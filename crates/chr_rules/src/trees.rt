@@ -1,16 +1,15 @@
 //! The trees of expressions.
 ghost use Rattle.std.specs.Prelude.{◌≡◌, [], IfOk, OnOk, Some, map};
-ghost use Rattle.chr_semantics.specs.Meaning.{additive_symbol, atom_from, in_turn, multiplicative_symbol, node_of, scope, tree_from};
+ghost use Rattle.chr_semantics.specs.Meaning.{atom_from, in_turn, node_of, operator_symbol, scope, tree_from};
 ghost use Rattle.chr_semantics.specs.Names.{symbol_of, with_symbol};
 ghost use Rattle.chr_semantics.specs.Syntax.{exprs_of, list as syntax_list, nil};
 ghost use Rattle.chr_term.specs.TermView.{atom_view, view};
-ghost use Rattle.chr_read.specs.SyntaxView.{operand_views, products, sums, view as syntax_view, views};
-ghost use Rattle.chr_tokens.specs.TokenView.{additive_view, multiplicative_view};
+ghost use Rattle.chr_read.specs.SyntaxView.{chain as syntax_chain, operand_views, operator_view, view as syntax_view, views};
 ghost use Rattle.chr_rules.specs.Grown.{Grows};
-ghost use Rattle.chr_rules.specs.Turns.{listed, tree_turn};
+ghost use Rattle.chr_rules.specs.Turns.{list_of, tree_turn};
 
 use crate::variables::Variables;
-use chr_read::Expr;
+use chr_read::{Expr, Operator};
 use chr_term::{Memory, Names, Sym, Term};
 use chr_tokens::{Additive, Multiplicative};
 use std::alloc::{AllocError, Allocator};
@@ -23,7 +22,9 @@ pub(crate) fn tree<'s, A: Allocator + Copy>(
     variables: &mut Variables<'s, A>,
     expr: &'s Expr<A>,
 ) -> Result<Term<A>, Memory>
-    ensures tree { IfOk result (λ tree. (scope names.new variables.new, view tree) ≡ tree_from (scope names.old variables.old) (syntax_view expr.now)) }
+    ensures tree { IfOk result
+        (λ tree. (scope names.new variables.new, view tree)
+        ≡ tree_from (scope names.old variables.old) (syntax_view expr.now)) }
     ensures grows { Grows names.old names.new }
 {
     match expr {
@@ -37,10 +38,7 @@ pub(crate) fn tree<'s, A: Allocator + Copy>(
         Expr::ListWithEnd(items, end) => {
             list_with_end(alloc, names, variables, items.as_slice(), &**end)
         }
-        Expr::Sum(first, others) => sum(alloc, names, variables, &**first, others.as_slice()),
-        Expr::Product(first, others) => {
-            product(alloc, names, variables, &**first, others.as_slice())
-        }
+        Expr::Chain(first, others) => chain(alloc, names, variables, &**first, others.as_slice()),
     }
 }
 
@@ -53,7 +51,9 @@ pub(crate) fn atom<'s, A: Allocator + Copy>(
     name: &str,
     args: &'s [Expr<A>],
 ) -> Result<(Sym, Vec<Term<A>, A>), Memory>
-    ensures atom { IfOk result (λ atom. (scope names.new variables.new, atom_view atom.0 atom.1.items) ≡ atom_from (scope names.old variables.old) name.now (exprs_of (views args.now))) }
+    ensures atom { IfOk result
+        (λ atom. (scope names.new variables.new, atom_view atom.0 atom.1.items)
+        ≡ atom_from (scope names.old variables.old) name.now (exprs_of (views args.now))) }
     ensures grows { Grows names.old names.new }
 {
     let sym = symbol(names, name, args.len())?;
@@ -61,7 +61,7 @@ pub(crate) fn atom<'s, A: Allocator + Copy>(
     Ok((sym, args))
 }
 
-/// The symbol of a name with so many arguments. Want of memory is answered also where the numbers of symbols are used up.
+/// The symbol of a name with so many arguments. `Memory` is also returned where the numbers of symbols are used up.
 pub(crate) fn symbol<A: Allocator + Copy>(
     names: &mut Names<A>,
     name: &str,
@@ -86,7 +86,9 @@ fn trees<'s, A: Allocator + Copy>(
     variables: &mut Variables<'s, A>,
     exprs: &'s [Expr<A>],
 ) -> Result<Vec<Term<A>, A>, Memory>
-    ensures trees { IfOk result (λ trees. (scope names.new variables.new, map view trees.items) ≡ in_turn tree_turn (scope names.old variables.old, []) (views exprs.now)) }
+    ensures trees { IfOk result
+        (λ trees. (scope names.new variables.new, map view trees.items)
+        ≡ in_turn tree_turn (scope names.old variables.old, []) (views exprs.now)) }
     ensures grows { Grows names.old names.new }
 {
     let mut trees = Vec::with_capacity(alloc, exprs.len())?;
@@ -104,11 +106,13 @@ fn list<'s, A: Allocator + Copy>(
     variables: &mut Variables<'s, A>,
     items: &'s [Expr<A>],
 ) -> Result<Term<A>, Memory>
-    ensures list { IfOk result (λ tree. (scope names.new variables.new, view tree) ≡ tree_from (scope names.old variables.old) (syntax_list (views items.now) nil)) }
+    ensures list { IfOk result
+        (λ tree. (scope names.new variables.new, view tree)
+        ≡ tree_from (scope names.old variables.old) (syntax_list (views items.now) nil)) }
     ensures grows { Grows names.old names.new }
 {
     let trees = trees(alloc, names, variables, items)?;
-    listed(alloc, trees, Term::Node(Sym::NIL, Vec::new(alloc)))
+    list_of(alloc, trees, Term::Node(Sym::NIL, Vec::new(alloc)))
 }
 
 /// A list with an end of its own.
@@ -120,21 +124,24 @@ fn list_with_end<'s, A: Allocator + Copy>(
     items: &'s [Expr<A>],
     end: &'s Expr<A>,
 ) -> Result<Term<A>, Memory>
-    ensures list { IfOk result (λ tree. (scope names.new variables.new, view tree) ≡ tree_from (scope names.old variables.old) (syntax_list (views items.now) (syntax_view end.now))) }
+    ensures list { IfOk result
+        (λ tree. (scope names.new variables.new, view tree)
+        ≡ tree_from (scope names.old variables.old)
+        (syntax_list (views items.now) (syntax_view end.now))) }
     ensures grows { Grows names.old names.new }
 {
     let trees = trees(alloc, names, variables, items)?;
     let last = tree(alloc, names, variables, end)?;
-    listed(alloc, trees, last)
+    list_of(alloc, trees, last)
 }
 
 /// The list of these trees that ends so.
-fn listed<A: Allocator + Copy>(
+fn list_of<A: Allocator + Copy>(
     alloc: A,
     trees: Vec<Term<A>, A>,
     end: Term<A>,
 ) -> Result<Term<A>, Memory>
-    ensures { IfOk result (λ tree. view tree ≡ listed (map view trees.items) (view end)) }
+    ensures { IfOk result (λ tree. view tree ≡ list_of (map view trees.items) (view end)) }
 {
     let mut trees = trees;
     let mut list = end;
@@ -159,61 +166,36 @@ fn node<A: Allocator + Copy>(
     Ok(Term::Node(sym, args))
 }
 
-/// A chain of `+` and `-`, from the left.
+/// A chain of operators, from the left.
 #[cycle(tree)]
-fn sum<'s, A: Allocator + Copy>(
+fn chain<'s, A: Allocator + Copy>(
     alloc: A,
     names: &mut Names<A>,
     variables: &mut Variables<'s, A>,
     first: &'s Expr<A>,
-    others: &'s [(Additive, Expr<A>)],
+    others: &'s [(Operator, Expr<A>)],
 ) -> Result<Term<A>, Memory>
-    ensures sum { IfOk result (λ tree. (scope names.new variables.new, view tree) ≡ tree_from (scope names.old variables.old) (sums (syntax_view first.now) (operand_views others.now))) }
+    ensures chain { IfOk result (λ tree. (scope names.new variables.new, view tree)
+        ≡ tree_from (scope names.old variables.old)
+        (syntax_chain (syntax_view first.now) (operand_views others.now))) }
     ensures grows { Grows names.old names.new }
 {
     let mut whole = tree(alloc, names, variables, first)?;
     for other in others {
         let right = tree(alloc, names, variables, &other.1)?;
-        whole = node(alloc, additive_symbol(other.0), whole, right)?;
+        whole = node(alloc, operator_symbol(other.0), whole, right)?;
     }
     Ok(whole)
 }
 
-/// A chain of `*`, `//` and `mod`, from the left.
-#[cycle(tree)]
-fn product<'s, A: Allocator + Copy>(
-    alloc: A,
-    names: &mut Names<A>,
-    variables: &mut Variables<'s, A>,
-    first: &'s Expr<A>,
-    others: &'s [(Multiplicative, Expr<A>)],
-) -> Result<Term<A>, Memory>
-    ensures product { IfOk result (λ tree. (scope names.new variables.new, view tree) ≡ tree_from (scope names.old variables.old) (products (syntax_view first.now) (operand_views others.now))) }
-    ensures grows { Grows names.old names.new }
-{
-    let mut whole = tree(alloc, names, variables, first)?;
-    for other in others {
-        let right = tree(alloc, names, variables, &other.1)?;
-        whole = node(alloc, multiplicative_symbol(other.0), whole, right)?;
-    }
-    Ok(whole)
-}
-
-fn additive_symbol(operator: Additive) -> Sym
-    ensures { result.0 ≡ additive_symbol (additive_view operator) }
+fn operator_symbol(operator: Operator) -> Sym
+    ensures { result.0 ≡ operator_symbol (operator_view operator) }
 {
     match operator {
-        Additive::Plus => Sym::PLUS,
-        Additive::Minus => Sym::MINUS,
-    }
-}
-
-fn multiplicative_symbol(operator: Multiplicative) -> Sym
-    ensures { result.0 ≡ multiplicative_symbol (multiplicative_view operator) }
-{
-    match operator {
-        Multiplicative::Times => Sym::TIMES,
-        Multiplicative::Divide => Sym::DIVIDE,
-        Multiplicative::Modulo => Sym::MODULO,
+        Operator::Additive(Additive::Plus) => Sym::PLUS,
+        Operator::Additive(Additive::Minus) => Sym::MINUS,
+        Operator::Multiplicative(Multiplicative::Times) => Sym::TIMES,
+        Operator::Multiplicative(Multiplicative::Divide) => Sym::DIVIDE,
+        Operator::Multiplicative(Multiplicative::Modulo) => Sym::MODULO,
     }
 }

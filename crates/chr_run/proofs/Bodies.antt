@@ -25,7 +25,7 @@ body-append : (ls ms : List (List ℕ)) → body ls ++ body ms ≡ body (ls ++ m
 unfolding body
 body-append ls ms = sym (lines_text-append ls ms)
 
--- a head with the lines behind it is a part
+-- a head with the lines after it is a part
 pub part_joined : (x y z word : List ℕ) (ls : List (List ℕ)) (n : ℕ) → y ≡ x ++ body ((word ++ decimal n) ∷ []) → z ≡ y ++ lines_text ls → n ≡ length ls → z ≡ x ++ body (part word ls)
 part_joined x y z word ls n head lines e =
     lines

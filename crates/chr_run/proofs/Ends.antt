@@ -6,6 +6,7 @@ use Rattle.chr_semantics.specs.State.{State, Status, running, done, failed, faul
 use Rattle.chr_semantics.specs.Step.{step, step_at, after}
 use Rattle.chr_semantics.specs.Trace.{line, line_at}
 use Rattle.chr_semantics.specs.Text.{line_texts, trace, outcome, lines_text, text}
+use Rattle.chr_semantics.proofs.Counts.{after-add}
 use Rattle.chr_machine.specs.MachineView.{MachineModel, Starts, Further, Stops}
 use Rattle.chr_machine.specs.declared.state.Stepped.{Stepped}
 use Rattle.chr_machine.specs.declared.state.Stepped.TheVariants.{Moved, Ended, Spent}
@@ -31,10 +32,6 @@ trace_ended names vars p s k zero h = refl
 trace_ended names vars p s k (suc n) h =
     ap (λ l. line_texts names vars k l ++ trace names vars p (step p s) (k + 1) n) (line_ended p s s.status h)
     ∙ (ap (λ t. trace names vars p t (k + 1) n) (step_ended p s s.status h) ∙ trace_ended names vars p s (k + 1) n h)
-
-after-add : (p : Program) (s : State) (a b : ℕ) → after p s (a + b) ≡ after p (after p s a) b
-after-add p s zero b = let e : 0 + b ≡ b = omega arith in ap (after p s) e
-after-add p s (suc a) b = let e : suc a + b ≡ suc (a + b) = omega arith in ap (after p s) e ∙ after-add p (step p s) a b
 
 trace-add : (names : Names) (vars : VarNames) (p : Program) (s : State) (k a b : ℕ) → trace names vars p s k (a + b) ≡ trace names vars p s k a ++ trace names vars p (after p s a) (k + a) b
 trace-add names vars p s k zero b =

@@ -1,5 +1,5 @@
 -- Bytes that go out in parts.
-use Rattle.std.proofs.Common.{◌≡◌, ◌<◌, ◌+◌, ◌∙◌, ℕ, suc, ◌++◌, List, [], Option, Some, None, refl, ap, sym, map, drop, get_or, length, add-one, append-nil, append_assoc, drop-cons}
+use Rattle.std.proofs.Common.{◌≡◌, ◌<◌, ◌+◌, ◌∙◌, ℕ, ◌++◌, List, [], Option, Some, None, refl, ap, sym, map, drop, get_or, length, add-one, append-nil, append_assoc, drop-cons}
 use Rattle.std.specs.Borrow.{Bor}
 use Rattle.std.specs.List.{concat}
 use Rattle.std.specs.Io.KnownBytes.{Appends, Keeps}

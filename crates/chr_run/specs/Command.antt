@@ -9,7 +9,6 @@ use Rattle.chr_words.specs.Words.{Asks, run, help, refused, asks_of}
 use Rattle.chr_run.specs.ErrorText.{text_error_text}
 use Rattle.chr_run.specs.Output.{AppendsPart}
 use Rattle.chr_run.specs.Texts.{IsTextRun}
-use Rattle.chr_run.specs.declared.error.RunError.{RunError}
 use Rattle.chr_run.specs.declared.error.RunError.TheVariants.{Memory}
 use Rattle.chr_run.specs.declared.error.TextError.{TextError}
 use Rattle.chr_run.specs.declared.error.TextError.TheVariants as error

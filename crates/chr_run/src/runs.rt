@@ -33,8 +33,12 @@ fn text_after<A: Allocator + Copy>(
     requires program { is_thin_program (rules_of program.now) ≡ true }
     requires query { is_thin_query (query_view query) ≡ true }
     requires limit { n ≤ MAX_TRANSITIONS }
-    ensures text { IfOk result (λ ran. ran.1.items ≡ text (names_of program.now) (rules_of program.now) (query_view query) n) }
-    ensures status { IfOk result (λ ran. status_view ran.0 ≡ (after (rules_of program.now) (start (query_view query)) n).status) }
+    ensures text { IfOk result
+        (λ ran. ran.1.items
+        ≡ text (names_of program.now) (rules_of program.now) (query_view query) n) }
+    ensures status { IfOk result
+        (λ ran. status_view ran.0
+        ≡ (after (rules_of program.now) (start (query_view query)) n).status) }
 {
     let mut machine = Machine::start(alloc, program, query)?;
     machine.run_alone(n)?;
@@ -68,7 +72,8 @@ pub fn run_into<A: Allocator + Copy, W: Write>(
 ) -> Result<Status, TextError>
     requires program { is_thin_program (rules_of program.now) ≡ true }
     requires query { is_thin_query (query_view query) ≡ true }
-    ensures { IsInto (names_of program.now) (rules_of program.now) (query_view query) n workers (W.contents writer.old) (W.contents writer.new) result }
+    ensures { IsInto (names_of program.now) (rules_of program.now) (query_view query) n workers
+        (W.contents writer.old) (W.contents writer.new) result }
 {
     if let Err(refused) = check_limits(n, workers) {
         return Err(TextError::Run(refused));
@@ -110,7 +115,9 @@ fn accepted_query<A: Allocator + Copy>(
     program: &mut Program<A>,
     text: &[u8],
 ) -> Result<Query<A>, TextError>
-    ensures ok { IfOk result (λ query. IsAcceptedQuery (checked_view program.old) text.now (names_of program.new) (query_view query)) }
+    ensures ok { IfOk result
+        (λ query. IsAcceptedQuery (checked_view program.old) text.now (names_of program.new)
+        (query_view query)) }
     ensures rules { rules_of program.new ≡ rules_of program.old }
     ensures err { IfErr result (IsQueryError (checked_view program.old) text.now) }
 {
@@ -130,7 +137,9 @@ fn accepted<A: Allocator + Copy>(
     program: &[u8],
     query: &[u8],
 ) -> Result<Texts<A>, TextError>
-    ensures ok { IfOk result (λ t. IsAccepted program.now query.now (names_of t.program) (rules_of t.program) (query_view t.query)) }
+    ensures ok { IfOk result
+        (λ t. IsAccepted program.now query.now (names_of t.program) (rules_of t.program)
+        (query_view t.query)) }
     ensures err { IfErr result (IsTextError program.now query.now) }
 {
     let mut program = match accepted_program(alloc, program) {
@@ -151,7 +160,7 @@ fn is_performed<A: Allocator>(program: &Program<A>, query: &Query<A>) -> bool
 }
 
 /// Reads a program and a query, runs the first n transitions and writes the text of the run. The limits are looked at first, then the
-/// program, then the query. After Write what went out is a first part of that text; after another refusal, want of memory too, nothing
+/// program, then the query. After Write what went out is a first part of that text; after another refusal, `Memory` too, nothing
 /// went out.
 pub fn run_text<A: Allocator + Copy, W: Write>(
     alloc: A,
@@ -161,7 +170,8 @@ pub fn run_text<A: Allocator + Copy, W: Write>(
     workers: u32,
     writer: &mut W,
 ) -> Result<Status, TextError>
-    ensures { IsTextRun program.now query.now n workers (W.contents writer.old) (W.contents writer.new) result }
+    ensures { IsTextRun program.now query.now n workers (W.contents writer.old)
+        (W.contents writer.new) result }
 {
     if let Err(error) = check_limits(n, workers) {
         return Err(TextError::Run(error));

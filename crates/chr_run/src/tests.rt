@@ -140,79 +140,6 @@ fn ground_rule(rt: HostRuntime) {
     shows(rt.alloc(), &rt, &GROUND_RULE, Status::Done, GROUND_TEXT);
 }
 
-#[test]
-fn nothing_to_do(rt: HostRuntime) {
-    let nothing = Case {
-        program: "",
-        query: "true.",
-        budget: 100,
-    };
-    let none = "end done\nstack 0\nstore 0\nbindings 0\nhistory 0\n";
-    shows(rt.alloc(), &rt, &nothing, Status::Done, none);
-    let no_budget = Case {
-        program: ":- chr_constraint p/0.",
-        query: "p.",
-        budget: 0,
-    };
-    let one = "end budget\nstack 1\np\nstore 0\nbindings 0\nhistory 0\n";
-    shows(rt.alloc(), &rt, &no_budget, Status::Running, one);
-}
-
-/// The elements of the stack stand from the top.
-#[test]
-fn budget_used_up(rt: HostRuntime) {
-    let case = Case {
-        program: GROUND_PROGRAM,
-        query: GROUND_QUERY,
-        budget: 1,
-    };
-    let text =
-        "1 activate p(1)#1\nend budget\nstack 2\np(1)#1:1\np(2)\nstore 1\np(1)#1\nbindings 0\nhistory 0\n";
-    shows(rt.alloc(), &rt, &case, Status::Running, text);
-}
-
-#[test]
-fn accepted_texts(rt: HostRuntime) {
-    let fact =
-        "1 activate p#1\n2 drop p#1:1\nend done\nstack 0\nstore 1\np#1\nbindings 0\nhistory 0\n";
-    let named =
-        "1 activate p#1\n2 simplify p#1:1 ä 1\nend done\nstack 0\nstore 0\nbindings 0\nhistory 1\nä 1\n";
-    let unnamed =
-        "1 activate p#1\n2 simplify p#1:1 #1 1\nend done\nstack 0\nstore 0\nbindings 0\nhistory 1\n#1 1\n";
-    let term =
-        "1 activate p(f(a,170141183460469231731687303715884105727))#1\n2 drop p(f(a,170141183460469231731687303715884105727))#1:1\nend done\nstack 0\nstore 1\np(f(a,170141183460469231731687303715884105727))#1\nbindings 0\nhistory 0\n";
-    let open =
-        "1 activate p(X-[Y|X])#1\n2 drop p(X-[Y|X])#1:1\nend done\nstack 0\nstore 1\np(X-[Y|X])#1\nbindings 0\nhistory 0\n";
-    for (program, query, text) in [
-        (
-            "% a line\n:- chr_constraint p/0. /* more */",
-            "p. % end",
-            fact,
-        ),
-        (
-            ":- chr_constraint p/0, p/0.\n:- chr_constraint p/0.",
-            "p.",
-            fact,
-        ),
-        (":- chr_constraint p/0.", "true, p, true.", fact),
-        ("ä @ p <=> true, true.\n:- chr_constraint p/0.", "p.", named),
-        (":-chr_constraint p/0. p<=>true.", " p\n. ", unnamed),
-        (
-            ":- chr_constraint p/1.",
-            "p(f(a,170141183460469231731687303715884105727)).",
-            term,
-        ),
-        (":- chr_constraint p/1.", "p(X-[Y|X]).", open),
-    ] {
-        let case = Case {
-            program,
-            query,
-            budget: 100,
-        };
-        shows(rt.alloc(), &rt, &case, Status::Done, text);
-    }
-}
-
 /// The texts are refused so, and nothing goes out.
 fn refuses(alloc: Global, rt: &impl Abort, program: &[u8], query: &[u8], error: TextError) {
     let mut sink = Sink::open(alloc);
@@ -227,33 +154,6 @@ fn unread(kind: ReadErrorKind, line: u64, column: u64) -> ReadError {
 
 fn mistaken(kind: RuleErrorKind, line: u64, rule: usize) -> RuleError {
     RuleError { kind, line, rule }
-}
-
-/// Accepted, and outside the fragment that the machine performs.
-#[test]
-fn not_yet(rt: HostRuntime) {
-    let declared = ":- chr_constraint p/1.";
-    for (program, query) in [
-        (":- chr_constraint p/1. p(X) <=> true.", "p(1)."),
-        (":- chr_constraint p/1. p(1), p(2) <=> true.", "true."),
-        (":- chr_constraint p/1. p(1) \\ p(2) <=> true.", "p(1)."),
-        (":- chr_constraint p/1. p(1) ==> true.", "p(1)."),
-        (":- chr_constraint p/1. p(1) <=> ground(1) | true.", "p(1)."),
-        (":- chr_constraint p/1. p(1) <=> fail.", "p(1)."),
-        (":- chr_constraint p/1. p(1) <=> p(X).", "p(1)."),
-        (declared, "fail."),
-        (declared, "X = 1."),
-        (declared, "p(1), 1 < 2."),
-    ] {
-        let program = program.as_bytes();
-        refuses(
-            rt.alloc(),
-            &rt,
-            program,
-            query.as_bytes(),
-            TextError::NotYet,
-        );
-    }
 }
 
 /// The program is looked at before the query, and of each the text before its rules or goals.

@@ -52,7 +52,8 @@ fn write_element<A: Allocator>(
     elem: &Elem<A>,
     out: &mut Vec<u8, A>,
 ) -> Result<(), Memory>
-    ensures { OnOk result (out.new.items ≡ out.old.items ++ plain_text names.now vars.now (elem_view elem.now)) }
+    ensures { OnOk result
+        (out.new.items ≡ out.old.items ++ plain_text names.now vars.now (elem_view elem.now)) }
 {
     match elem {
         Elem::Goal(goal) => print_goal(names, vars, goal, out),
@@ -76,7 +77,9 @@ fn write_stack<A: Allocator>(
     stack: &[Elem<A>],
     out: &mut Vec<u8, A>,
 ) -> Result<(), Memory>
-    ensures { OnOk result (out.new.items ≡ out.old.items ++ lines_text (map (plain_text names.now vars.now) (stack_view stack.now))) }
+    ensures { OnOk result
+        (out.new.items ≡ out.old.items
+        ++ lines_text (map (plain_text names.now vars.now) (stack_view stack.now))) }
 {
     for k in (0..stack.len()).rev() {
         write_element(names, vars, &stack[k], out)?;
@@ -106,7 +109,9 @@ fn write_slot<A: Allocator>(
     slot: &Option<Row<A>>,
     out: &mut Vec<u8, A>,
 ) -> Result<(), Memory>
-    ensures { OnOk result (out.new.items ≡ out.old.items ++ lines_text (rows_text names.now vars.now (slot_rows id slot.now))) }
+    ensures { OnOk result
+        (out.new.items ≡ out.old.items
+        ++ lines_text (rows_text names.now vars.now (slot_rows id slot.now))) }
 {
     match slot {
         None => Ok(()),
@@ -125,7 +130,9 @@ fn write_store<A: Allocator>(
     slots: &[Option<Row<A>>],
     out: &mut Vec<u8, A>,
 ) -> Result<(), Memory>
-    ensures { OnOk result (out.new.items ≡ out.old.items ++ lines_text (rows_text names.now vars.now (rows_from 1 slots.now))) }
+    ensures { OnOk result
+        (out.new.items ≡ out.old.items
+        ++ lines_text (rows_text names.now vars.now (rows_from 1 slots.now))) }
 {
     for k in 0..slots.len() {
         write_slot(names, vars, k as u64 + 1, &slots[k], out)?;
@@ -155,7 +162,9 @@ fn write_entry<A: Allocator>(
     entry: &Fired<A>,
     out: &mut Vec<u8, A>,
 ) -> Result<(), Memory>
-    ensures { OnOk result (out.new.items ≡ out.old.items ++ entry_text (rules_of program.now) (fired_view entry.now)) }
+    ensures { OnOk result
+        (out.new.items ≡ out.old.items
+        ++ entry_text (rules_of program.now) (fired_view entry.now)) }
 {
     write_label(program, entry.rule, out)?;
     out.push(b' ')?;
@@ -169,7 +178,9 @@ fn write_history<A: Allocator>(
     history: &[Fired<A>],
     out: &mut Vec<u8, A>,
 ) -> Result<(), Memory>
-    ensures { OnOk result (out.new.items ≡ out.old.items ++ lines_text (map (entry_text (rules_of program.now)) (map fired_view history.now))) }
+    ensures { OnOk result
+        (out.new.items ≡ out.old.items
+        ++ lines_text (map (entry_text (rules_of program.now)) (map fired_view history.now))) }
 {
     for entry in history {
         write_entry(program, entry, out)?;
@@ -198,7 +209,9 @@ fn write_stack_part<A: Allocator>(
     machine: &Machine<'_, A>,
     out: &mut Vec<u8, A>,
 ) -> Result<(), Memory>
-    ensures { let s = machine_view machine.now in OnOk result (out.new.items ≡ out.old.items ++ body (part (codes "stack ") (map (plain_text s.names s.var_names) s.state.stack))) }
+    ensures { let s = machine_view machine.now in OnOk result
+        (out.new.items ≡ out.old.items
+        ++ body (part (codes "stack ") (map (plain_text s.names s.var_names) s.state.stack))) }
 {
     write_head(out, "stack ", machine.stack().len())?;
     let names = machine.program().names();
@@ -211,7 +224,9 @@ fn write_store_part<A: Allocator>(
     machine: &Machine<'_, A>,
     out: &mut Vec<u8, A>,
 ) -> Result<(), Memory>
-    ensures { let s = machine_view machine.now in OnOk result (out.new.items ≡ out.old.items ++ body (part (codes "store ") (rows_text s.names s.var_names s.state.store))) }
+    ensures { let s = machine_view machine.now in OnOk result
+        (out.new.items ≡ out.old.items
+        ++ body (part (codes "store ") (rows_text s.names s.var_names s.state.store))) }
 {
     let slots = machine.store().slots();
     write_head(out, "store ", count_rows(slots))?;
@@ -224,7 +239,9 @@ fn write_history_part<A: Allocator>(
     machine: &Machine<'_, A>,
     out: &mut Vec<u8, A>,
 ) -> Result<(), Memory>
-    ensures { let s = machine_view machine.now in OnOk result (out.new.items ≡ out.old.items ++ body (part (codes "history ") (map (entry_text s.rules) s.state.history))) }
+    ensures { let s = machine_view machine.now in OnOk result
+        (out.new.items ≡ out.old.items
+        ++ body (part (codes "history ") (map (entry_text s.rules) s.state.history))) }
 {
     write_head(out, "history ", machine.history().len())?;
     write_history(machine.program(), machine.history(), out)?;
@@ -234,7 +251,9 @@ fn write_history_part<A: Allocator>(
 #[tactic(auto, unfolding(crate::specs::Body::body))]
 /// Appends the line that says how the run stands.
 fn write_end<A: Allocator>(status: Status, out: &mut Vec<u8, A>) -> Result<(), Memory>
-    ensures { OnOk result (out.new.items ≡ out.old.items ++ body ((codes "end " ++ status_text (status_view status)) ∷ [])) }
+    ensures { OnOk result
+        (out.new.items ≡ out.old.items
+        ++ body ((codes "end " ++ status_text (status_view status)) ∷ [])) }
 {
     write_text(out, "end ")?;
     write_status(status, out)?;
@@ -247,7 +266,9 @@ pub fn text_of<A: Allocator + Copy>(
     alloc: A,
     machine: &Machine<'_, A>,
 ) -> Result<Vec<u8, A>, Memory>
-    ensures { IfOk result (λ text. let s = machine_view machine.now in text.items ≡ lines_text (s.lines ++ outcome s.names s.var_names s.rules s.state)) }
+    ensures { IfOk result
+        (λ text. let s = machine_view machine.now in text.items
+        ≡ lines_text (s.lines ++ outcome s.names s.var_names s.rules s.state)) }
 {
     let mut out = Vec::new(alloc);
     write_lines(&mut out, machine.lines())?;

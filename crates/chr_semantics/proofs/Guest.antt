@@ -164,7 +164,7 @@ pub record HasEntered (touch : Mark → Bool) (keep : ℕ → Bool) (i : ℕ) (b
   pub rows_more : kept_rows keep t ≡ kept_rows keep s ++ (i, b) ∷ []
   pub history_same : t.history ≡ s.history
 
--- a kept row behind the others
+-- a kept row after the others
 pub kept_last : (keep : ℕ → Bool) (i : ℕ) (b : Atom) (xs : List Row) → keep b.sym ≡ true → filter (of_kept keep) (xs ++ (i, b) ∷ []) ≡ filter (of_kept keep) xs ++ (i, b) ∷ []
 kept_last keep i b xs h = filter-append (of_kept keep) xs ((i, b) ∷ []) ∙ ap (λ (c : Bool). filter (of_kept keep) xs ++ cond c ((i, b) ∷ []) []) h
 

@@ -1,4 +1,4 @@
--- A lemma whose name ends in `_at` goes by cases on a test of the lemma behind it, with the equation of the test as an argument.
+-- A lemma whose name ends in `_at` goes by cases on a test of the lemma after it, with the equation of the test as an argument.
 pub mod Lists
 pub mod Instances
 pub mod Apart

@@ -31,12 +31,12 @@ same_atom_true a b h =
     ap (λ (f : ℕ). record { sym = f; args = a.args }) ((Decides-eqb a.sym b.sym).0 r.0) ∙ ap (λ (ts : Trees). record { sym = b.sym; args = ts }) (same_all_true a.args b.args r.1)
 
 mutual
-  same_itself : (t : Tree) → same t t ≡ true
+  pub same_itself : (t : Tree) → same t t ≡ true
   same_itself (var x) = (Decides-eqb x x).1 refl
   same_itself (int z) = (Decides-int_eq z z).1 refl
   same_itself (node f ts) = and_from (f == f) (same_all ts ts) ((Decides-eqb f f).1 refl) (same_all_itself ts)
 
-  same_all_itself : (ts : Trees) → same_all ts ts ≡ true
+  pub same_all_itself : (ts : Trees) → same_all ts ts ≡ true
   same_all_itself none = refl
   same_all_itself (more t ts) = and_from (same t t) (same_all ts ts) (same_itself t) (same_all_itself ts)
 

@@ -6,7 +6,7 @@ use Rattle.chr_semantics.specs.Names.{Names, first_names, symbol_of, with_symbol
 use Rattle.chr_semantics.specs.Program as semantics
 use Rattle.chr_semantics.specs.Tokens as token
 use Rattle.chr_semantics.specs.Syntax as syntax
-use Rattle.chr_semantics.specs.Syntax.{Expr, Exprs, variable, number, call, nil, pair, sum, product, Item, plain, related, Declaration, Part, declares, ignored, rule}
+use Rattle.chr_semantics.specs.Syntax.{Expr, Exprs, variable, number, call, nil, pair, operation, Item, plain, related, Declaration, Part, declares, ignored, rule}
 use Rattle.chr_semantics.specs.Meaning.{fresh_scope, variable_of, call_of, count, in_turn, is_true, is_fail, is_integer_test, is_ground_test, goal_from, head_from, all_heads, has_backslash, propagates, rule_from}
 use Rattle.chr_semantics.specs.declared.limits.TheConstants.{MAX_ARITY, MAX_HEADS, MAX_RULES, MAX_RULE_VARIABLES}
 
@@ -75,35 +75,27 @@ abbrev pub is_no_test : Item → Bool
 is_no_test (plain e) = elim (call_of e) [ None ↦ true | Some c ↦ not (is_true c.0 (count c.1) || (is_integer_test c.0 (count c.1) || is_ground_test c.0 (count c.1))) ]
 is_no_test (related r e f) = elim r [ token.is ↦ true | _ ↦ false ]
 
--- a name stands with more arguments than it may
+-- a variable that is so stands in the expression, or a name whose number of arguments is so
 abbrev mutual
-  pub is_wide : Expr → Bool
-  is_wide (variable w) = false
-  is_wide (number z) = false
-  is_wide (call w es) = nat_lt MAX_ARITY (count es) || are_wide es
-  is_wide nil = false
-  is_wide (pair e f) = is_wide e || is_wide f
-  is_wide (sum o e f) = is_wide e || is_wide f
-  is_wide (product o e f) = is_wide e || is_wide f
+  pub has_part : (List ℕ → Bool) → (ℕ → Bool) → Expr → Bool
+  has_part v n (variable w) = v w
+  has_part v n (number z) = false
+  has_part v n (call w es) = n (count es) || have_part v n es
+  has_part v n nil = false
+  has_part v n (pair e f) = has_part v n e || has_part v n f
+  has_part v n (operation o e f) = has_part v n e || has_part v n f
 
-  pub are_wide : Exprs → Bool
-  are_wide syntax.none = false
-  are_wide (syntax.more e es) = is_wide e || are_wide es
+  pub have_part : (List ℕ → Bool) → (ℕ → Bool) → Exprs → Bool
+  have_part v n syntax.none = false
+  have_part v n (syntax.more e es) = has_part v n e || have_part v n es
+
+-- a name stands with more arguments than it may
+abbrev pub is_wide : Expr → Bool
+is_wide = has_part (λ w. false) (λ n. nat_lt MAX_ARITY n)
 
 -- a variable stands that is none of these
-abbrev mutual
-  pub is_free : List (List ℕ) → Expr → Bool
-  is_free vs (variable w) = is_none (variable_of vs w)
-  is_free vs (number z) = false
-  is_free vs (call w es) = are_free vs es
-  is_free vs nil = false
-  is_free vs (pair e f) = is_free vs e || is_free vs f
-  is_free vs (sum o e f) = is_free vs e || is_free vs f
-  is_free vs (product o e f) = is_free vs e || is_free vs f
-
-  pub are_free : List (List ℕ) → Exprs → Bool
-  are_free vs syntax.none = false
-  are_free vs (syntax.more e es) = is_free vs e || are_free vs es
+abbrev pub is_free : List (List ℕ) → Expr → Bool
+is_free vs = has_part (λ w. is_none (variable_of vs w)) (λ n. false)
 
 -- an expression of the item is so
 abbrev pub on_sides : (Expr → Bool) → Item → Bool
@@ -120,7 +112,7 @@ abbrev pub has_label : Option (List ℕ) → semantics.Program → Bool
 has_label None p = false
 has_label (Some w) p = list_any (λ (r : semantics.Rule). bytes_eq w r.label) p
 
--- what is wrong with a rule behind these, whose number from 1 is the next
+-- what is wrong with a rule after these, whose number from 1 is the next
 abbrev pub error_in_rule : Names → ℕ → semantics.Program → syntax.Rule → Option RuleErrorKind
 error_in_rule names declared earlier r = first_of (
     (list_any (is_undeclared names declared) (head_items r ++ r.body), undeclared) ∷
@@ -181,7 +173,7 @@ declared_only names = record { names = names; declared = length names; rules = [
 abbrev pub checked : syntax.Program → Result Checked RuleError
 checked ps = elim (each declare_in first_names ps) [ Ok names ↦ each rule_in (declared_only names) ps | Err e ↦ Err e ]
 
--- the names behind a query, and what it stands for
+-- the names after a query, and what it stands for
 abbrev pub query_from : Names → List Item → Names × semantics.Query
 query_from names is = let r = in_turn goal_from (fresh_scope names, []) is in (r.0.names, record { goals = r.1; var_names = r.0.variables })
 

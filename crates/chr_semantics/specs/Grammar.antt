@@ -4,7 +4,7 @@ use Rattle.std.specs.Str.{encode_utf8_all}
 use Rattle.chr_semantics.specs.Tokens as token
 use Rattle.chr_semantics.specs.Tokens.{Place, Additive, minus, Multiplicative, Relation, Sign, opens, closes, opens_list, closes_list, comma, bar, label, backslash, hash, simplifies, propagates, slash, stop, Token, name, numeral, additive, multiplicative, relation, sign, over, Placed, at}
 use Rattle.chr_semantics.specs.Syntax as syntax
-use Rattle.chr_semantics.specs.Syntax.{Expr, Exprs, exprs_of, variable, number, call, nil, pair, sum, product, list, Item, plain, related, Head, Arrow, simplification, propagation, Rule, Declaration, Part, ignored, Program, Query}
+use Rattle.chr_semantics.specs.Syntax.{Expr, Exprs, exprs_of, variable, number, call, nil, pair, adding, multiplying, operation, list, Item, plain, related, Head, Arrow, simplification, propagation, Rule, Declaration, Part, ignored, Program, Query}
 use Rattle.chr_semantics.specs.Value.{max_magnitude}
 
 -- a NUMBER without a sign, and the digits of one with a sign
@@ -31,11 +31,11 @@ mutual
   -- operators associate to the left
   pub data IsProduct : List Placed → Expr → Type 0 where
     one_factor : {ts : List Placed} {e : Expr} → IsPrimary ts e → IsProduct ts e
-    more_factors : {ts us : List Placed} {o : Multiplicative} {e f : Expr} (a : Place) → IsProduct ts e → IsPrimary us f → IsProduct (ts ++ at a (multiplicative o) ∷ us) (product o e f)
+    more_factors : {ts us : List Placed} {o : Multiplicative} {e f : Expr} (a : Place) → IsProduct ts e → IsPrimary us f → IsProduct (ts ++ at a (multiplicative o) ∷ us) (operation (multiplying o) e f)
 
   pub data IsSum : List Placed → Expr → Type 0 where
     one_summand : {ts : List Placed} {e : Expr} → IsProduct ts e → IsSum ts e
-    more_summands : {ts us : List Placed} {o : Additive} {e f : Expr} (a : Place) → IsSum ts e → IsProduct us f → IsSum (ts ++ at a (additive o) ∷ us) (sum o e f)
+    more_summands : {ts us : List Placed} {o : Additive} {e f : Expr} (a : Place) → IsSum ts e → IsProduct us f → IsSum (ts ++ at a (additive o) ∷ us) (operation (adding o) e f)
 
   pub data AreExprs : List Placed → List Expr → Type 0 where
     one_expr : {ts : List Placed} {e : Expr} → IsSum ts e → AreExprs ts (e ∷ [])
@@ -70,7 +70,7 @@ abbrev pub arrow_sign : Arrow → Sign
 arrow_sign simplification = simplifies
 arrow_sign propagation = propagates
 
--- what stands behind the arrow: a guard, if there is one, and a body
+-- what stands after the arrow: a guard, if there is one, and a body
 pub data IsBody : List Placed → List Item → List Item → Type 0 where
   no_guard : {ts : List Placed} {is : List Item} → AreItems ts is → IsBody ts [] is
   a_guard : {ts us : List Placed} {gs is : List Item} (a : Place) → AreItems ts gs → AreItems us is → IsBody (ts ++ at a (sign bar) ∷ us) gs is

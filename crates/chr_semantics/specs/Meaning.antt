@@ -1,4 +1,4 @@
--- What rules and queries stand for (Frühwirth 2009, syntax of CHR). Symbols get their numbers by first appearance, behind those that are
+-- What rules and queries stand for (Frühwirth 2009, syntax of CHR). Symbols get their numbers by first appearance, after those that are
 -- known before, and the variables of a rule or a query from 0 by first appearance.
 use Rattle.std.specs.Prelude.{ℕ, ◌+◌, Bool, true, false, ◌&&◌, ◌||◌, ◌==◌, nat_lt, if◌then◌else◌, List, [], ◌∷◌, ◌++◌, length, position, Option, Some, None, is_none, unwrap_or, bytes_eq, codes}
 use Rattle.std.specs.Fmt.{decimal}
@@ -6,9 +6,9 @@ use Rattle.chr_semantics.specs.Names.{Names, nil_symbol, pair_symbol, plus_symbo
 use Rattle.chr_semantics.specs.Tree.{Tree, var, int, node, Trees, none, more}
 use Rattle.chr_semantics.specs.Program.{Atom, Goal, constraint, tell, evaluate, compare, fail, Test, identical, not_unifiable, compares, is_integer, is_ground, less, greater, at_most, at_least, equals, differs, Head, Rule}
 use Rattle.chr_semantics.specs.Tokens as token
-use Rattle.chr_semantics.specs.Tokens.{Additive, plus, minus, Multiplicative, times, divide, modulo, Relation}
+use Rattle.chr_semantics.specs.Tokens.{plus, minus, times, divide, modulo, Relation}
 use Rattle.chr_semantics.specs.Syntax as syntax
-use Rattle.chr_semantics.specs.Syntax.{Expr, Exprs, variable, number, call, nil, pair, sum, product, Item, plain, related, Arrow, simplification, propagation}
+use Rattle.chr_semantics.specs.Syntax.{Expr, Exprs, variable, number, call, nil, pair, Operator, adding, multiplying, operation, Item, plain, related, Arrow, simplification, propagation}
 
 -- the symbols and the variables that were met
 pub record Scope : Type 0 where
@@ -44,27 +44,25 @@ abbrev pub count : Exprs → ℕ
 count syntax.none = 0
 count (syntax.more e es) = count es + 1
 
--- the scope behind a name, and the number of its symbol there
+-- the scope after a name, and the number of its symbol there
 abbrev pub with_name : Scope → List ℕ → ℕ → Scope
 with_name s w n = scope (with_symbol s.names w n) s.variables
 
 abbrev pub symbol_in : Scope → List ℕ → ℕ → ℕ
 symbol_in s w n = unwrap_or (symbol_of s.names w n) 0
 
-abbrev pub additive_symbol : Additive → ℕ
-additive_symbol plus = plus_symbol
-additive_symbol minus = minus_symbol
-
-abbrev pub multiplicative_symbol : Multiplicative → ℕ
-multiplicative_symbol times = times_symbol
-multiplicative_symbol divide = divide_symbol
-multiplicative_symbol modulo = modulo_symbol
+abbrev pub operator_symbol : Operator → ℕ
+operator_symbol (adding plus) = plus_symbol
+operator_symbol (adding minus) = minus_symbol
+operator_symbol (multiplying times) = times_symbol
+operator_symbol (multiplying divide) = divide_symbol
+operator_symbol (multiplying modulo) = modulo_symbol
 
 -- a symbol over two trees
 abbrev pub node_of : ℕ → Tree → Tree → Tree
 node_of f t u = node f (more t (more u none))
 
--- the tree of an expression, and the scope behind it
+-- the tree of an expression, and the scope after it
 abbrev mutual
   pub tree_from : Scope → Expr → Scope × Tree
   tree_from s (variable w) = (scope s.names (with_variable s.variables w), var (variable_in s.variables w))
@@ -72,14 +70,13 @@ abbrev mutual
   tree_from s (call w es) = let t = with_name s w (count es) in let r = trees_from t es in (r.0, node (symbol_in t w (count es)) r.1)
   tree_from s nil = (s, node nil_symbol none)
   tree_from s (pair e f) = let r = tree_from s e in let q = tree_from r.0 f in (q.0, node_of pair_symbol r.1 q.1)
-  tree_from s (sum o e f) = let r = tree_from s e in let q = tree_from r.0 f in (q.0, node_of (additive_symbol o) r.1 q.1)
-  tree_from s (product o e f) = let r = tree_from s e in let q = tree_from r.0 f in (q.0, node_of (multiplicative_symbol o) r.1 q.1)
+  tree_from s (operation o e f) = let r = tree_from s e in let q = tree_from r.0 f in (q.0, node_of (operator_symbol o) r.1 q.1)
 
   pub trees_from : Scope → Exprs → Scope × Trees
   trees_from s syntax.none = (s, none)
   trees_from s (syntax.more e es) = let r = tree_from s e in let q = trees_from r.0 es in (q.0, more r.1 q.1)
 
--- What each element gives, behind what there is, and in the scope that those before it leave.
+-- What each element gives, after what there is, and in the scope that those before it leave.
 abbrev pub with_turn : {X Y : Type 0} → (Scope → X → Scope × List Y) → Scope × List Y → X → Scope × List Y
 with_turn f q x = let r = f q.0 x in (r.0, q.1 ++ r.1)
 
@@ -188,7 +185,7 @@ abbrev pub label_of : ℕ → Option (List ℕ) → List ℕ
 label_of k None = codes "#" ++ decimal k
 label_of k (Some w) = w
 
--- the rule with this number from 1, and the names behind it
+-- the rule with this number from 1, and the names after it
 abbrev pub rule_from : Names → ℕ → syntax.Rule → Names × Rule
 rule_from names k r =
     let hs = in_turn head_from (fresh_scope names, []) (all_heads r) in

@@ -36,7 +36,7 @@ operator_text product f a b = left_text product a ++ (sign_of f ++ right_text pr
 abbrev pub operator_printing : Bool → ℕ → Printing → Printing → Printing
 operator_printing product f a b = record (plain_printing (operator_text product f a b)) { is_sum = not product; is_product = product }
 
--- the arguments behind the first, each with its comma
+-- the arguments after the first, each with its comma
 abbrev pub texts_from : List Printing → List ℕ
 texts_from [] = []
 texts_from (a ∷ others) = byte "," ∷ (a.text ++ texts_from others)

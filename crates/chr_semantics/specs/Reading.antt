@@ -11,7 +11,7 @@ Opens (sign opens) = Unit {0}
 Opens (sign opens_list) = Unit {0}
 Opens _ = ⊥
 
--- how many brackets are open behind a token, and behind several
+-- how many brackets are open after a token, and after several
 abbrev pub next : ℕ → Token → ℕ
 next d (sign opens) = suc d
 next d (sign opens_list) = suc d
@@ -28,7 +28,7 @@ abbrev pub Within : ℕ → List Placed → Type 0
 Within d [] = Unit {0}
 Within d (at p t ∷ ts) = (Opens t → d < MAX_OPEN_BRACKETS) × Within (next d t) ts
 
--- the kinds of errors, beside want of memory
+-- the kinds of errors, besides `Memory`
 pub data ReadErrorKind : Type 0 where
   not_utf8 : ReadErrorKind
   too_long : ReadErrorKind

@@ -2,16 +2,20 @@
 use Rattle.std.specs.Prelude.{ℕ, ℤ, List, [], ◌∷◌, Option, Bool}
 use Rattle.chr_semantics.specs.Tokens.{Additive, Multiplicative, Relation}
 
+-- the operator of a sum, or of a product
+pub data Operator : Type 0 where
+  adding : Additive → Operator
+  multiplying : Multiplicative → Operator
+
 mutual
-  -- a variable, a number, a name with its arguments, `[]`, `[|]` of two, a sum or a product of two
+  -- a variable, a number, a name with its arguments, `[]`, `[|]` of two, or a sum or a product of two
   pub data Expr : Type 0 where
     variable : List ℕ → Expr
     number : ℤ → Expr
     call : List ℕ → Exprs → Expr
     nil : Expr
     pair : Expr → Expr → Expr
-    sum : Additive → Expr → Expr → Expr
-    product : Multiplicative → Expr → Expr → Expr
+    operation : Operator → Expr → Expr → Expr
 
   pub data Exprs : Type 0 where
     none : Exprs
@@ -21,7 +25,7 @@ abbrev pub exprs_of : List Expr → Exprs
 exprs_of [] = none
 exprs_of (e ∷ es) = more e (exprs_of es)
 
--- a list of these elements, and what stands behind the bar
+-- a list of these elements, and what stands after the bar
 abbrev pub list : List Expr → Expr → Expr
 list [] end = end
 list (e ∷ es) end = pair e (list es end)

@@ -42,7 +42,7 @@ known_text names vars a i = atom_text names vars a ++ (byte "#" ∷ decimal i)
 abbrev pub active_text : Names → VarNames → Atom → ℕ → ℕ → List ℕ
 active_text names vars a i j = known_text names vars a i ++ (byte ":" ∷ decimal j)
 
--- the numbers behind the first, each with its comma
+-- the numbers after the first, each with its comma
 abbrev pub more_ids_text : List ℕ → List ℕ
 more_ids_text [] = []
 more_ids_text (i ∷ is) = byte "," ∷ (decimal i ++ more_ids_text is)
@@ -62,7 +62,7 @@ fault_text not_number = codes "type"
 fault_text overflow = codes "overflow"
 fault_text zero_divisor = codes "zero_divisor"
 
--- the line of the k-th transition, behind its number
+-- the line of the k-th transition, after its number
 abbrev pub line_words : Names → VarNames → Line → List ℕ
 line_words names vars (solves g) = codes " solve " ++ goal_text names vars g
 line_words names vars (fails g) = codes " solve " ++ (goal_text names vars g ++ codes " fails")
@@ -120,7 +120,7 @@ entry_text p e = firing_text (label_of (slice_get p e.0)) e.1
 abbrev pub part : List ℕ → List (List ℕ) → List (List ℕ)
 part word ls = (word ++ decimal (length ls)) ∷ ls
 
--- the parts behind the trace: the end, the stack from the top, the store, the bindings, the history
+-- the parts after the trace: the end, the stack from the top, the store, the bindings, the history
 abbrev pub outcome : Names → VarNames → Program → State → List (List ℕ)
 outcome names vars p s =
     (codes "end " ++ status_text s.status)

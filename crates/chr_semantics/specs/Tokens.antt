@@ -58,7 +58,7 @@ pub data Fault : Type 0 where
   too_large : Fault
 
 -- A VARIABLE or a NAME by its characters, a NUMBER by its value and by whether a `-` stands right before it, an operator, a sign; a fault,
--- behind which nothing is read; or the end of the text.
+-- after which nothing is read; or the end of the text.
 pub data Token : Type 0 where
   variable : List ℕ → Token
   name : List ℕ → Token
@@ -122,7 +122,7 @@ word_token w = if is_variable w then variable w else
     if bytes_eq w (codes "mod") then multiplicative modulo else
     name w
 
--- the value of decimal digits behind digits of value n
+-- the value of decimal digits after digits of value n
 abbrev pub digits_value : ℕ → List ℕ → ℕ
 digits_value n [] = n
 digits_value n (c ∷ cs) = digits_value (n * 10 + (c - byte "0")) cs
@@ -162,7 +162,7 @@ piece signed (c ∷ cs) = if is_whitespace c then blank 1 else
     if is_ascii_digit c then number_piece signed (take (run_len is_ascii_digit cs + 1) (c ∷ cs)) else
     sign_piece (c ∷ cs)
 
--- the place behind a character, and behind several
+-- the place after a character, and after several
 abbrev pub after : Place → ℕ → Place
 after p c = if c == byte "\n" then record { line = p.line + 1; column = 1 } else record { line = p.line; column = p.column + 1 }
 
@@ -174,7 +174,7 @@ abbrev pub is_minus : Token → Bool
 is_minus (additive minus) = true
 is_minus _ = false
 
--- The tokens from a piece on, which stands at a place. `behind signed n` are those behind its n characters.
+-- The tokens from a piece on, which stands at a place. `behind signed n` are those after its n characters.
 abbrev pub onward : Place → Piece → (Bool → ℕ → List Placed) → List Placed
 onward p ended behind = at p over ∷ []
 onward p (blank n) behind = behind false n

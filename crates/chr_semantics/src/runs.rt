@@ -207,11 +207,15 @@ pub fn arithmetic()
     ensures type_ends { EndsAfter (evaluating (plus (term 7 []) (number 1))) 1 (faulted not_number) }
     ensures type_word { end_word (evaluating (plus (term 7 []) (number 1))) 1 ≡ codes "fault type" }
     ensures quotient_ends { EndsAfter (evaluating (divided (negative 7) (number 2))) 1 done }
-    ensures quotient_trace { trace_lines (evaluating (divided (negative 7) (number 2))) 1 ≡ codes "1 solve X is -7//2" ∷ [] }
-    ensures quotient { binding_lines (evaluating (divided (negative 7) (number 2))) 1 ≡ codes "X = -3" ∷ [] }
+    ensures quotient_trace { trace_lines (evaluating (divided (negative 7) (number 2))) 1
+        ≡ codes "1 solve X is -7//2" ∷ [] }
+    ensures quotient { binding_lines (evaluating (divided (negative 7) (number 2))) 1
+        ≡ codes "X = -3" ∷ [] }
     ensures remainder_ends { EndsAfter (evaluating (remainder (negative 7) (number 2))) 1 done }
-    ensures remainder_trace { trace_lines (evaluating (remainder (negative 7) (number 2))) 1 ≡ codes "1 solve X is -7 mod 2" ∷ [] }
-    ensures remainder { binding_lines (evaluating (remainder (negative 7) (number 2))) 1 ≡ codes "X = 1" ∷ [] }
+    ensures remainder_trace { trace_lines (evaluating (remainder (negative 7) (number 2))) 1
+        ≡ codes "1 solve X is -7 mod 2" ∷ [] }
+    ensures remainder { binding_lines (evaluating (remainder (negative 7) (number 2))) 1
+        ≡ codes "X = 1" ∷ [] }
 {}
 
 /// A propagation takes the least list of partners first, and each list once.
@@ -332,7 +336,7 @@ pub fn fault_counts()
         ∷ [] }
 {}
 
-/// A list prints with its rest behind a bar, and closed once that is bound.
+/// A list prints with its rest after a bar, and closed once that is bound.
 pub fn list_pattern()
     ensures ends { EndsAfter open_list 5 done }
     ensures line_1 { trace_line open_list 1 ≡ Some (codes "1 activate p([1,2|T])#1") }

@@ -54,19 +54,22 @@ pub fn speculation()
 pub fn late_and_double()
     ensures double { counts_in speculating (published_after 6 (three_answers ++ arrive 0 2 ∷ []) 8) ≡
         record { kept = 3; late = 0; double = 1; used = 2; own = 4 } }
-    ensures late { counts_in speculating (moves 6 ++ replicate 9 publish ++ arrive 0 0 ∷ arrive 1 0 ∷ moves 8) ≡
+    ensures late { counts_in speculating
+        (moves 6 ++ replicate 9 publish ++ arrive 0 0 ∷ arrive 1 0 ∷ moves 8) ≡
         record { kept = 1; late = 1; double = 0; used = 1; own = 5 } }
 {}
 
 /// An answer to a round or a task that is not there is refused, at its place in the schedule.
 pub fn unknown_arrivals()
     ensures round { refusal_in speculating (arrive 0 0 ∷ []) ≡ Some (unknown_round 0) }
-    ensures task { refusal_in speculating (published_after 6 (arrive 0 3 ∷ []) 0) ≡ Some (unknown_task 7) }
+    ensures task { refusal_in speculating (published_after 6 (arrive 0 3 ∷ []) 0)
+        ≡ Some (unknown_task 7) }
 {}
 
 /// The order of the arrivals changes nothing.
 pub fn arrivals_reversed()
-    ensures counts_are { counts_in speculating (published_after 6 (arrive 0 2 ∷ arrive 0 1 ∷ arrive 0 0 ∷ []) 8) ≡
+    ensures counts_are { counts_in speculating
+        (published_after 6 (arrive 0 2 ∷ arrive 0 1 ∷ arrive 0 0 ∷ []) 8) ≡
         record { kept = 3; late = 0; double = 0; used = 2; own = 4 } }
 {}
 
@@ -130,7 +133,8 @@ pub fn binding_touches()
     ensures counts_are { counts_in partner_bound (published_after 3 two_answers 14) ≡
         record { kept = 2; late = 0; double = 0; used = 1; own = 5 } }
     ensures used { used_steps partner_bound (published_after 3 two_answers 14) ≡ 4 ∷ [] }
-    ensures own { own_steps partner_bound (published_after 3 two_answers 14) ≡ 9 ∷ 10 ∷ 13 ∷ 15 ∷ 16 ∷ [] }
+    ensures own { own_steps partner_bound (published_after 3 two_answers 14) ≡ 9 ∷ 10 ∷ 13 ∷ 15 ∷ 16
+        ∷ [] }
     ensures history { history_lines partner_bound 17 ≡ codes "a 2" ∷ codes "r 2,1" ∷ [] }
 {}
 
@@ -141,7 +145,8 @@ pub fn speculation_passive()
     ensures line_13 { trace_line speculating_passive 13 ≡ Some (codes "13 drop act#2:2") }
     ensures counts_are { counts_in speculating_passive (published_after 6 two_answers 7) ≡
         record { kept = 2; late = 0; double = 0; used = 2; own = 3 } }
-    ensures refused { refusal_in speculating_passive (published_after 6 three_answers 7) ≡ Some (unknown_task 9) }
+    ensures refused { refusal_in speculating_passive (published_after 6 three_answers 7)
+        ≡ Some (unknown_task 9) }
 {}
 
 /// What transitions touch, and the footprint of an occurrence with a passive partner. The symbols 7

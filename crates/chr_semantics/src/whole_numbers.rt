@@ -17,25 +17,32 @@ pub fn whole_numbers()
     ensures sum_ends { EndsAfter (evaluating (plus greatest_of_64 (number 1))) 1 done }
     ensures sum_trace { trace_lines (evaluating (plus greatest_of_64 (number 1))) 1 ≡
         codes "1 solve X is 9223372036854775807+1" ∷ [] }
-    ensures sum { binding_lines (evaluating (plus greatest_of_64 (number 1))) 1 ≡ codes "X = 9223372036854775808" ∷ [] }
-    ensures beyond { binding_lines (told_equal (number 9223372036854775808)) 1 ≡ codes "X = 9223372036854775808" ∷ [] }
-    ensures below { binding_lines (told_equal (negative 9223372036854775808)) 1 ≡ codes "X = -9223372036854775808" ∷ [] }
+    ensures sum { binding_lines (evaluating (plus greatest_of_64 (number 1))) 1
+        ≡ codes "X = 9223372036854775808" ∷ [] }
+    ensures beyond { binding_lines (told_equal (number 9223372036854775808)) 1
+        ≡ codes "X = 9223372036854775808" ∷ [] }
+    ensures below { binding_lines (told_equal (negative 9223372036854775808)) 1
+        ≡ codes "X = -9223372036854775808" ∷ [] }
     ensures least_number { binding_lines (told_equal least) 1 ≡
         codes "X = -170141183460469231731687303715884105728" ∷ [] }
     ensures overflow_ends { EndsAfter (evaluating (plus greatest (number 1))) 1 (faulted overflow) }
-    ensures overflow_word { end_word (evaluating (plus greatest (number 1))) 1 ≡ codes "fault overflow" }
+    ensures overflow_word { end_word (evaluating (plus greatest (number 1))) 1
+        ≡ codes "fault overflow" }
     ensures overflow_stack { stack_lines (evaluating (plus greatest (number 1))) 1 ≡
         codes "X is 170141183460469231731687303715884105727+1" ∷ [] }
     ensures quotient_ends { EndsAfter (evaluating (divided least (negative 1))) 1 (faulted overflow) }
-    ensures quotient_word { end_word (evaluating (divided least (negative 1))) 1 ≡ codes "fault overflow" }
+    ensures quotient_word { end_word (evaluating (divided least (negative 1))) 1
+        ≡ codes "fault overflow" }
     ensures remainder_ends { EndsAfter (evaluating (remainder least (negative 1))) 1 done }
-    ensures remainder_is { binding_lines (evaluating (remainder least (negative 1))) 1 ≡ codes "X = 0" ∷ [] }
+    ensures remainder_is { binding_lines (evaluating (remainder least (negative 1))) 1
+        ≡ codes "X = 0" ∷ [] }
 {}
 
 /// Values of terms. The variable is `V`, and the symbol 7 is `a`.
 pub fn values()
     ensures sum { value (plus greatest_of_64 (number 1)) ≡ Ok (pos 9223372036854775808) }
-    ensures quotient { value (divided (negative 9223372036854775808) (negative 1)) ≡ Ok (pos 9223372036854775808) }
+    ensures quotient { value (divided (negative 9223372036854775808) (negative 1))
+        ≡ Ok (pos 9223372036854775808) }
     ensures truncated { value (divided (negative 7) (number 2)) ≡ Ok (negsuc 2) }
     ensures positive_divisor { value (remainder (negative 7) (number 2)) ≡ Ok (pos 1) }
     ensures negative_divisor { value (remainder (number 7) (negative 2)) ≡ Ok (negsuc 0) }

@@ -10,3 +10,4 @@ pub mod Joined
 pub mod Extensions
 pub mod Signs
 pub mod FirstNames
+pub mod Shapes

@@ -1,4 +1,4 @@
--- Tests for parentheses, from tests of the operand that were made in turn.
+-- A test of two parts, which were tested in turn.
 use Rattle.std.proofs.Common.{◌≡◌, Bool, true, false, ◌&&◌, ◌||◌, sym, ap, ◌∙◌}
 
 pub and_after : (both asked b : Bool) → asked ≡ true → both ≡ b → both ≡ (asked && b)

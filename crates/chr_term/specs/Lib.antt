@@ -5,3 +5,4 @@ pub mod Entries
 pub mod Arguments
 pub mod Extension
 pub mod Printer
+pub mod Shapes

@@ -2,10 +2,11 @@
 //! The printer of terms. Where memory is refused, the text begins with what it was before.
 ghost use Rattle.std.specs.Prelude.{◌≡◌, ◌&&◌, ◌||◌, ◌++◌, ◌∷◌, [], OnOk};
 ghost use Rattle.chr_semantics.specs.Names.{var_text};
-ghost use Rattle.chr_semantics.specs.Print.{call_text, in_parentheses, operator_text};
+ghost use Rattle.chr_semantics.specs.Print.{call_text, in_parentheses, list_printing, operator_text};
 ghost use Rattle.chr_semantics.specs.Print.{pair_printing, printing_of, sign_of, texts_from};
 ghost use Rattle.chr_term.specs.Arguments.{AreArguments};
 ghost use Rattle.chr_term.specs.Extension.{IsExtension};
+ghost use Rattle.chr_term.specs.Shapes.{is_product_shape, is_sum_shape, shaped_printing};
 ghost use Rattle.chr_term.specs.TermView.{view};
 
 use crate::writing::{write_byte, write_bytes, write_integer, write_number};
@@ -31,56 +32,64 @@ fn by_number<T: Allocator>(args: &[Term<T>]) -> Arguments<'_, T>
     }
 }
 
-/// Whether the term is `+` or `-` over two arguments.
-fn is_sum<T: Allocator>(term: &Term<T>) -> bool
-    ensures { (names : _) (vars : _) →
-        result ≡ (printing_of names vars (view term.now)).is_sum }
+/// How a symbol stands with two arguments.
+#[derive(Clone, Copy, Drop)]
+enum Shape {
+    /// `[left|right]`
+    List,
+    /// `+` or `-` between them
+    Sum,
+    /// `*`, `//` or `mod` between them
+    Product,
+    /// a name before them
+    Call,
+}
+
+/// The shape that a symbol has with two arguments.
+fn shape_with_two(sym: Sym) -> Shape
+    ensures { (names : _) (left right : _) →
+        pair_printing names sym.0 left right ≡ shaped_printing result names sym.0 left right }
+{
+    if sym == Sym::CONS {
+        Shape::List
+    } else if sym == Sym::PLUS || sym == Sym::MINUS {
+        Shape::Sum
+    } else if sym == Sym::TIMES || sym == Sym::DIVIDE || sym == Sym::MODULO {
+        Shape::Product
+    } else {
+        Shape::Call
+    }
+}
+
+/// The shape of a term with two arguments; any other has that of a call.
+fn shape_of<T: Allocator>(term: &Term<T>) -> Shape
+    ensures sum { (names : _) (vars : _) →
+        is_sum_shape result ≡ (printing_of names vars (view term.now)).is_sum }
+    ensures product { (names : _) (vars : _) →
+        is_product_shape result ≡ (printing_of names vars (view term.now)).is_product }
 {
     match term {
-        Term::Var(_) => false,
-        Term::Int(_) => false,
+        Term::Var(_) => Shape::Call,
+        Term::Int(_) => Shape::Call,
         Term::Node(sym, args) => match by_number(args.as_slice()) {
-            Arguments::Zero => false,
-            Arguments::One(_) => false,
-            Arguments::Two(_, _) => {
-                if *sym == Sym::CONS {
-                    false
-                } else if *sym == Sym::PLUS || *sym == Sym::MINUS {
-                    true
-                } else {
-                    false
-                }
-            }
-            Arguments::Many(_, _, _, _) => false,
+            Arguments::Zero => Shape::Call,
+            Arguments::One(_) => Shape::Call,
+            Arguments::Two(_, _) => shape_with_two(*sym),
+            Arguments::Many(_, _, _, _) => Shape::Call,
         },
     }
 }
 
-/// Whether the term is `*`, `//` or `mod` over two arguments.
-fn is_product<T: Allocator>(term: &Term<T>) -> bool
-    ensures { (names : _) (vars : _) →
-        result ≡ (printing_of names vars (view term.now)).is_product }
+fn is_sum(shape: Shape) -> bool
+    ensures { result ≡ is_sum_shape shape }
 {
-    match term {
-        Term::Var(_) => false,
-        Term::Int(_) => false,
-        Term::Node(sym, args) => match by_number(args.as_slice()) {
-            Arguments::Zero => false,
-            Arguments::One(_) => false,
-            Arguments::Two(_, _) => {
-                if *sym == Sym::CONS {
-                    false
-                } else if *sym == Sym::PLUS || *sym == Sym::MINUS {
-                    false
-                } else if *sym == Sym::TIMES || *sym == Sym::DIVIDE || *sym == Sym::MODULO {
-                    true
-                } else {
-                    false
-                }
-            }
-            Arguments::Many(_, _, _, _) => false,
-        },
-    }
+    matches!(shape, Shape::Sum)
+}
+
+fn is_product(shape: Shape) -> bool
+    ensures { result ≡ is_product_shape shape }
+{
+    matches!(shape, Shape::Product)
 }
 
 /// Whether the left operand of a product, or else of a sum, stands in parentheses.
@@ -88,7 +97,7 @@ fn wraps_left<T: Allocator>(product: bool, term: &Term<T>) -> bool
     ensures { (names : _) (vars : _) →
         result ≡ (product && (printing_of names vars (view term.now)).is_sum) }
 {
-    product && is_sum(term)
+    product && is_sum(shape_of(term))
 }
 
 /// Whether the right operand of a product, or else of a sum, stands in parentheses.
@@ -97,7 +106,8 @@ fn wraps_right<T: Allocator>(product: bool, term: &Term<T>) -> bool
         let printing = printing_of names vars (view term.now) in
         result ≡ (printing.is_sum || (product && printing.is_product)) }
 {
-    is_sum(term) || (product && is_product(term))
+    let shape = shape_of(term);
+    is_sum(shape) || (product && is_product(shape))
 }
 
 /// What the printing reads.
@@ -206,18 +216,29 @@ impl<N: Allocator, V: Allocator> Printer<'_, N, V> {
             (printing_by self.now left.now) (printing_by self.now right.now)).text) }
         ensures kept { IsExtension out.old.items out.new.items }
     {
-        if sym == Sym::CONS {
-            write_byte(b'[', out)?;
-            self.write(left, out)?;
-            return self.write_tail(right, out);
+        match shape_with_two(sym) {
+            Shape::List => self.write_list(left, right, out),
+            Shape::Sum => self.write_operator(false, sym, left, right, out),
+            Shape::Product => self.write_operator(true, sym, left, right, out),
+            Shape::Call => self.write_two(sym, left, right, out),
         }
-        if sym == Sym::PLUS || sym == Sym::MINUS {
-            return self.write_operator(false, sym, left, right, out);
-        }
-        if sym == Sym::TIMES || sym == Sym::DIVIDE || sym == Sym::MODULO {
-            return self.write_operator(true, sym, left, right, out);
-        }
-        self.write_two(sym, left, right, out)
+    }
+
+    /// A list, by its first element and the rest.
+    #[cycle(write)]
+    fn write_list<T: Allocator, O: Allocator>(
+        &self,
+        first: &Term<T>,
+        rest: &Term<T>,
+        out: &mut Vec<u8, O>,
+    ) -> Result<(), Memory>
+        ensures ok { OnOk result (out.new.items ≡ out.old.items ++ (list_printing
+            (printing_by self.now first.now) (printing_by self.now rest.now)).text) }
+        ensures kept { IsExtension out.old.items out.new.items }
+    {
+        write_byte(b'[', out)?;
+        self.write(first, out)?;
+        self.write_tail(rest, out)
     }
 
     /// A name with two arguments.

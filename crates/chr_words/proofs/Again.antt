@@ -1,4 +1,4 @@
--- A second `--budget` is refused, whatever stands behind it.
+-- A second `--budget` is refused, whatever stands after it.
 use Rattle.std.proofs.Common.{◌≡◌, ◌∙◌, ◌&&◌, ℕ, Bool, true, false, cond, refl, ap, List, [], ◌∷◌, Option, Some, None, codes}
 use Rattle.std.specs.Prelude.{slice_get}
 use Rattle.std.specs.Str.{bytes_eq, chars}

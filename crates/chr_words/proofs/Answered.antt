@@ -55,7 +55,7 @@ abbrev is_help : ErrorKind → Bool
 is_help kind.DisplayHelp = true
 is_help _ = false
 
--- an error that is not for want of memory has the kind of the fault
+-- an error that is not `Memory` has the kind of the fault
 kind_among : (kinds : Kinds) (k : ErrorKind) → (k ≡ kind.OutOfMemory) ⊎ IsAmong k kinds → is_memory k ≡ false → IsAmong k kinds
 kind_among kinds k (inl e) not_memory = absurd (true≢false (sym (ap is_memory e) ∙ not_memory))
 kind_among kinds k (inr among) not_memory = among

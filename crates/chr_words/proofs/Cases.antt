@@ -117,7 +117,7 @@ letter_walk_by waiting position rows pending word k flags c =
     after_step rules word (at false waiting position rows pending) after.0 after.1
 
 module _ (waiting : Waiting) (position : ℕ) (rows : List Row) (pending : Option (Text × List Text)) (word : Text) where
-  -- no letter stands behind the hyphen
+  -- no letter stands after the hyphen
   pub no_letter_fault : (flags : Text) → slice_get (chars flags) 0 ≡ None → short_fault_by waiting position (held_at rows pending) word (Some flags) ≡ plain_fault_by waiting position (held_at rows pending) word
   unfolding flags_fault bundle_met
   no_letter_fault [] none = refl

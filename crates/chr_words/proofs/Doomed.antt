@@ -29,7 +29,7 @@ module _ (position : ℕ) (rows : List Row) (pending : Option (Text × List Text
       let f = place_fails position (held_at rows pending) k is wrong in
       record { kind = f.0; is = f.1; wrong = f.2 }
 
-  -- behind `--`
+  -- after `--`
   pub doomed_behind : (waiting : Waiting) (words : List Text) → are_wrong (fault_at (at true waiting position rows pending) words) ≡ true
   doomed_behind waiting [] = ends_so true waiting
   doomed_behind waiting (word ∷ words) = wrong_turn _ word words (step_fault top position (held_at rows pending) value) refl no_place

@@ -1,4 +1,4 @@
--- The words that `chr` takes, as `clap` is told of them.
+-- The words that `chr` takes, as `clap` knows them.
 use Rattle.std.specs.Prelude.{true, codes, Some}
 use Rattle.clap.specs.Words.{App, Rule, new_app, new_rule, with_rule}
 use Rattle.clap.specs.Simple.{on_top}

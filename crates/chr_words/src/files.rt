@@ -18,7 +18,9 @@ pub trait Opens {
     ghost bytes_of: { Self → List ℕ → Option (List ℕ) };
 
     fn open(&self, path: &str) -> io::Result<Self::File>
-        ensures { IfOk result (λ file. IfSome (bytes_of self.now path.now) (λ bytes. Self.File.remaining file ≡ Some bytes)) };
+        ensures { IfOk result
+            (λ file. IfSome (bytes_of self.now path.now)
+            (λ bytes. Self.File.remaining file ≡ Some bytes)) };
 }
 
 /// The files of the system, of whose bytes nothing is known.
@@ -37,7 +39,8 @@ impl<R: Files> Opens for Disk<'_, R> {
 
 /// All that the input has left, or none where it cannot be read: a read fails, so many reads do not reach its end, or there is no memory for it.
 pub fn read_all<R: Read>(alloc: Global, input: &mut R) -> Option<Vec<u8>>
-    ensures bytes { IfSome result (λ bytes. Consumes (R.remaining input.old) (R.remaining input.new) bytes.items) }
+    ensures bytes { IfSome result
+        (λ bytes. Consumes (R.remaining input.old) (R.remaining input.new) bytes.items) }
     ensures end { IfSome result (λ bytes. IsAtEnd (R.remaining input.new)) }
 {
     let mut bytes = Vec::new(alloc);
@@ -54,7 +57,8 @@ pub fn read_all<R: Read>(alloc: Global, input: &mut R) -> Option<Vec<u8>>
 
 /// The bytes of the file of a path, or none where it cannot be opened or read.
 pub fn read_file<O: Opens>(alloc: Global, opens: &O, path: &str) -> Option<Vec<u8>>
-    ensures { IfSome result (λ bytes. IfSome (O.bytes_of opens.now path.now) (λ whole. bytes.items ≡ whole)) }
+    ensures { IfSome result
+        (λ bytes. IfSome (O.bytes_of opens.now path.now) (λ whole. bytes.items ≡ whole)) }
 {
     let mut file = opens.open(path).ok()?;
     read_all(alloc, &mut file)

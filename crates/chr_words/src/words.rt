@@ -91,7 +91,8 @@ fn refusal_of<'a>(alloc: Global, error: &Error) -> Result<Request<'a>, AllocErro
 pub fn asked<'a>(alloc: Global, words: &'a [String]) -> Result<Request<'a>, AllocError>
     ensures asks { IfOk result (IsAnswer (map string_bytes words.entry.now)) }
     ensures no_words { words.entry.now ≡ [] → IfOk result (IsRun None None 100000) }
-    ensures two_words { (p q : List ℕ) → map string_bytes words.entry.now ≡ p ∷ q ∷ [] → is_plain p ≡ true → is_plain q ≡ true
+    ensures two_words { (p q : List ℕ) → map string_bytes words.entry.now ≡ p ∷ q ∷ [] → is_plain p
+        ≡ true → is_plain q ≡ true
         → IfOk result (IsRun (Some p) (Some q) 100000) }
 {
     match chr_command(alloc)?.try_get_matches_from(words) {

@@ -24,38 +24,27 @@ fn with_commas<'e, A: Allocator>(
     Ok(())
 }
 
-/// A chain of sums, flat, up to its brace.
-fn sums<'e, A: Allocator>(
-    pieces: &mut Vec<Piece<'e, A>>,
-    first: &'e Expr<A>,
-    others: &'e [(Additive, Expr<A>)],
-) -> Result<(), Memory> {
-    pieces.push(Piece::Text("}"))?;
-    for (operator, operand) in others.iter().rev() {
-        pieces.push(Piece::Expr(operand))?;
-        pieces.push(Piece::Text(match operator {
-            Additive::Plus => "+",
-            Additive::Minus => "-",
-        }))?;
+/// An operator as it is written.
+fn sign(operator: Operator) -> &'static str {
+    match operator {
+        Operator::Additive(Additive::Plus) => "+",
+        Operator::Additive(Additive::Minus) => "-",
+        Operator::Multiplicative(Multiplicative::Times) => "*",
+        Operator::Multiplicative(Multiplicative::Divide) => "//",
+        Operator::Multiplicative(Multiplicative::Modulo) => " mod ",
     }
-    pieces.push(Piece::Expr(first))?;
-    Ok(())
 }
 
-/// The same of products.
-fn products<'e, A: Allocator>(
+/// A chain, flat, up to its brace.
+fn chain<'e, A: Allocator>(
     pieces: &mut Vec<Piece<'e, A>>,
     first: &'e Expr<A>,
-    others: &'e [(Multiplicative, Expr<A>)],
+    others: &'e [(Operator, Expr<A>)],
 ) -> Result<(), Memory> {
     pieces.push(Piece::Text("}"))?;
     for (operator, operand) in others.iter().rev() {
         pieces.push(Piece::Expr(operand))?;
-        pieces.push(Piece::Text(match operator {
-            Multiplicative::Times => "*",
-            Multiplicative::Divide => "//",
-            Multiplicative::Modulo => " mod ",
-        }))?;
+        pieces.push(Piece::Text(sign(*operator)))?;
     }
     pieces.push(Piece::Expr(first))?;
     Ok(())
@@ -91,12 +80,8 @@ fn show_first<'e, A: Allocator>(
             with_commas(pieces, items)?;
             shown.push_str("[")?;
         }
-        Expr::Sum(first, others) => {
-            sums(pieces, first, others)?;
-            shown.push_str("{")?;
-        }
-        Expr::Product(first, others) => {
-            products(pieces, first, others)?;
+        Expr::Chain(first, others) => {
+            chain(pieces, first, others)?;
             shown.push_str("{")?;
         }
     }

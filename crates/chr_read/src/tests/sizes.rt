@@ -13,13 +13,13 @@ fn is_list(answer: &Result<QuerySyntax, ReadError>, count: usize) -> bool {
     }
 }
 
-/// Whether a query was read that is one sum of so many terms after the first.
-fn is_sum(answer: &Result<QuerySyntax, ReadError>, count: usize) -> bool {
+/// Whether a query was read that is one chain of so many terms after the first.
+fn is_chain(answer: &Result<QuerySyntax, ReadError>, count: usize) -> bool {
     let Ok(query) = answer else {
         return false;
     };
     match query.items.as_slice() {
-        [Item::Plain(Expr::Sum(_, others))] => others.len() == count,
+        [Item::Plain(Expr::Chain(_, others))] => others.len() == count,
         _ => false,
     }
 }
@@ -42,7 +42,7 @@ fn long_texts(rt: HostRuntime) -> Result<(), Fail> {
     let text = framed(alloc, ("X = [", "1", "]."), ("1,", 99_999), none)?;
     assert!(&rt; is_list(&read_query(alloc, &text), 100_000));
     let text = framed(alloc, ("1", "", "."), ("+1", 99_999), none)?;
-    assert!(&rt; is_sum(&read_query(alloc, &text), 99_999));
+    assert!(&rt; is_chain(&read_query(alloc, &text), 99_999));
     let text = framed(alloc, ("", "", ""), ("p <=> q.\n", 20_000), none)?;
     assert!(&rt; ends_in(&read_program(alloc, &text), 20_000, 20_000));
     Ok(())

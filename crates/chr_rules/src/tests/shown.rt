@@ -62,7 +62,7 @@ impl<A: Allocator> Shower<'_, A> {
     fn goal(&mut self, goal: &Goal<A>) -> Result<(), Memory> {
         match goal {
             Goal::Chr(sym, args) => self.atom(*sym, args),
-            Goal::Told(op, left, right) => {
+            Goal::BuiltIn(op, left, right) => {
                 let sign = match op {
                     Op::Unify => " = ",
                     Op::Is => " is ",

@@ -126,7 +126,7 @@ fn program_read_errors(rt: HostRuntime) -> Result<(), Fail> {
     )
 }
 
-/// Rules behind the first line, the fault that is found, and its line and rule.
+/// Rules after the first line, the fault that is found, and its line and rule.
 const MISTAKES: [(&str, &str); 14] = [
     ("X ==> p.", "line 2 rule 1: NotAGoal"),
     ("p <=> z.", "line 2 rule 1: Undeclared"),

@@ -34,7 +34,7 @@ trace_lines e n = trace (names e.symbols) e.query.var_names e.program (start e.q
 abbrev pub trace_line : Example → ℕ → Option (List ℕ)
 trace_line e k = slice_get (trace_lines e k) (k - 1)
 
--- what stands behind the trace, line by line
+-- what stands after the trace, line by line
 abbrev pub outcome_lines : Example → ℕ → List (List ℕ)
 outcome_lines e n = outcome (names e.symbols) e.query.var_names e.program (state_after e n)
 

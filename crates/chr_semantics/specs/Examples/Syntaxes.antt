@@ -2,7 +2,7 @@
 use Rattle.std.specs.Prelude.{ℕ, pos, false, List, [], ◌∷◌, map, replicate, Some, None, Result, Err, codes}
 use Rattle.chr_semantics.specs.Tokens as token
 use Rattle.chr_semantics.specs.Tokens.{minus, Relation}
-use Rattle.chr_semantics.specs.Syntax.{Expr, exprs_of, variable, number, call, sum, Item, plain, related, Head, Arrow, simplification, Rule, Declaration, Part, declares, rule, Program, Query}
+use Rattle.chr_semantics.specs.Syntax.{Expr, exprs_of, variable, number, call, adding, operation, Item, plain, related, Head, Arrow, simplification, Rule, Declaration, Part, declares, rule, Program, Query}
 use Rattle.chr_semantics.specs.Checked.{RuleErrorKind, RuleError, Checked}
 
 -- a name alone, and a name over one expression
@@ -19,7 +19,7 @@ head i = record { item = i; passive = false }
 abbrev pub plain_rule : List Item → Arrow → List Item → Rule
 plain_rule hs a bs = record { label = None; heads = map head hs; behind = []; arrow = a; guard = []; body = bs }
 
--- a rule with one head before its `\` and one behind it
+-- a rule with one head before its `\` and one after it
 abbrev pub kept_and_removed : Item → Item → Arrow → Item → Rule
 kept_and_removed h j a b = record { label = None; heads = head h ∷ []; behind = head j ∷ []; arrow = a; guard = []; body = b ∷ [] }
 
@@ -44,7 +44,7 @@ gcd_syntax =
       behind = head (over (codes "gcd") (variable (codes "M"))) ∷ [];
       arrow = simplification;
       guard = related token.at_least (variable (codes "M")) (variable (codes "N")) ∷ [];
-      body = related token.is (variable (codes "L")) (sum minus (variable (codes "M")) (variable (codes "N"))) ∷ over (codes "gcd") (variable (codes "L")) ∷ [];
+      body = related token.is (variable (codes "L")) (operation (adding minus) (variable (codes "M")) (variable (codes "N"))) ∷ over (codes "gcd") (variable (codes "L")) ∷ [];
     })
     ∷ []
 
@@ -52,7 +52,7 @@ gcd_syntax =
 abbrev pub gcd_query : Query
 gcd_query = record { line = 1; items = over (codes "gcd") (number (pos 4)) ∷ over (codes "gcd") (number (pos 2)) ∷ [] }
 
--- two rules behind `:- chr_constraint p/0, q/0, r/0, t/1.`, in the second line and in the third
+-- two rules after `:- chr_constraint p/0, q/0, r/0, t/1.`, in the second line and in the third
 abbrev pub declared : Part
 declared = declares 1 (symbol (codes "p") 0 ∷ symbol (codes "q") 0 ∷ symbol (codes "r") 0 ∷ symbol (codes "t") 1 ∷ [])
 

@@ -15,7 +15,7 @@ Options:
   -h, --help        Print help
 ";
 
-/// What stands behind most reasons.
+/// What follows most reasons.
 const USAGE: &str = "
 
 Usage: chr [OPTIONS] [PROGRAM] [QUERY]

@@ -1,5 +1,4 @@
 use Rattle.std.proofs.Common.{◌∙◌, ◌∷◌, ◌++◌, [], None, Some, ap, arith, sym}
-use Rattle.chr_semantics.specs.Syntax.{product, sum}
 use Rattle.chr_tokens.specs.TokenView.{additive_view, multiplicative_view, placed_views}
 use Rattle.chr_read.specs.Automaton.{elements, have, limited_room, run}
 use Rattle.chr_read.specs.Reads.{elements_verdict}
@@ -37,7 +36,7 @@ product-loop-operator-preserved g t c =
       reads = λ s k h. c.loop-operator.invariant.reads s k h
           ∙ ap (run limited_room (have s _ k)) c.in-Some.ensures.first.are
           ∙ c.in_ok-operand.ensures.reads (record { sum = s; product = Some (_, operator) }) k h
-          ∙ ap (λ e. run limited_room (have s e k) (placed_views c.in_ok-operand.others.now)) (chain_grown (λ o. product (multiplicative_view o)) _ _ _ _ c.in_ok-push.ensures.items);
+          ∙ ap (λ e. run limited_room (have s e k) (placed_views c.in_ok-operand.others.now)) (chain_grown _ _ _ _ c.in_ok-push.ensures.items);
       shorter = omega (arith, c.loop-operator.invariant.shorter, c.in-Some.ensures.shorter, c.in_ok-operand.ensures.shorter);
     }
 
@@ -49,7 +48,7 @@ sum-loop-operator-preserved g t c =
           ∙ ap (run limited_room (have None _ k)) c.in-Some.ensures.first.are
           ∙ c.in_ok-operand.ensures.reads (Some (_, operator)) k h
           ∙ sum_settles (Some (_, operator)) (view c.in_ok-operand.operand) k (placed_views c.in_ok-operand.others.now) c.in_ok-operand.ensures.no_product
-          ∙ ap (λ e. run limited_room (have None e k) (placed_views c.in_ok-operand.others.now)) (chain_grown (λ o. sum (additive_view o)) _ _ _ _ c.in_ok-push.ensures.items);
+          ∙ ap (λ e. run limited_room (have None e k) (placed_views c.in_ok-operand.others.now)) (chain_grown _ _ _ _ c.in_ok-push.ensures.items);
       shorter = omega (arith, c.loop-operator.invariant.shorter, c.in-Some.ensures.shorter, c.in_ok-operand.ensures.shorter);
       no_product = c.in_ok-operand.ensures.no_product;
     }

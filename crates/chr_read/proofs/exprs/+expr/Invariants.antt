@@ -2,7 +2,7 @@ use Rattle.std.proofs.Common.{◌≡◌, ◌+◌, ◌*◌, ◌<◌, List, [], �
 use Rattle.chr_semantics.specs.Tokens.{Additive}
 use Rattle.chr_semantics.specs.Syntax as syntax
 use Rattle.chr_tokens.specs.TokenView.{placed_views}
-use Rattle.chr_read.specs.SyntaxView.{operand_views, products, sums, view, views}
+use Rattle.chr_read.specs.SyntaxView.{chain, operand_views, view, views}
 use Rattle.chr_read.specs.Automaton.{Prefix, Frame, Container, elements, want, have, no_prefix, run, limited_room}
 use Rattle.chr_read.specs.Reads.{Leaves, NoAdditive, NoMultiplicative}
 use Rattle.chr_read.proofs.exprs.+expr.Given as goal
@@ -30,7 +30,7 @@ decreases-elements g l = l.room * 8 + 6
 
 abbrev pub invariant-product-loop-operator : goal.invariant-product-loop-operator
 invariant-product-loop-operator g l = record {
-  reads : (s : Option (syntax.Expr × Additive)) (k : List Frame) → Leaves l.room k → run limited_room (want (record { sum = s; product = None }) k) (placed_views l.fn.text) ≡ run limited_room (have s (products (view l.first) (operand_views l.operands.items)) k) (placed_views l.rest);
+  reads : (s : Option (syntax.Expr × Additive)) (k : List Frame) → Leaves l.room k → run limited_room (want (record { sum = s; product = None }) k) (placed_views l.fn.text) ≡ run limited_room (have s (chain (view l.first) (operand_views l.operands.items)) k) (placed_views l.rest);
   shorter : length l.rest < length l.fn.text;
 }
 
@@ -39,7 +39,7 @@ decreases-product-loop-operator g l = length l.rest
 
 abbrev pub invariant-sum-loop-operator : goal.invariant-sum-loop-operator
 invariant-sum-loop-operator g l = record {
-  reads : (k : List Frame) → Leaves l.room k → run limited_room (want no_prefix k) (placed_views l.fn.text) ≡ run limited_room (have None (sums (view l.first) (operand_views l.operands.items)) k) (placed_views l.rest);
+  reads : (k : List Frame) → Leaves l.room k → run limited_room (want no_prefix k) (placed_views l.fn.text) ≡ run limited_room (have None (chain (view l.first) (operand_views l.operands.items)) k) (placed_views l.rest);
   shorter : length l.rest < length l.fn.text;
   no_product : NoMultiplicative (placed_views l.rest);
 }

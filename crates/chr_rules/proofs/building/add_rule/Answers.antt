@@ -2,7 +2,7 @@ use Rattle.std.proofs.Common.{◌∙◌, ◌+◌, [], ◌∷◌, ◌++◌, Ok, a
 use Rattle.std.proofs.lemmas.List.{map-append}
 use Rattle.chr_semantics.specs.Checked.{error_in_rule, unless, with_rule}
 use Rattle.chr_read.specs.SyntaxView.{rule_view as syntax_rule}
-use Rattle.chr_rules.specs.Building.{IsPlaced, checked_of, unless_mistaken}
+use Rattle.chr_rules.specs.Building.{IsPlaced, checked_of, with_rule_in_line}
 use Rattle.chr_rules.specs.Checks.{IsFault}
 use Rattle.chr_rules.specs.RuleView.{rule_view, rules_view}
 use Rattle.chr_rules.proofs.Placed.{placed}
@@ -14,7 +14,7 @@ returns-in_ok-push-in-Ok-clause-accepted g c =
     let r = syntax_rule c.args.written.now in
     let earlier = rules_view c.as_slice-2.result.now in
     let here = checked_of c.args.names.now d earlier in
-    ap (λ rs. unless_mistaken (checked_of c.args.names.now d (rules_view rs)) c.args.line r) (sym c.as_slice-2.ensures.value)
+    ap (λ rs. with_rule_in_line (checked_of c.args.names.now d (rules_view rs)) c.args.line r) (sym c.as_slice-2.ensures.value)
     ∙ ap (λ m. unless m c.args.line (length earlier + 1) (with_rule here r)) c.in-Ok.ensures.accepted
     ∙ ap (λ q. Ok (checked_of q.0 d (earlier ++ q.1 ∷ []))) (sym c.in-Ok.ensures.rule)
     ∙ ap (λ rs. Ok (checked_of c.rule.new.names d (rules_view rs ++ rule_view c.in-Ok.made ∷ []))) c.as_slice-2.ensures.value

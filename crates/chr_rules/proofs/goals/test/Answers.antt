@@ -6,6 +6,6 @@ use Rattle.chr_rules.proofs.goals.test.Goals as goal
 
 pub returns-in_ok-left-in-Related : goal.returns-in_ok-left-in-Related
 returns-in_ok-left-in-Related g c =
-    ap (λ x. (scope c.sides.new.names c.sides.new.variables, x)) c.tested.ensures
+    ap (λ x. (scope c.sides.new.names c.sides.new.variables, x)) c.relation_test.ensures
     ∙ ap (λ q. (q.0, relation_test (relation_view c.in-Related.relation) q.1.0 q.1.1)) c.in_ok-left-in-Related.ensures.sides
     ∙ ap (λ i. test_from (scope c.args.names.now c.args.variables.now) (item_view i)) (sym c.in-Related.is)

@@ -2,7 +2,7 @@ use Rattle.std.proofs.Common.{◌≡◌, ◌<◌, ◌∙◌, ap, sym, arith}
 use Rattle.std.specs.Prelude.{length}
 use Rattle.chr_semantics.specs.Meaning.{call_of}
 use Rattle.chr_read.specs.SyntaxView.{view}
-use Rattle.chr_rules.proofs.Within.{called_in_end, called_in_factor, called_in_list, called_in_list_with_end, called_in_operand, called_in_product, called_in_sum}
+use Rattle.chr_rules.proofs.Within.{called_in_chain, called_in_end, called_in_list, called_in_list_with_end, called_in_operand}
 use Rattle.chr_rules.proofs.parts.+called.Goals as goal
 
 pub returns-in-List : goal.returns-in-List
@@ -20,20 +20,10 @@ returns-else-is_empty g t c =
 
 pub returns-then-is_empty-2 : goal.returns-then-is_empty-2
 returns-then-is_empty-2 g t c =
-    let none : length c.in-Sum.others.items ≡ 0 = grind (arith, c.is_empty-in-Sum.ensures, c.if-is_empty-2.true, c.in-Sum.others.ok.0) in
-    c.as_call-then-is_empty-2.ensures ∙ ap (λ e. call_of (view e)) c.deref-then-is_empty-2.ensures ∙ sym (called_in_operand c.args.expr.now c.in-Sum.first c.in-Sum.others c.in-Sum.is none)
+    let none : length c.in-Chain.others.items ≡ 0 = grind (arith, c.is_empty-in-Chain.ensures, c.if-is_empty-2.true, c.in-Chain.others.ok.0) in
+    c.as_call-then-is_empty-2.ensures ∙ ap (λ e. call_of (view e)) c.deref-then-is_empty-2.ensures ∙ sym (called_in_operand c.args.expr.now c.in-Chain.first c.in-Chain.others c.in-Chain.is none)
 
 pub returns-else-is_empty-2 : goal.returns-else-is_empty-2
 returns-else-is_empty-2 g t c =
-    let some : 0 < length c.in-Sum.others.items = grind (arith, c.is_empty-in-Sum.ensures, c.if-is_empty-2.false, c.in-Sum.others.ok.0) in
-    sym (called_in_sum c.args.expr.now c.in-Sum.first c.in-Sum.others c.in-Sum.is some)
-
-pub returns-then-is_empty-3 : goal.returns-then-is_empty-3
-returns-then-is_empty-3 g t c =
-    let none : length c.in-Product.others.items ≡ 0 = grind (arith, c.is_empty-in-Product.ensures, c.if-is_empty-3.true, c.in-Product.others.ok.0) in
-    c.as_call-then-is_empty-3.ensures ∙ ap (λ e. call_of (view e)) c.deref-then-is_empty-3.ensures ∙ sym (called_in_factor c.args.expr.now c.in-Product.first c.in-Product.others c.in-Product.is none)
-
-pub returns-else-is_empty-3 : goal.returns-else-is_empty-3
-returns-else-is_empty-3 g t c =
-    let some : 0 < length c.in-Product.others.items = grind (arith, c.is_empty-in-Product.ensures, c.if-is_empty-3.false, c.in-Product.others.ok.0) in
-    sym (called_in_product c.args.expr.now c.in-Product.first c.in-Product.others c.in-Product.is some)
+    let some : 0 < length c.in-Chain.others.items = grind (arith, c.is_empty-in-Chain.ensures, c.if-is_empty-2.false, c.in-Chain.others.ok.0) in
+    sym (called_in_chain c.args.expr.now c.in-Chain.first c.in-Chain.others c.in-Chain.is some)

@@ -7,7 +7,7 @@ use Rattle.chr_read.specs.SyntaxView.{item_views, rule_view as syntax_rule}
 use Rattle.chr_bind.specs.Guards.{test_view}
 use Rattle.chr_rules.specs.Heads.{heads_of}
 use Rattle.chr_rules.specs.RuleView.{goal_view, rules_view}
-use Rattle.chr_rules.proofs.Ruled.{memory_wanted, rule_accepted, rule_made, rule_refused, rule_too_large}
+use Rattle.chr_rules.proofs.Ruled.{memory_refused, rule_accepted, rule_made, rule_refused, rule_too_large}
 use Rattle.chr_rules.proofs.rules.rule.Goals as goal
 
 pub returns-in-Some-wrong_rule-clause-refused : goal.returns-in-Some-wrong_rule-clause-refused
@@ -67,11 +67,11 @@ returns-clause-rule g c =
 
 pub returns-in_err-body-clause-refused : goal.returns-in_err-body-clause-refused
 returns-in_err-body-clause-refused g c =
-    memory_wanted c.from_residual-in_err-body.result (error_in_rule c.args.names.now c.args.declared (rules_view c.args.earlier.now) (syntax_rule c.args.written.now)) c.from_residual-in_err-body.ensures.1
+    memory_refused c.from_residual-in_err-body.result (error_in_rule c.args.names.now c.args.declared (rules_view c.args.earlier.now) (syntax_rule c.args.written.now)) c.from_residual-in_err-body.ensures.1
 
 pub returns-in_err-label-clause-refused : goal.returns-in_err-label-clause-refused
 returns-in_err-label-clause-refused g c =
-    memory_wanted c.from_residual-in_err-label.result (error_in_rule c.args.names.now c.args.declared (rules_view c.args.earlier.now) (syntax_rule c.args.written.now)) c.from_residual-in_err-label.ensures.1
+    memory_refused c.from_residual-in_err-label.result (error_in_rule c.args.names.now c.args.declared (rules_view c.args.earlier.now) (syntax_rule c.args.written.now)) c.from_residual-in_err-label.ensures.1
 
 -- each head has its flag
 pub invariant_of-result : goal.invariant_of-result

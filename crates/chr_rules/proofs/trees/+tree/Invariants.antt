@@ -3,7 +3,7 @@ use Rattle.chr_semantics.specs.Meaning.{in_turn, scope}
 use Rattle.chr_term.specs.TermView.{view}
 use Rattle.chr_read.specs.SyntaxView.{views}
 use Rattle.chr_rules.specs.Grown.{Grows}
-use Rattle.chr_rules.specs.Turns.{factors_from, summands_from, tree_turn}
+use Rattle.chr_rules.specs.Turns.{operands_from, tree_turn}
 use Rattle.chr_rules.specs.Weight.{operand_weights, weight, weights}
 use Rattle.chr_rules.proofs.trees.+tree.Given as goal
 
@@ -22,11 +22,8 @@ decreases-list g l = 4 * weights l.items.now + 2
 abbrev pub decreases-list_with_end : goal.decreases-list_with_end
 decreases-list_with_end g l = 4 * weights l.items.now + (4 * weight l.end.now + 2)
 
-abbrev pub decreases-sum : goal.decreases-sum
-decreases-sum g l = 4 * operand_weights l.others.now + (4 * weight l.first.now + 2)
-
-abbrev pub decreases-product : goal.decreases-product
-decreases-product g l = 4 * operand_weights l.others.now + (4 * weight l.first.now + 2)
+abbrev pub decreases-chain : goal.decreases-chain
+decreases-chain g l = 4 * operand_weights l.others.now + (4 * weight l.first.now + 2)
 
 abbrev pub invariant-trees-loop-expr : goal.invariant-trees-loop-expr
 invariant-trees-loop-expr g l = record {
@@ -34,14 +31,8 @@ invariant-trees-loop-expr g l = record {
   grows : Grows l.fn.names l.names;
 }
 
-abbrev pub invariant-sum-loop-other : goal.invariant-sum-loop-other
-invariant-sum-loop-other g l = record {
-  same : summands_from (scope l.initial.names l.initial.variables, view l.initial.whole) l.others ≡ summands_from (scope l.names l.variables, view l.whole) (drop l.other-index l.others);
-  grows : Grows l.fn.names l.names;
-}
-
-abbrev pub invariant-product-loop-other : goal.invariant-product-loop-other
-invariant-product-loop-other g l = record {
-  same : factors_from (scope l.initial.names l.initial.variables, view l.initial.whole) l.others ≡ factors_from (scope l.names l.variables, view l.whole) (drop l.other-index l.others);
+abbrev pub invariant-chain-loop-other : goal.invariant-chain-loop-other
+invariant-chain-loop-other g l = record {
+  same : operands_from (scope l.initial.names l.initial.variables, view l.initial.whole) l.others ≡ operands_from (scope l.names l.variables, view l.whole) (drop l.other-index l.others);
   grows : Grows l.fn.names l.names;
 }

@@ -1,5 +1,4 @@
 use Rattle.std.proofs.Common.{◌≡◌, arith, append_assoc}
-use Rattle.chr_rules.specs.ProgramView.{names_of}
 use Rattle.chr_run.specs.Stored.{plain_text}
 use Rattle.chr_run.proofs.Lines.{stack_lines-more}
 use Rattle.chr_run.proofs.text.write_stack.Goals as goal

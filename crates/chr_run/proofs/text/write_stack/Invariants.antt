@@ -1,6 +1,5 @@
 use Rattle.std.proofs.Common.{◌≡◌, ◌++◌, drop, map}
 use Rattle.chr_semantics.specs.Text.{lines_text}
-use Rattle.chr_rules.specs.ProgramView.{names_of}
 use Rattle.chr_machine.specs.State.{stack_view}
 use Rattle.chr_run.specs.Stored.{plain_text}
 use Rattle.chr_run.proofs.text.write_stack.Given as goal

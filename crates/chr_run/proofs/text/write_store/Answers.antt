@@ -1,5 +1,4 @@
 use Rattle.std.proofs.Common.{◌∙◌, arith}
-use Rattle.chr_rules.specs.ProgramView.{names_of}
 use Rattle.chr_run.proofs.Lines.{store_lines-more}
 use Rattle.chr_run.proofs.text.write_store.Goals as goal
 

@@ -1,6 +1,5 @@
 use Rattle.std.proofs.Common.{◌≡◌, ◌++◌, ◌+◌, drop}
 use Rattle.chr_semantics.specs.Text.{lines_text}
-use Rattle.chr_rules.specs.ProgramView.{names_of}
 use Rattle.chr_machine.specs.Rows.{rows_from}
 use Rattle.chr_run.specs.Stored.{rows_text}
 use Rattle.chr_run.proofs.text.write_store.Given as goal

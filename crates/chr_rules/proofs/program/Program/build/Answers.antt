@@ -10,7 +10,7 @@ use Rattle.chr_rules.specs.Checks.{IsError}
 use Rattle.chr_rules.specs.Index.{pairs_of}
 use Rattle.chr_rules.specs.RuleView.{rules_view}
 use Rattle.chr_rules.proofs.Bounded.{bounded_in_all}
-use Rattle.chr_rules.proofs.Each.{err_answers, want_answers}
+use Rattle.chr_rules.proofs.Each.{err_answers, memory_answers}
 use Rattle.chr_rules.proofs.Few.{few_in_all}
 use Rattle.chr_rules.proofs.Placed.{first_refused, second_refused}
 use Rattle.chr_rules.proofs.program.Program.build.Goals as goal
@@ -38,7 +38,7 @@ returns-in_err-rules-clause-refused g c =
 pub returns-in_err-index-clause-refused : goal.returns-in_err-index-clause-refused
 returns-in_err-index-clause-refused g c =
     let parts = part_views c.args.syntax.parts.items in
-    err_answers c.from_residual-in_err-index.result _ (λ e. IsError e (checked parts)) c.from_residual-in_err-index.ensures.1 (want_answers (checked parts))
+    err_answers c.from_residual-in_err-index.result _ (λ e. IsError e (checked parts)) c.from_residual-in_err-index.ensures.1 (memory_answers (checked parts))
 
 pub invariant_of-result : goal.invariant_of-result
 invariant_of-result g c = record {

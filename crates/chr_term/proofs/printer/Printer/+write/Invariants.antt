@@ -18,6 +18,9 @@ decreases-write_pair g l = 8 * (size (view l.left.now) + size (view l.right.now)
 abbrev pub decreases-write_two : goal.decreases-write_two
 decreases-write_two g l = 8 * (size (view l.left.now) + size (view l.right.now)) + 4
 
+abbrev pub decreases-write_list : goal.decreases-write_list
+decreases-write_list g l = 8 * (size (view l.first.now) + size (view l.rest.now)) + 4
+
 abbrev pub decreases-write_operator : goal.decreases-write_operator
 decreases-write_operator g l = 8 * (size (view l.left.now) + size (view l.right.now)) + 4
 

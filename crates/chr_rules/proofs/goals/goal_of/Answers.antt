@@ -5,7 +5,7 @@ use Rattle.chr_semantics.specs.Syntax.{exprs_of}
 use Rattle.chr_read.specs.SyntaxView.{views}
 use Rattle.chr_rules.proofs.Called.{goal_called, goal_failing, goal_left_out}
 use Rattle.chr_rules.proofs.Within.{count_views}
-use Rattle.chr_rules.proofs.goals.called.Goals as goal
+use Rattle.chr_rules.proofs.goals.goal_of.Goals as goal
 
 pub returns-then-is_test-clause-goal : goal.returns-then-is_test-clause-goal
 returns-then-is_test-clause-goal g c =

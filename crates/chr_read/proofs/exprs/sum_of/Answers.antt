@@ -1,7 +1,0 @@
-use Rattle.std.proofs.Common.{◌∙◌, ap}
-use Rattle.chr_read.specs.SyntaxView.{operand_views, sums, view}
-use Rattle.chr_read.proofs.Views.{view-Sum}
-use Rattle.chr_read.proofs.exprs.sum_of.Goals as goal
-
-pub returns-in_ok-new : goal.returns-in_ok-new
-returns-in_ok-new g c = view-Sum g.row.A.Denot c.in_ok-new.field-0 c.args.operands ∙ ap (λ e. sums (view e) (operand_views c.args.operands.items)) c.in_ok-new.ensures.ok
