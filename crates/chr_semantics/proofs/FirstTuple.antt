@@ -7,7 +7,7 @@ use Rattle.std.specs.Prelude.{All, filter, find, option_and_then}
 use mathlib.Core.Path.{fun_ext}
 use Rattle.chr_semantics.specs.Match.{Row, fit_all, fit_atom, fit_rows, fits}
 use Rattle.chr_semantics.specs.Program.{Atom, Head, Rule, Program, Occurrence, occurrence}
-use Rattle.chr_semantics.specs.Search.{atom_of, first, first_of, found_at, found_for, found_with, ids_found, History, can_fire, fired_before, first_tuple, ids_of, passes_guard, same_ids, tuples_from}
+use Rattle.chr_semantics.specs.Search.{atom_of, first, first_of, found_at, found_for, found_with, ids_found, History, can_fire, fired_before, first_tuple, ids_of, passes_guard, rule_entries, same_ids, tuples_from}
 use Rattle.chr_semantics.specs.Subst.{Subst}
 use Rattle.chr_semantics.proofs.Lookups.{of_kept}
 use Rattle.chr_semantics.proofs.Tuples.{Wants, find_kept}
@@ -61,28 +61,24 @@ misfits keep (x ∷ hs) h c out = All-cons (λ (y : Head). (m : Subst) → fit_a
 pub first_tuple_kept : (keep : ℕ → Bool) (rows : List Row) (h : History) (r : ℕ) (rule : Rule) (place : ℕ) (a : Row) → HeadsKept keep rule.heads → first_tuple rows h r rule place a ≡ first_tuple (filter (of_kept keep) rows) h r rule place a
 first_tuple_kept keep rows h r rule place a k = first_tuple_fits (of_kept keep) rows h r rule place a (misfits keep rule.heads k)
 
--- the entries of a rule
-abbrev pub entries : ℕ → History → History
-entries r h = filter (λ (f : ℕ × List ℕ). f.0 == r) h
-
 fired_at : (b : Bool) (r : ℕ) (f : ℕ × List ℕ) (h : History) (ids : List ℕ) → (f.0 == r) ≡ b → (b && same_ids f.1 ids || fired_before h r ids) ≡ fired_before (cond b (f ∷ h) h) r ids
 fired_at true r f h ids is = rw is refl
 fired_at false r f h ids is = refl
 
-fired_before_entries : (h : History) (r : ℕ) (ids : List ℕ) → fired_before h r ids ≡ fired_before (entries r h) r ids
+pub fired_before_entries : (h : History) (r : ℕ) (ids : List ℕ) → fired_before h r ids ≡ fired_before (rule_entries r h) r ids
 fired_before_entries [] r ids = refl
 fired_before_entries (f ∷ h) r ids =
     ap (λ (b : Bool). (f.0 == r) && same_ids f.1 ids || b) (fired_before_entries h r ids)
-    ∙ fired_at (f.0 == r) r f (entries r h) ids refl
+    ∙ fired_at (f.0 == r) r f (rule_entries r h) ids refl
 
-fired_before_same : (h k : History) (r : ℕ) (ids : List ℕ) → entries r h ≡ entries r k → fired_before h r ids ≡ fired_before k r ids
+fired_before_same : (h k : History) (r : ℕ) (ids : List ℕ) → rule_entries r h ≡ rule_entries r k → fired_before h r ids ≡ fired_before k r ids
 fired_before_same h k r ids e = fired_before_entries h r ids ∙ ap (λ (x : History). fired_before x r ids) e ∙ sym (fired_before_entries k r ids)
 
-can_fire_same : (h k : History) (r : ℕ) (rule : Rule) → entries r h ≡ entries r k → can_fire h r rule ≡ can_fire k r rule
+can_fire_same : (h k : History) (r : ℕ) (rule : Rule) → rule_entries r h ≡ rule_entries r k → can_fire h r rule ≡ can_fire k r rule
 can_fire_same h k r rule e = fun_ext (λ t. ap (λ (b : Bool). passes_guard rule (fits rule.heads t) && not b) (fired_before_same h k r (ids_of t) e))
 
 -- equal rows of the rule's symbols and equal entries of the rule give equal first firings
-pub first_tuple_same : (keep : ℕ → Bool) (rows others : List Row) (h k : History) (r : ℕ) (rule : Rule) (place : ℕ) (a : Row) → HeadsKept keep rule.heads → filter (of_kept keep) rows ≡ filter (of_kept keep) others → entries r h ≡ entries r k
+pub first_tuple_same : (keep : ℕ → Bool) (rows others : List Row) (h k : History) (r : ℕ) (rule : Rule) (place : ℕ) (a : Row) → HeadsKept keep rule.heads → filter (of_kept keep) rows ≡ filter (of_kept keep) others → rule_entries r h ≡ rule_entries r k
     → first_tuple rows h r rule place a ≡ first_tuple others k r rule place a
 first_tuple_same keep rows others h k r rule place a kept same e =
     first_tuple_kept keep rows h r rule place a kept

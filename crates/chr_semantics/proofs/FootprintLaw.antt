@@ -6,12 +6,12 @@ use Rattle.std.specs.Prelude.{filter}
 use Rattle.chr_semantics.specs.Footprint.{FootprintLaw, IsSound}
 use Rattle.chr_semantics.specs.Match.{Row}
 use Rattle.chr_semantics.specs.Program.{Atom, Head, Occurrence, Program, occurrence}
-use Rattle.chr_semantics.specs.Search.{History, atom_of, first, found_with, ids_found}
+use Rattle.chr_semantics.specs.Search.{History, atom_of, first, found_with, ids_found, rule_entries}
 use Rattle.chr_semantics.specs.State.{State, resolved_atom, rows}
 use Rattle.chr_semantics.specs.Step.{after, step}
 use Rattle.chr_semantics.specs.Touch.{rule, Mark, footprint, footprint_at, footprint_of, symbol, touched_any, touches}
 use Rattle.chr_semantics.proofs.Counts.{count_none}
-use Rattle.chr_semantics.proofs.FirstTuple.{first_is, entries, first_tuple_same}
+use Rattle.chr_semantics.proofs.FirstTuple.{first_is, first_tuple_same}
 use Rattle.chr_semantics.proofs.KeptEntries.{entries_step}
 use Rattle.chr_semantics.proofs.KeptRows.{kept_rows, kept_step, spares_heads}
 use Rattle.chr_semantics.proofs.Lookups.{atom_of_part, Ascends-resolved, atom_kept, atom_resolved, of_kept}
@@ -21,7 +21,7 @@ use Rattle.chr_semantics.proofs.Soundness.{sound_step}
 -- what n steps leave that touch no mark of the rule and these heads
 pub record Keeps (keep : ℕ → Bool) (r : ℕ) (s t : State) : Type 0 where
   pub rows_same : kept_rows keep t ≡ kept_rows keep s
-  pub entries_same : entries r t.history ≡ entries r s.history
+  pub entries_same : rule_entries r t.history ≡ rule_entries r s.history
   pub sound : IsSound t
 
 -- the footprint of a rule with its number
@@ -45,7 +45,7 @@ keeps_after p r hs (suc n) s h e =
 
 -- equal rows of the rule's symbols, and equal entries of the rule
 pub first_same : (p : Program) (rs qs : List Row) (h k : History) (i j : ℕ) (b : Atom) (o : Occurrence) → atom_of rs i ≡ Some b → atom_of qs i ≡ Some b → occurrence p b.sym j ≡ Some o
-    → filter (of_kept (has_symbol o.rule.heads)) rs ≡ filter (of_kept (has_symbol o.rule.heads)) qs → entries o.number h ≡ entries o.number k → first p rs h i j ≡ first p qs k i j
+    → filter (of_kept (has_symbol o.rule.heads)) rs ≡ filter (of_kept (has_symbol o.rule.heads)) qs → rule_entries o.number h ≡ rule_entries o.number k → first p rs h i j ≡ first p qs k i j
 first_same p rs qs h k i j b o lives living is same e =
     first_is p rs h i j b o lives is
     ∙ ap (λ (t : Option (List Row)). ids_found (found_with o.number o.rule o.place t)) (first_tuple_same (has_symbol o.rule.heads) rs qs h k o.number o.rule o.place (i, b) (heads_kept o.rule.heads) same e)

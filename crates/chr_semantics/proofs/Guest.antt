@@ -11,14 +11,14 @@ use Rattle.chr_semantics.specs.Guard.{comparison_holds}
 use Rattle.chr_semantics.specs.Match.{Row}
 use Rattle.chr_semantics.specs.Mgu.{mgu}
 use Rattle.chr_semantics.specs.Program.{Atom, Comparison, Goal, Head, Program, compare, constraint, evaluate, fail, tell}
-use Rattle.chr_semantics.specs.Search.{Found, atom_of, firing, has_number, ids_of, no_firing, no_occurrence}
+use Rattle.chr_semantics.specs.Search.{Found, atom_of, firing, has_number, ids_of, no_firing, no_occurrence, rule_entries}
 use Rattle.chr_semantics.specs.State.{Element, State, Status, active, done, failed, faulted, goal, known, resolved_atom, rows, running}
 use Rattle.chr_semantics.specs.Step.{after, compare_step, evaluate_step, search_at, search_step, solve, step, step_at, step_top, bind_step}
 use Rattle.chr_semantics.specs.Subst.{Subst, apply}
 use Rattle.chr_semantics.specs.Touch.{rule, Mark, goal_touches, symbol, touched_any, touches, touches_at, touches_top}
 use Rattle.chr_semantics.specs.Tree.{Tree, int}
 use Rattle.chr_semantics.specs.Value.{Fault, value}
-use Rattle.chr_semantics.proofs.FirstTuple.{entries}
+use Rattle.chr_semantics.proofs.FirstTuple.{}
 use Rattle.chr_semantics.proofs.FootprintLaw.{keeps_after, keeps_one, marks_of}
 use Rattle.chr_semantics.proofs.KeptRows.{kept_rows}
 use Rattle.chr_semantics.proofs.Lookups.{Ascends-ends, atom_of_part, Ascends-resolved, atom_kept, of_kept, resolved_row}
@@ -191,10 +191,16 @@ entered p keep i b s h next k found = elim (enters_or_stays p s) [
   | inr e ↦ absurd (true≢false (sym (found_has keep (step p s).subst (step p s).store i b k found) ∙ e.lacks keep i (lacks_above keep 0 i s.store (subst (λ (x : ℕ). Ascends 0 s.store x) next h.ascends))))
 ]
 
+pub entered_next : (p : Program) (keep : ℕ → Bool) (i : ℕ) (b : Atom) (s : State) → IsSound s → s.next_id ≡ i → keep b.sym ≡ true → atom_of (rows (step p s)) i ≡ Some b → (step p s).next_id ≡ s.next_id + 1
+entered_next p keep i b s h next k found = elim (enters_or_stays p s) [
+  | inl e ↦ e.next
+  | inr e ↦ absurd (true≢false (sym (found_has keep (step p s).subst (step p s).store i b k found) ∙ e.lacks keep i (lacks_above keep 0 i s.store (subst (λ (x : ℕ). Ascends 0 s.store x) next h.ascends))))
+]
+
 -- what n steps leave of which one alone touches
 pub record KeepsGuest (keep : ℕ → Bool) (r i : ℕ) (b : Atom) (s t : State) : Type 0 where
   pub rows_more : kept_rows keep t ≡ kept_rows keep s ++ (i, b) ∷ []
-  pub entries_same : entries r t.history ≡ entries r s.history
+  pub entries_same : rule_entries r t.history ≡ rule_entries r s.history
   pub sound : IsSound t
 
 -- a kept row is found before where the kept rows are the same
@@ -217,7 +223,7 @@ guest_at : (p : Program) (r : ℕ) (hs : List Head) (i : ℕ) (b : Atom) (n : �
 guest_at p r hs i b n s true m is rest h next k found e go =
     let l = keeps_after p r hs n (step p s) (sound_step p s h) (rest ∙ omega (arith, e)) in
     let w = entered p (has_symbol hs) i b s h next k (found_kept (has_symbol hs) i b (step p s) (after p (step p s) n) (sound_step p s h) l.rows_same k found) in
-    record { rows_more = l.rows_same ∙ w.rows_more; entries_same = l.entries_same ∙ ap (entries r) w.history_same; sound = l.sound }
+    record { rows_more = l.rows_same ∙ w.rows_more; entries_same = l.entries_same ∙ ap (rule_entries r) w.history_same; sound = l.sound }
 guest_at p r hs i b n s false m is rest h next k found e go =
     let l = keeps_one p r hs s h is in
     elim (enters_or_stays p s) [

@@ -3,14 +3,14 @@ use Rattle.std.proofs.Common.{Bool, Err, List, None, Ok, Option, Result, Some, [
 use Rattle.chr_semantics.specs.Guard.{comparison_holds}
 use Rattle.chr_semantics.specs.Mgu.{mgu}
 use Rattle.chr_semantics.specs.Program.{Atom, Comparison, Goal, Program, compare, constraint, evaluate, fail, tell}
-use Rattle.chr_semantics.specs.Search.{Found, History, firing, ids_of, no_firing, no_occurrence}
+use Rattle.chr_semantics.specs.Search.{Found, History, firing, ids_of, no_firing, no_occurrence, rule_entries}
 use Rattle.chr_semantics.specs.State.{Element, State, Status, active, done, failed, faulted, goal, known, running}
 use Rattle.chr_semantics.specs.Step.{compare_step, evaluate_step, search_at, search_step, solve, step, step_at, step_top, bind_step}
 use Rattle.chr_semantics.specs.Subst.{Subst, apply}
 use Rattle.chr_semantics.specs.Touch.{rule, found_touches, touches, touches_at, touches_top}
 use Rattle.chr_semantics.specs.Tree.{Tree, int}
 use Rattle.chr_semantics.specs.Value.{Fault, value}
-use Rattle.chr_semantics.proofs.FirstTuple.{entries}
+use Rattle.chr_semantics.proofs.FirstTuple.{}
 
 -- the history
 told_history : (s : State) (rest : List Element) (m : Option Subst) → (bind_step s rest m).history ≡ s.history
@@ -41,27 +41,27 @@ cons_at : (b : Bool) (f : ℕ × List ℕ) (xs ys : History) → xs ≡ ys → c
 cons_at true f xs ys e = cc
 cons_at false f xs ys e = e
 
-entries_push : (r n : ℕ) (ids : List ℕ) (h : History) → (n == r) ≡ false → entries r (h ++ (n, ids) ∷ []) ≡ entries r h
+entries_push : (r n : ℕ) (ids : List ℕ) (h : History) → (n == r) ≡ false → rule_entries r (h ++ (n, ids) ∷ []) ≡ rule_entries r h
 entries_push r n ids [] e = rw e refl
 entries_push r n ids (f ∷ h) e = cons_at (f.0 == r) f _ _ (entries_push r n ids h e)
 
-found_entries : (r : ℕ) (s : State) (rest : List Element) (i j : ℕ) (a : Atom) (w : Found) → found_touches s w (rule r) ≡ false → entries r (search_step s rest i j a w).history ≡ entries r s.history
+found_entries : (r : ℕ) (s : State) (rest : List Element) (i j : ℕ) (a : Atom) (w : Found) → found_touches s w (rule r) ≡ false → rule_entries r (search_step s rest i j a w).history ≡ rule_entries r s.history
 found_entries r s rest i j a no_occurrence e = refl
 found_entries r s rest i j a no_firing e = refl
 found_entries r s rest i j a (firing n q place t) e = entries_push r n (ids_of t) s.history e
 
-top_entries : (p : Program) (r : ℕ) (s : State) (es : List Element) → touches_top p s es (rule r) ≡ false → entries r (step_top p s es).history ≡ entries r s.history
+top_entries : (p : Program) (r : ℕ) (s : State) (es : List Element) → touches_top p s es (rule r) ≡ false → rule_entries r (step_top p s es).history ≡ rule_entries r s.history
 top_entries p r s [] e = refl
-top_entries p r s (goal g ∷ es) e = ap (entries r) (goal_history s es g)
+top_entries p r s (goal g ∷ es) e = ap (rule_entries r) (goal_history s es g)
 top_entries p r s (known i a ∷ es) e = refl
 top_entries p r s (active i j a ∷ es) e = found_entries r s es i j a (search_at p s i j a) e
 
-at_entries : (p : Program) (r : ℕ) (s : State) (w : Status) → touches_at p s w (rule r) ≡ false → entries r (step_at p s w).history ≡ entries r s.history
+at_entries : (p : Program) (r : ℕ) (s : State) (w : Status) → touches_at p s w (rule r) ≡ false → rule_entries r (step_at p s w).history ≡ rule_entries r s.history
 at_entries p r s running e = top_entries p r s s.stack e
 at_entries p r s done e = refl
 at_entries p r s failed e = refl
 at_entries p r s (faulted f) e = refl
 
 -- so it is with the step of a state
-pub entries_step : (p : Program) (r : ℕ) (s : State) → touches p s (rule r) ≡ false → entries r (step p s).history ≡ entries r s.history
+pub entries_step : (p : Program) (r : ℕ) (s : State) → touches p s (rule r) ≡ false → rule_entries r (step p s).history ≡ rule_entries r s.history
 entries_step p r s e = at_entries p r s s.status e

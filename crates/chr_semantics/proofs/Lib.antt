@@ -28,3 +28,15 @@ pub mod UsedLaw
 pub mod StampsLaw
 pub mod AppendedLaw
 pub mod Numerals
+pub mod Makes
+pub mod MatchOrder
+pub mod KeyLaw
+pub mod SearchedLists
+pub mod JoinLaw
+pub mod TriesLaw
+pub mod CursorLaw
+pub mod Gates
+pub mod LookLaw
+pub mod SnapshotLaw
+pub mod StampsByCallLaw
+pub mod TotalsLaw

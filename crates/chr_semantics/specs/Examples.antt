@@ -5,3 +5,5 @@ pub mod Runs
 pub mod Numbers
 pub mod Speculation
 pub mod Syntaxes
+pub mod Searches
+pub mod Desks

@@ -24,3 +24,11 @@ pub mod Tasks
 pub mod Schedule
 pub mod Footprint
 pub mod Examples
+pub mod Join
+pub mod Keys
+pub mod Tries
+pub mod Cursor
+pub mod Snapshot
+pub mod Stamps
+pub mod Changes
+pub mod Desk

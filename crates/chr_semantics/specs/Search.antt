@@ -115,6 +115,10 @@ RowsLaw =
     (p : Program) (rows : List Row) (keep : Row → Bool) (h : History) (i j : ℕ) (a : Atom) (o : Occurrence) → AllPairs (λ k l. k ≢ l) (ids_of rows) → atom_of rows i ≡ Some a → occurrence p a.sym j ≡ Some o
     → ((c : Row) → keep c ≡ false → All (λ head. (m : Subst) → fit_atom head.atom c.1 m ≡ None) o.rule.heads) → first p (filter keep rows) h i j ≡ first p rows h i j
 
+-- the entries of a rule
+abbrev pub rule_entries : ℕ → History → History
+rule_entries r h = filter (λ (f : ℕ × List ℕ). f.0 == r) h
+
 -- the entries of the history whose identities all have rows
 abbrev pub live_entries : List Row → History → History
 live_entries rows h = filter (λ (f : ℕ × List ℕ). list_all (has_number (ids_of rows)) f.1) h
@@ -122,3 +126,9 @@ live_entries rows h = filter (λ (f : ℕ × List ℕ). list_all (has_number (id
 -- the other entries change no search
 abbrev pub DeadEntriesLaw : Type 0
 DeadEntriesLaw = (p : Program) (rows : List Row) (h : History) (i j : ℕ) → first p rows (live_entries rows h) i j ≡ first p rows h i j
+
+-- and neither do those of other rules
+abbrev pub RuleEntriesLaw : Type 0
+RuleEntriesLaw =
+    (p : Program) (rows : List Row) (h : History) (i j f : ℕ) (o : Occurrence) → ((a : Atom) → atom_of rows i ≡ Some a → a.sym ≡ f) → occurrence p f j ≡ Some o
+    → first p rows (rule_entries o.number h) i j ≡ first p rows h i j

@@ -3,8 +3,15 @@
 ghost use Rattle.chr_semantics.specs.Tree.{SameLaw};
 ghost use Rattle.chr_semantics.specs.Subst.{SolvedLaw};
 ghost use Rattle.chr_semantics.specs.Mgu.{UnifierLaw};
-ghost use Rattle.chr_semantics.specs.Search.{TuplesLaw, RowsLaw, DeadEntriesLaw};
+ghost use Rattle.chr_semantics.specs.Search.{TuplesLaw, RowsLaw, DeadEntriesLaw, RuleEntriesLaw};
 ghost use Rattle.chr_semantics.specs.Schedule.{AppendedLaw};
+ghost use Rattle.chr_semantics.specs.Join.{JoinLaw, OrderLaw};
+ghost use Rattle.chr_semantics.specs.Keys.{ClashLaw, LookLaw, RootLaw};
+ghost use Rattle.chr_semantics.specs.Snapshot.{SnapshotLaw, SoundLaw};
+ghost use Rattle.chr_semantics.specs.Stamps.{StampsByCallLaw};
+ghost use Rattle.chr_semantics.specs.Desk.{TotalsLaw};
+ghost use Rattle.chr_semantics.specs.Tries.{TriesLaw};
+ghost use Rattle.chr_semantics.specs.Cursor.{CursorLaw, GatedLaw};
 ghost use Rattle.chr_semantics.specs.Footprint.{FootprintLaw, ServesLaw, UsedLaw, StampsLaw, TakenLaw};
 
 /// The tests of identity decide equality of terms, and of lists of terms.
@@ -75,4 +82,74 @@ pub fn taken_law()
 /// A schedule grows event by event.
 pub fn appended_law()
     ensures { AppendedLaw }
+{}
+
+/// Heads may be matched with the one of the active constraint first: the match has the same look-ups,
+/// and guards and bodies see look-ups alone.
+pub fn order_law()
+    ensures { OrderLaw }
+{}
+
+/// A row whose argument has another root than the head asks for does not fit, nor does a row of
+/// another symbol.
+pub fn root_law()
+    ensures { RootLaw }
+{}
+
+/// A row that clashes with a rule fits none of its heads.
+pub fn clash_law()
+    ensures { ClashLaw }
+{}
+
+/// The first tuple that can fire is the first that the join with the own head first meets, whatever
+/// rows are left out that do not fit.
+pub fn join_law()
+    ensures { JoinLaw }
+{}
+
+/// The join may look for each head at the rows by the root at any one position.
+pub fn look_law()
+    ensures { LookLaw }
+{}
+
+/// The join tries the tuples whose rows fit, up to and with the first that can fire, and at most as
+/// many as the product of the numbers of rows of the partners' symbols.
+pub fn tries_law()
+    ensures { TriesLaw }
+{}
+
+/// A search may go on after a list that it found, while rows are only removed and new ones get
+/// greater identities.
+pub fn cursor_law()
+    ensures { CursorLaw }
+{}
+
+/// The same join among the tuples whose identities pass a test.
+pub fn gated_law()
+    ensures { GatedLaw }
+{}
+
+/// Entries of other rules change no search.
+pub fn rule_entries_law()
+    ensures { RuleEntriesLaw }
+{}
+
+/// A task finds in a snapshot what it finds in the state that the snapshot is of.
+pub fn snapshot_law()
+    ensures { SnapshotLaw }
+{}
+
+/// Each state of a run is sound.
+pub fn sound_law()
+    ensures { SoundLaw }
+{}
+
+/// Stamps that count calls tell what counts of touches tell.
+pub fn stamps_by_call_law()
+    ensures { StampsByCallLaw }
+{}
+
+/// The totals of a desk add up.
+pub fn totals_law()
+    ensures { TotalsLaw }
 {}

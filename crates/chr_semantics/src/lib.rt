@@ -6,5 +6,6 @@ pub mod checks;
 pub mod laws;
 pub mod limits;
 pub mod runs;
+pub mod searches;
 pub mod speculation;
 pub mod whole_numbers;

@@ -35,3 +35,6 @@ pub const MAX_ROUNDS: usize = 4_096;
 
 /// The last rounds whose answers are kept.
 pub const KEPT_ROUNDS: usize = 8;
+
+/// The most tasks that one board is ever offered.
+pub const MAX_OFFERED_TASKS: usize = 262_144;

@@ -8,6 +8,8 @@ ghost use Rattle.chr_semantics.specs.State.{done};
 ghost use Rattle.chr_semantics.specs.Text.{lines_text};
 ghost use Rattle.chr_semantics.specs.Touch.{symbol, rule, footprint};
 ghost use Rattle.chr_semantics.specs.Schedule.{publish, arrive, unknown_round, unknown_task};
+ghost use Rattle.chr_semantics.specs.Desk.{after_drain, answers, is_closed, next_serial, offer_refusal, too_many_tasks, totals};
+ghost use Rattle.chr_semantics.specs.Examples.Desks.{one_given_up, one_posted, open_board, two_offered};
 ghost use Rattle.chr_semantics.specs.Examples.Example.{state_after, EndsAfter, whole_text, trace_line, history_lines};
 ghost use Rattle.chr_semantics.specs.Examples.Runs.{two_rules, duplicate};
 ghost use Rattle.chr_semantics.specs.Examples.Speculation.{moves, used_steps, own_steps, counts_in, refusal_in, tasks_after, touched_in, two_answers, three_answers, published_after, speculating, speculating_passive, guest_waits, guest_changes, partner_bound, three_solves};
@@ -158,4 +160,24 @@ pub fn touch_counts()
     ensures bound_once { touched_in three_solves (symbol 8) ≡ 2 }
     ensures footprint_is { footprint partner_bound.program (state_after partner_bound 3) 2 2 ≡
         rule 1 ∷ symbol 7 ∷ symbol 8 ∷ [] }
+{}
+
+/// Two tasks are offered; one is answered and drained, one given up, and the desk is closed.
+pub fn board_calls()
+    ensures too_many { offer_refusal open_board 262145 ≡ Some too_many_tasks }
+    ensures none_refused { offer_refusal open_board 2 ≡ None }
+    ensures first { next_serial two_offered ≡ Some 0 }
+    ensures answer { answers one_posted ≡ 77 ∷ [] }
+    ensures second { next_serial (after_drain one_posted) ≡ Some 1 }
+    ensures none { next_serial one_given_up ≡ None }
+    ensures totals { totals one_given_up ≡ record {
+      put = 2;
+      taken = 2;
+      posted = 1;
+      given_up = 1;
+      drained = 1;
+      waiting = 0;
+      left = 0;
+    } }
+    ensures closed { offer_refusal one_given_up 1 ≡ Some is_closed }
 {}

@@ -1,0 +1,5 @@
+use Rattle.chr_semantics.proofs.laws.sound_law.Goals as goal
+use Rattle.chr_semantics.proofs.SnapshotLaw as laws
+
+pub returns : goal.returns
+returns c = laws.sound_law
