@@ -32,3 +32,5 @@ pub mod Snapshot
 pub mod Stamps
 pub mod Changes
 pub mod Desk
+pub mod Policy
+pub mod Outcome

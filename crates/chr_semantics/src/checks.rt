@@ -9,7 +9,7 @@ ghost use Rattle.chr_semantics.specs.Tokens.{greater as greater_sign};
 ghost use Rattle.chr_semantics.specs.Syntax.{declares, number, plain, related, simplification, propagation};
 ghost use Rattle.chr_semantics.specs.Checked.{checked, checked_query, undeclared, builtin_in_head, not_a_goal, not_a_test, guard_variable, guard_only, duplicate_name, too_many_heads, arity_too_large, backslash_in_propagation, too_many_variables};
 ghost use Rattle.chr_semantics.specs.Examples.Runs.{gcd_rules, gcd_example};
-ghost use Rattle.chr_semantics.specs.Examples.Syntaxes.{gcd_syntax, gcd_query, kept_and_removed, with_rule, with_rules, plain_rule, guarded, labelled, symbol, name, over, p, q, r, t_of_x, x, y, many, refused};
+ghost use Rattle.chr_semantics.specs.Examples.Syntaxes.{accepted_vars, gcd_syntax, gcd_query, kept_and_removed, with_rule, with_rules, plain_rule, guarded, labelled, symbol, name, over, p, q, r, t_of_x, x, y, many, refused};
 
 /// The program and the query of the greatest common divisor stand for the rules and goals of its
 /// run.
@@ -70,7 +70,6 @@ pub fn rule_limits()
         ≡ refused arity_too_large 1 0 }
     ensures anonymous { checked (with_rule (plain_rule (replicate 8 p) simplification (many 65)))
         ≡ refused too_many_variables 2 1 }
-    ensures enough { checked
-        (with_rule (plain_rule (replicate 8 p) simplification
-        (many 64))) ≢ refused too_many_variables 2 1 }
+    ensures enough { accepted_vars
+        (checked (with_rule (plain_rule (replicate 8 p) simplification (many 64)))) ≡ 64 ∷ [] }
 {}

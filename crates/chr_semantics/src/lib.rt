@@ -5,6 +5,7 @@
 pub mod checks;
 pub mod laws;
 pub mod limits;
+pub mod policy;
 pub mod runs;
 pub mod searches;
 pub mod speculation;

@@ -1,5 +1,6 @@
 -- The examples of checks, as syntax.
-use Rattle.std.specs.Prelude.{ℕ, pos, false, List, [], ◌∷◌, map, replicate, Some, None, Result, Err, codes}
+use Rattle.std.specs.Prelude.{ℕ, pos, false, List, [], ◌∷◌, map, replicate, Some, None, Result, Ok, Err, codes}
+use Rattle.chr_semantics.specs.Program as semantics
 use Rattle.chr_semantics.specs.Tokens as token
 use Rattle.chr_semantics.specs.Tokens.{minus, Relation}
 use Rattle.chr_semantics.specs.Syntax.{Expr, exprs_of, variable, number, call, adding, operation, Item, plain, related, Head, Arrow, simplification, Rule, Declaration, Part, declares, rule, Program, Query}
@@ -88,3 +89,8 @@ many n = replicate n (over (codes "t") (variable (codes "_")))
 -- such a refusal, in a line and a rule
 abbrev pub refused : RuleErrorKind → ℕ → ℕ → Result Checked RuleError
 refused m line k = Err (record { kind = m; line = line; rule = k })
+
+-- how many variables the rules of an accepted program have, each
+abbrev pub accepted_vars : Result Checked RuleError → List ℕ
+accepted_vars (Ok c) = map (λ (r : semantics.Rule). r.vars) c.rules
+accepted_vars (Err e) = []
