@@ -35,7 +35,6 @@ pub mod SearchedLists
 pub mod JoinLaw
 pub mod TriesLaw
 pub mod CursorLaw
-pub mod Gates
 pub mod LookLaw
 pub mod SnapshotLaw
 pub mod StampsByCallLaw

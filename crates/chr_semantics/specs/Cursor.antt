@@ -1,5 +1,5 @@
--- Where a search may go on after a list that it found.
-use Rattle.std.specs.Prelude.{◌≡◌, ℕ, Bool, true, false, cond, not, ◌&&◌, ◌||◌, ◌==◌, nat_lt, min, List, [], ◌∷◌, Some, option_map, Contains, filter, find, slice_get}
+-- Where a search may go on after a list that it found (this project's own).
+use Rattle.std.specs.Prelude.{◌≡◌, ℕ, Bool, true, false, not, ◌&&◌, ◌||◌, ◌==◌, nat_lt, List, [], ◌∷◌, Some, option_map, Contains, filter, find, slice_get}
 use Rattle.std.specs.List.{list_any}
 use Rattle.std.specs.List.Sorted.{IsStrictlyIncreasing}
 use Rattle.chr_semantics.specs.Program.{Head, Rule}
@@ -8,12 +8,14 @@ use Rattle.chr_semantics.specs.Search.{History, ids_of, fired_before, can_fire, 
 use Rattle.chr_semantics.specs.Tries.{tried, fits_some}
 use Rattle.chr_semantics.specs.Join.{Joined, enters, own_joined, rows_in}
 
+-- before the other list in lexicographic order
 abbrev pub lex_lt : List ℕ → List ℕ → Bool
 lex_lt [] [] = false
 lex_lt [] (y ∷ ys) = true
 lex_lt (x ∷ xs) [] = false
 lex_lt (x ∷ xs) (y ∷ ys) = nat_lt x y || (x == y && lex_lt xs ys)
 
+-- an identity that is not below `from`
 abbrev pub is_new : ℕ → ℕ → Bool
 is_new from c = not (nat_lt c from)
 
@@ -39,6 +41,7 @@ pub record CursorLaw : Type 0 where
   pub next : (rows : List Row) (h : History) (r : ℕ) (rule : Rule) (place : ℕ) (a : Row) (l : List ℕ) (from : ℕ) → IsSpent rows h r rule place a l from
       → first_tuple rows h r rule place a ≡ find (λ t. lies_ahead l from (ids_of t) && can_fire h r rule t) (tuples rows rule place a)
 
+-- the identities of the rows pass a test
 abbrev pub admitted : (List ℕ → Bool) → Joined → Bool
 admitted test p = test (ids_of p.0)
 
@@ -48,30 +51,3 @@ pub record GatedLaw : Type 0 where
       → find (λ t. test (ids_of t) && can_fire h r rule t) (tuples rows rule place a) ≡ option_map rows_in (find (enters h r rule) (filter (admitted test) (own_joined rows rule place own a)))
   pub tries : (test : List ℕ → Bool) (rows : List Row) (h : History) (r : ℕ) (rule : Rule) (place : ℕ) (own : Head) (a : Row) → slice_get rule.heads place ≡ Some own
       → tried (enters h r rule) (filter (admitted test) (own_joined rows rule place own a)) ≡ tried (can_fire h r rule) (filter (λ t. test (ids_of t) && fits_some rule t) (tuples rows rule place a))
-
--- nothing more is asked · equal so far to a list whose rest is given · before it, so that a new row is still wanted
-pub data Gate : Type 0 where
-  free : Gate
-  on : List ℕ → Gate
-  before : Gate
-
-abbrev pub admits : ℕ → Gate → List ℕ → Bool
-admits from free t = true
-admits from (on l) t = lies_ahead l from t
-admits from before t = list_any (is_new from) t
-
-abbrev pub next_gate : ℕ → Gate → ℕ → Gate
-next_gate from free c = free
-next_gate from (on []) c = free
-next_gate from (on (l ∷ ls)) c = cond (is_new from c) free (cond (nat_lt l c) free (cond (l == c) (on ls) before))
-next_gate from before c = cond (is_new from c) free before
-
-abbrev pub passed : ℕ → Gate → List Joined → List Joined
-passed from g ps = filter (admitted (admits from g)) ps
-
--- below this identity a row leaves the search before the list
-abbrev pub gate_bound : ℕ → Gate → ℕ
-gate_bound from free = 0
-gate_bound from before = from
-gate_bound from (on []) = 0
-gate_bound from (on (l ∷ ls)) = min l from

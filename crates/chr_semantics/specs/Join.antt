@@ -1,4 +1,4 @@
--- The search with the head of the active constraint first, and the other heads in their order.
+-- The search with the head of the active constraint first, and the other heads in their order (this project's own).
 use Rattle.std.specs.Prelude.{◌≡◌, ℕ, ◌+◌, Bool, true, false, cond, not, ◌&&◌, ◌==◌, List, [], ◌∷◌, map, Option, Some, None, option_map, option_and_then, find, filter, flat_map, slice_get}
 use Rattle.chr_semantics.specs.Tree.{Tree}
 use Rattle.chr_semantics.specs.Subst.{Subst, apply, value_at}
@@ -40,6 +40,7 @@ pub record OrderLaw : Type 0 where
 abbrev pub Joined : Type 0
 Joined = List Row × Subst
 
+-- with the row c in front
 abbrev pub after_row : Row → Joined → Joined
 after_row c p = (c ∷ p.0, p.1)
 
@@ -64,6 +65,7 @@ joined rows a place (h ∷ hs) used k m =
     cond (k == place) (map (after_row a) (joined rows a place hs (a.0 ∷ used) (k + 1) m))
     (flat_map (λ (c : Row). branch (λ n. joined rows a place hs (c.0 ∷ used) (k + 1) n) c (has_number (a.0 ∷ used) c.0) (fit_atom h.atom c.1 m)) rows)
 
+-- nothing where the own head does not fit
 abbrev pub after_own : (Subst → List Joined) → Option Subst → List Joined
 after_own further None = []
 after_own further (Some m) = further m
@@ -79,6 +81,7 @@ own_joined_by keep rows rule place own a = after_own (joined_by keep rows a plac
 abbrev pub enters : History → ℕ → Rule → Joined → Bool
 enters h r rule p = all_entailed p.1 rule.guard && not (fired_before h r (ids_of p.0))
 
+-- without the match
 abbrev pub rows_in : Joined → List Row
 rows_in p = p.0
 

@@ -1,4 +1,4 @@
--- How many lists the join tries.
+-- How many lists the join tries (this project's own).
 use Rattle.std.specs.Prelude.{◌≡◌, ◌≤◌, ◌*◌, ◌+◌, ℕ, Bool, cond, ◌==◌, List, [], ◌∷◌, Option, None, Some, is_some, filter, length, min, slice_get}
 use Rattle.chr_semantics.specs.Program.{Atom, Head, Occurrence, Program, Rule, occurrence}
 use Rattle.chr_semantics.specs.Match.{Row, fits}
