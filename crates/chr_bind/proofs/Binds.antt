@@ -7,6 +7,7 @@ use Rattle.chr_semantics.specs.Tree.{Tree, var}
 use Rattle.chr_semantics.specs.Subst.{Subst, value_at, apply, occurs, with_binding, IsSolved}
 use Rattle.chr_semantics.proofs.Instances.{instance-solves}
 use Rattle.chr_semantics.proofs.Lists.{eqb_other}
+use Rattle.chr_semantics.proofs.SolvedLaw.{solved_twice}
 use Rattle.chr_semantics.proofs.UnifierEqual.{IsFree, apply-bound, apply_absent, bound_is, bound_solved, here, one}
 use Rattle.std.specs.Borrow.{Bor}
 use Rattle.chr_term.specs.declared.term.Term.{Term}
@@ -84,10 +85,10 @@ module _ (links : List Link) (pairs : Pairs) (x n : ℕ) (t : Tree) (h : IsSound
   name_known = let f = free_link (slice_get links x) n at in (linked_at links pairs x (Free n f.0) h f.1).1
 
   pub name_free : value_at (solution pairs) n ≡ var n
-  name_free = sym (ap (apply (solution pairs)) value_here) ∙ h.solved x ∙ value_here
+  name_free = sym (ap (apply (solution pairs)) value_here) ∙ solved_twice (solution pairs) h.solved x ∙ value_here
 
   binds_free : IsFree (solution pairs) n (apply (solution pairs) t)
-  binds_free = record { free = name_free; closed_under = instance-solves (value_at (solution pairs)) (solution pairs) h.solved t; absent = absent }
+  binds_free = record { free = name_free; closed_under = instance-solves (value_at (solution pairs)) (solution pairs) (solved_twice (solution pairs) h.solved) t; absent = absent }
 
   value_after : (y : ℕ) → value_at (solution (pairs ++ (n, t) ∷ [])) y ≡ apply (one n (apply (solution pairs) t)) (value_at (solution pairs) y)
   value_after y = ap (λ s. value_at s y) (solution-last pairs (n, t)) ∙ bound_is (solution pairs) n (apply (solution pairs) t) name_free y

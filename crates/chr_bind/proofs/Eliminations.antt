@@ -7,6 +7,7 @@ use Rattle.chr_semantics.specs.Subst.{Solves, Subst, value_at, apply, instances,
 use Rattle.chr_semantics.specs.Mgu.{Equations, both, apart, apart_under, mgu, elimination, elimination_from, vars}
 use Rattle.chr_semantics.proofs.Instances.{instance-solves, instances-instances}
 use Rattle.chr_semantics.proofs.Lists.{no_items}
+use Rattle.chr_semantics.proofs.SolvedLaw.{solved_twice}
 use Rattle.chr_semantics.proofs.UnifierEqual.{bound_is, from_apart, mgu_makes_equal, one}
 use Rattle.chr_semantics.proofs.UnifierNone.{mgu_none}
 use Rattle.chr_term.specs.TermView.{view, trees_view}
@@ -78,7 +79,7 @@ more_fuel_from n k s (Some es) r e = more_fuel n k s es r e
 
 unifies : (n : ℕ) (s : Subst) (a b : Tree) (r : Subst) → IsSolved s → elimination_from n s (apart (apply s a) (apply s b)) ≡ Some r → Solves (value_at r) s × (apply r a ≡ apply r b)
 unifies n s a b r h e =
-    let again = instance-solves (value_at s) s h in
+    let again = instance-solves (value_at s) s (solved_twice s h) in
     let m = from_apart n s (apply s a) (apply s b) (apart (apply s a) (apply s b)) r e refl h (again a) (again b) in
     (m.1, sym (instance-solves (value_at r) s m.1 a) ∙ m.2 ∙ instance-solves (value_at r) s m.1 b)
 

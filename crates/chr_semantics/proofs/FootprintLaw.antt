@@ -7,7 +7,7 @@ use Rattle.chr_semantics.specs.Footprint.{FootprintLaw, IsSound}
 use Rattle.chr_semantics.specs.Match.{Row}
 use Rattle.chr_semantics.specs.Program.{Atom, Head, Occurrence, Program, occurrence}
 use Rattle.chr_semantics.specs.Search.{History, atom_of, first, found_with, ids_found, rule_entries}
-use Rattle.chr_semantics.specs.State.{State, resolved_atom, rows}
+use Rattle.chr_semantics.specs.State.{State, resolved_atom, rows, start}
 use Rattle.chr_semantics.specs.Step.{after, step}
 use Rattle.chr_semantics.specs.Touch.{rule, Mark, footprint, footprint_at, footprint_of, symbol, touched_any, touches}
 use Rattle.chr_semantics.proofs.Counts.{count_none}
@@ -16,7 +16,7 @@ use Rattle.chr_semantics.proofs.KeptEntries.{entries_step}
 use Rattle.chr_semantics.proofs.KeptRows.{kept_rows, kept_step, spares_heads}
 use Rattle.chr_semantics.proofs.Lookups.{atom_of_part, Ascends-resolved, atom_kept, atom_resolved, of_kept}
 use Rattle.chr_semantics.proofs.Occurrences.{has_symbol, heads_kept, occurrence_has}
-use Rattle.chr_semantics.proofs.Soundness.{sound_step}
+use Rattle.chr_semantics.proofs.Soundness.{sound_after, sound_start, sound_step}
 
 -- what n steps leave that touch no mark of the rule and these heads
 pub record Keeps (keep : ℕ → Bool) (r : ℕ) (s t : State) : Type 0 where
@@ -55,11 +55,15 @@ first_same p rs qs h k i j b o lives living is same e =
 pub footprint_is : (p : Program) (s : State) (i j : ℕ) (a : Atom) (o : Occurrence) → atom_of s.store i ≡ Some a → occurrence p a.sym j ≡ Some o → footprint p s i j ≡ marks_of o.number o.rule.heads
 footprint_is p s i j a o lives is = ap (footprint_at p j) lives ∙ ap footprint_of is
 
-pub footprint_law : FootprintLaw
-footprint_law p s n i j a o h lives is e =
+first_stays : (p : Program) (s : State) (n i j : ℕ) (a : Atom) (o : Occurrence) → IsSound s → atom_of s.store i ≡ Some a → occurrence p a.sym j ≡ Some o → touched_any p s n (footprint p s i j) ≡ 0
+    → first p (rows (after p s n)) (after p s n).history i j ≡ first p (rows s) s.history i j
+first_stays p s n i j a o h lives is e =
     let k = keeps_after p o.number o.rule.heads n s h (sym (ap (touched_any p s n) (footprint_is p s i j a o lives is)) ∙ e) in
     let b = resolved_atom s.subst a in
     let here = atom_resolved s.subst s.store i a lives in
     let kept = atom_kept (has_symbol o.rule.heads) (rows s) i b (occurrence_has p a.sym j o is) here in
     let there = atom_of_part (of_kept (has_symbol o.rule.heads)) 0 (after p s n).next_id (rows (after p s n)) i b (Ascends-resolved (after p s n).subst 0 (after p s n).next_id (after p s n).store k.sound.ascends) (ap (λ (x : List Row). atom_of x i) k.rows_same ∙ kept) in
     first_same p (rows (after p s n)) (rows s) (after p s n).history s.history i j b o there here is k.rows_same k.entries_same
+
+pub footprint_law : FootprintLaw
+footprint_law p r k n i j a o lives is e = first_stays p (after p (start r) k) n i j a o (sound_after p k (start r) (sound_start r)) lives is e

@@ -39,3 +39,8 @@ pub mod LookLaw
 pub mod SnapshotLaw
 pub mod StampsByCallLaw
 pub mod TotalsLaw
+pub mod LimitsLaw
+pub mod ReadBack
+pub mod FitsLaw
+pub mod CallsLaw
+pub mod IdleLaw

@@ -68,7 +68,7 @@ pub some_same : (m n : Subst) → Some m ≡ Some n → m ≡ n
 some_same m n e = cc
 
 -- a test in front of a match
-tested : (b : Bool) (o : Option Subst) (n : Subst) → cond b o None ≡ Some n → (b ≡ true) × (o ≡ Some n)
+pub tested : (b : Bool) (o : Option Subst) (n : Subst) → cond b o None ≡ Some n → (b ≡ true) × (o ≡ Some n)
 tested true o n e = (refl, e)
 tested false o n e = absurd (none_some n e)
 

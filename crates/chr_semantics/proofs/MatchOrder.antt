@@ -155,7 +155,7 @@ same_match heads t place own a e f = both (fits heads t) (fit_own_first place he
         lookups m n (λ x u g. q.2 x u (ap (λ (k : Subst). match_at k x) other ∙ g)) (λ x u g. r.2 x u (ap (λ (k : Subst). match_at k x) one ∙ g))
 
 -- what sees look-ups alone
-value_is : (m : Subst) (x : ℕ) → value_at m x ≡ unwrap_or (match_at m x) (var x)
+pub value_is : (m : Subst) (x : ℕ) → value_at m x ≡ unwrap_or (match_at m x) (var x)
 value_is [] x = refl
 value_is (p ∷ m) x = value_is_at (p.0 == x) p.1 (value_is m x)
   where

@@ -9,7 +9,7 @@ use Rattle.chr_semantics.specs.Match.{Row}
 use Rattle.chr_semantics.specs.Program.{Atom, Occurrence, Program, occurrence}
 use Rattle.chr_semantics.specs.Schedule.{same_goal, serves_guest, serves_row}
 use Rattle.chr_semantics.specs.Search.{atom_of, first}
-use Rattle.chr_semantics.specs.State.{State, resolved_atom, rows}
+use Rattle.chr_semantics.specs.State.{State, resolved_atom, rows, start}
 use Rattle.chr_semantics.specs.Step.{after}
 use Rattle.chr_semantics.specs.Tasks.{Task, guest}
 use Rattle.chr_semantics.specs.Touch.{Mark, touched, touched_any, touches}
@@ -19,7 +19,7 @@ use Rattle.chr_semantics.proofs.Guest.{atom_pushed, found_kept, guest_after, kep
 use Rattle.chr_semantics.proofs.Lookups.{atom_resolved}
 use Rattle.chr_semantics.proofs.Occurrences.{has_symbol, occurrence_has}
 use Rattle.chr_semantics.proofs.SameLaw.{same_atom_true}
-use Rattle.chr_semantics.proofs.Soundness.{sound_after}
+use Rattle.chr_semantics.proofs.Soundness.{sound_after, sound_start}
 
 -- the guest's goal is that of the row
 guest_is : (s : State) (g : Option Atom) (b : Atom) → same_goal (option_map (resolved_atom s.subst) g) (Some b) ≡ true → with_guest s g ≡ rows s ++ (s.next_id, b) ∷ []
@@ -75,4 +75,4 @@ serves_at false p q k m u a o is h lives has e =
     subst (λ (t : State). first p (rows s) s.history u.0 u.1 ≡ first p (rows t) t.history u.0 u.1) (sym parts) w
 
 pub serves_law : ServesLaw
-serves_law p q k m t a o h lives is e = serves_at (t.0 == (after p q k).next_id) p q k m t a o refl h lives is e
+serves_law p r k m t a o lives is e = let q = start r in serves_at (t.0 == (after p q k).next_id) p q k m t a o refl (sound_start r) lives is e

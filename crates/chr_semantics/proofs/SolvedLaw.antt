@@ -1,11 +1,10 @@
--- A substitution is solved exactly where no variable that it binds occurs in what a variable stands for.
-use Rattle.std.proofs.Common.{◌≡◌, ℕ, Bool, true, false, ap, refl, ◌∙◌, sym}
-use Rattle.std.proofs.lemmas.Bool.{or_cases, or_left, or_right, false_from_ne_true, true≢false}
+-- A substitution is solved exactly where applying it twice is applying it once, and no variable is bound to itself.
+use Rattle.std.proofs.Common.{◌≡◌, ℕ, Bool, true, false, cond, ◌==◌, [], ◌∷◌, ap, refl, ◌∙◌, sym}
+use Rattle.std.proofs.lemmas.Bool.{or_cases, or_left, or_right, or_parts, false_from_ne_true, true≢false}
 use Rattle.std.proofs.lemmas.Bool.Decides.{Decides-eqb}
 use Rattle.std.proofs.Common.{inl, inr}
-use Rattle.chr_semantics.specs.Tree.{Tree, var, int, node, Trees, none, more, same}
-use Rattle.chr_semantics.specs.Subst.{instance, instances, value_at, occurs, occurs_any, SolvedLaw}
-use Rattle.chr_semantics.proofs.SameLaw.{same_law}
+use Rattle.chr_semantics.specs.Tree.{Tree, var, int, node, Trees, none, more}
+use Rattle.chr_semantics.specs.Subst.{IsSolved, SolvedLaw, Solves, Subst, apply, binds_var, instance, instances, occurs, occurs_any, value_at}
 
 -- a term that a replacement leaves as it is has no variable that is replaced by another term
 mutual
@@ -30,13 +29,31 @@ mutual
   kept_terms f (more t ts) h =
       cc (kept_term f t (λ y k. h y (or_left (occurs y t) (occurs_any y ts) k)), kept_terms f ts (λ y k. h y (or_right (occurs y t) (occurs_any y ts) k)))
 
--- equality with a variable is decided, so what cannot fail holds
-is_var_at : (b : Bool) (t : Tree) (y : ℕ) → same t (var y) ≡ b → ((t ≡ var y → ⊥) → ⊥) → t ≡ var y
-is_var_at true t y is h = (same_law.terms t (var y)).0 is
-is_var_at false t y is h = absurd (h (λ e. true≢false (sym ((same_law.terms t (var y)).1 e) ∙ is)))
+-- what is not bound stands for itself
+pub unbound_stays : (s : Subst) (x : ℕ) → binds_var s x ≡ false → value_at s x ≡ var x
+unbound_stays [] x h = refl
+unbound_stays (p ∷ s) x h = let r = or_parts (p.0 == x) (binds_var s x) h in ap (λ (b : Bool). cond b p.1 (value_at s x)) r.0 ∙ unbound_stays s x r.1
+
+-- a variable in what a variable stands for is not bound
+inside_is_free : (s : Subst) → IsSolved s → (x y : ℕ) → occurs y (value_at s x) ≡ true → value_at s y ≡ var y
+inside_is_free s h x y inside = by_test (binds_var s y) refl
+  where
+    by_test : (b : Bool) → binds_var s y ≡ b → value_at s y ≡ var y
+    by_test true bound = absurd (true≢false (sym inside ∙ h x y bound))
+    by_test false free = unbound_stays s y free
+
+pub solved_twice : (s : Subst) → IsSolved s → Solves (value_at s) s
+solved_twice s h x = kept_term (value_at s) (value_at s x) (inside_is_free s h x)
+
+-- a variable that is bound does not stand for itself, and occurs in no term that stays
+pub bound_moves : (s : Subst) → IsSolved s → (y : ℕ) → binds_var s y ≡ true → value_at s y ≡ var y → ⊥
+bound_moves s h y bound e = true≢false (sym ((Decides-eqb y y).1 refl) ∙ ap (occurs y) (sym e) ∙ h y y bound)
+
+pub bound_absent : (s : Subst) → IsSolved s → (y : ℕ) (t : Tree) → binds_var s y ≡ true → apply s t ≡ t → occurs y t ≡ false
+bound_absent s h y t bound e = false_from_ne_true (occurs y t) (λ inside. bound_moves s h y bound (kept_var (value_at s) y t e inside))
 
 pub solved_law : SolvedLaw
 solved_law = record {
-  only = λ s h x y bound. false_from_ne_true (occurs y (value_at s x)) (λ inside. bound (kept_var (value_at s) y (value_at s x) (h x) inside));
-  enough = λ s h x. kept_term (value_at s) (value_at s x) (λ y inside. is_var_at (same (value_at s y) (var y)) (value_at s y) y refl (λ bound. true≢false (sym inside ∙ h x y bound)));
+  twice = solved_twice;
+  enough = λ s h moves x y bound. false_from_ne_true (occurs y (value_at s x)) (λ inside. moves y bound (kept_var (value_at s) y (value_at s x) (h x) inside));
 }

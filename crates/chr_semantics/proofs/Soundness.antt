@@ -141,7 +141,7 @@ sound_step p s h = sound_at p s s.status h
 
 -- the start of a query
 pub sound_start : (r : Query) → IsSound (start r)
-sound_start r = record { solved = λ x. refl; ascends = omega arith; agrees = agrees_goals [] 1 (λ g. g) r.goals }
+sound_start r = record { solved = λ x y bound. absurd (true≢false (sym bound)); ascends = omega arith; agrees = agrees_goals [] 1 (λ g. g) r.goals }
 
 -- n steps
 pub sound_after : (p : Program) (n : ℕ) (s : State) → IsSound s → IsSound (after p s n)

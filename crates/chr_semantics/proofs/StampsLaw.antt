@@ -7,14 +7,14 @@ use Rattle.std.specs.List.{list_any, list_all}
 use Rattle.chr_semantics.specs.Footprint.{marks_added, StampsLaw, IsSound}
 use Rattle.chr_semantics.specs.Program.{Occurrence, occurrence, Atom, Head, Program}
 use Rattle.chr_semantics.specs.Search.{atom_of}
-use Rattle.chr_semantics.specs.State.{resolved_atom, State, rows}
+use Rattle.chr_semantics.specs.State.{resolved_atom, State, rows, start}
 use Rattle.chr_semantics.specs.Step.{after, step}
 use Rattle.chr_semantics.specs.Touch.{rule, Mark, symbol, touched, touched_any, touches}
 use Rattle.chr_semantics.proofs.Counts.{after-add, NoneTouched-from_counts, NoneTouched, count-add, count_none, touched_any_none}
 use Rattle.chr_semantics.proofs.FootprintLaw.{footprint_is, keeps_after, keeps_one, marks_of}
 use Rattle.chr_semantics.proofs.Guest.{enters_or_stays, entered, found_kept, never_again}
 use Rattle.chr_semantics.proofs.Occurrences.{occurrence_has, has_symbol}
-use Rattle.chr_semantics.proofs.Soundness.{sound_after, sound_step}
+use Rattle.chr_semantics.proofs.Soundness.{sound_after, sound_start, sound_step}
 use Rattle.chr_semantics.proofs.Lookups.{atom_resolved}
 
 -- one step more: what a stamp does
@@ -169,5 +169,5 @@ pub stamps_law : StampsLaw
 stamps_law = record {
   grows = touched_more;
   untouched = untouched_is;
-  activated = λ p q k m i j a o h next lives is. subst (λ (xs : List Mark). IsTrue (list_all (λ x. touched p q k x + marks_added a.sym x == touched p q (k + m) x) xs) ↔ (touched_any p (after p q k) m xs ≡ 1)) (sym (footprint_is p (after p q (k + m)) i j a o lives is)) (activated_is p q k m i j a o h next lives is);
+  activated = λ p r k m i j a o next lives is. let q = start r in subst (λ (xs : List Mark). IsTrue (list_all (λ x. touched p q k x + marks_added a.sym x == touched p q (k + m) x) xs) ↔ (touched_any p (after p q k) m xs ≡ 1)) (sym (footprint_is p (after p q (k + m)) i j a o lives is)) (activated_is p q k m i j a o (sound_start r) next lives is);
 }

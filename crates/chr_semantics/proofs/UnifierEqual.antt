@@ -1,14 +1,15 @@
 -- The unifier is solved, has the bindings of s and makes the equations equal.
-use Rattle.std.proofs.Common.{Bool, None, Option, Some, [], ap, cond, false, nat_lt, refl, subst, suc, sym, true, zero, ℕ, ◌++◌, ◌==◌, ◌∙◌, ◌∷◌, ◌≡◌}
-use Rattle.std.proofs.lemmas.Bool.{eq-eqb, or_parts}
+use Rattle.std.proofs.Common.{Bool, None, Option, Some, [], ap, cond, false, map, nat_lt, refl, subst, suc, sym, true, zero, ℕ, ◌++◌, ◌==◌, ◌∙◌, ◌∷◌, ◌≡◌, ◌||◌}
+use Rattle.std.proofs.lemmas.Bool.{eq-eqb, or_parts, false_from_ne_true, true≢false}
 use Rattle.std.proofs.lemmas.Bool.Decides.{Decides-eqb}
 use Rattle.std.specs.Ordering.{int_eq}
 use mathlib.Core.Path.{fun_ext}
 use Rattle.chr_semantics.specs.Mgu.{elimination, Equations, apart, apart_all, apart_under, both, mgu, of_var, elimination_from}
-use Rattle.chr_semantics.specs.Subst.{IsSolved, Solves, Subst, apply, with_binding, occurs, occurs_any, instance, instances, value_at}
+use Rattle.chr_semantics.specs.Subst.{IsSolved, Solves, Subst, apply, binds_var, with_binding, occurs, occurs_any, instance, instances, value_at}
 use Rattle.chr_semantics.specs.Tree.{Tree, Trees, int, more, node, none, var}
 use Rattle.chr_semantics.proofs.Apart.{Holds, HoldsIn, apart_equal, apart_under_equal}
 use Rattle.chr_semantics.proofs.Instances.{Solves-one, instance-instance, instance-solves, value_at-others}
+use Rattle.chr_semantics.proofs.SolvedLaw.{bound_absent, solved_twice}
 use Rattle.chr_semantics.proofs.UnifierGeneral.{gives_step}
 
 -- one pair
@@ -111,16 +112,51 @@ bound_is s x u h y = bound_at (x == y) s x y u refl h
 pub apply-bound : (s : Subst) (x : ℕ) (u : Tree) → value_at s x ≡ var x → (t : Tree) → apply (with_binding x u s) t ≡ apply (one x u) (apply s t)
 apply-bound s x u h t = ap (λ (g : ℕ → Tree). instance g t) (fun_ext (bound_is s x u h)) ∙ sym (instance-instance (value_at (one x u)) (value_at s) t)
 
-one_solved : (x : ℕ) (u : Tree) → occurs x u ≡ false → IsSolved (one x u)
-one_solved x u h = Solves-one (value_at (one x u)) x u (here x u (var x) ∙ sym (apply_absent x u u h))
+one_twice : (x : ℕ) (u : Tree) → occurs x u ≡ false → Solves (value_at (one x u)) (one x u)
+one_twice x u h = Solves-one (value_at (one x u)) x u (here x u (var x) ∙ sym (apply_absent x u u h))
 
 closed_again : (s : Subst) (x : ℕ) (u : Tree) → IsFree s x u → (w : Tree) → apply s w ≡ w → apply (with_binding x u s) (apply (one x u) w) ≡ apply (one x u) w
 closed_again s x u f w k =
-    apply-bound s x u f.free (apply (one x u) w) ∙ ap (apply (one x u)) (closed s x u w f.closed_under k) ∙ instance-solves (value_at (one x u)) (one x u) (one_solved x u f.absent) w
+    apply-bound s x u f.free (apply (one x u) w) ∙ ap (apply (one x u)) (closed s x u w f.closed_under k) ∙ instance-solves (value_at (one x u)) (one x u) (one_twice x u f.absent) w
+
+-- what does not occur in u, and in a term at most as x, does not occur after x was replaced
+replaced_at : (b : Bool) (x y z : ℕ) (u : Tree) → (x == z) ≡ b → occurs y u ≡ false → ((x == y) ≡ false → (y == z) ≡ false) → occurs y (cond b u (var z)) ≡ false
+replaced_at true x y z u is absent h = absent
+replaced_at false x y z u is absent h = false_from_ne_true (y == z) (λ e. let same : y ≡ z = (Decides-eqb y z).0 e in true≢false (sym e ∙ h (ap (λ (w : ℕ). x == w) same ∙ is)))
+
+mutual
+  absent_after : (x y : ℕ) (u t : Tree) → occurs y u ≡ false → ((x == y) ≡ false → occurs y t ≡ false) → occurs y (apply (one x u) t) ≡ false
+  absent_after x y u (var z) absent h = replaced_at (x == z) x y z u refl absent h
+  absent_after x y u (int z) absent h = refl
+  absent_after x y u (node g ts) absent h = absent_after_all x y u ts absent h
+
+  absent_after_all : (x y : ℕ) (u : Tree) (ts : Trees) → occurs y u ≡ false → ((x == y) ≡ false → occurs_any y ts ≡ false) → occurs_any y (instances (value_at (one x u)) ts) ≡ false
+  absent_after_all x y u none absent h = refl
+  absent_after_all x y u (more t ts) absent h =
+      neither (absent_after x y u t absent (λ e. (or_parts (occurs y t) (occurs_any y ts) (h e)).0)) (absent_after_all x y u ts absent (λ e. (or_parts (occurs y t) (occurs_any y ts) (h e)).1))
+    where
+      neither : {a b : Bool} → a ≡ false → b ≡ false → (a || b) ≡ false
+      neither e f = cc (e, f)
+
+-- the variables that are bound then
+binds_more : (x y : ℕ) (u : Tree) (s : Subst) → binds_var (with_binding x u s) y ≡ (x == y || binds_var s y)
+binds_more x y u s = ap (λ (b : Bool). x == y || b) (binds_mapped s)
+  where
+    binds_mapped : (r : Subst) → binds_var (map (λ (p : ℕ × Tree). (p.0, apply (one x u) p.1)) r) y ≡ binds_var r y
+    binds_mapped [] = refl
+    binds_mapped (p ∷ r) = ap (λ (b : Bool). p.0 == y || b) (binds_mapped r)
 
 -- binding a free variable keeps the substitution solved
 pub bound_solved : (s : Subst) (x : ℕ) (u : Tree) → IsFree s x u → IsSolved s → IsSolved (with_binding x u s)
-bound_solved s x u f h y = let e = bound_is s x u f.free y in ap (apply (with_binding x u s)) e ∙ closed_again s x u f (value_at s y) (h y) ∙ sym e
+bound_solved s x u f h z y bound = ap (occurs y) (bound_is s x u f.free z) ∙ by_test (x == y) refl
+  where
+    by_test : (b : Bool) → (x == y) ≡ b → occurs y (apply (one x u) (value_at s z)) ≡ false
+    by_test true is =
+        let same : x ≡ y = (Decides-eqb x y).0 is in
+        absent_after x y u (value_at s z) (subst (λ (w : ℕ). occurs w u ≡ false) same f.absent) (λ other. absurd (true≢false (sym is ∙ other)))
+    by_test false is =
+        let before : binds_var s y ≡ true = sym (ap (λ (b : Bool). b || binds_var s y) is) ∙ sym (binds_more x y u s) ∙ bound in
+        absent_after x y u (value_at s z) (bound_absent s h y u before f.closed_under) (λ other. h z y before)
 
 under_bound : (s : Subst) (x : ℕ) (u : Tree) → IsFree s x u → (es : Equations) → Under s es → UnderIn (with_binding x u s) (apart_under (one x u) es)
 under_bound s x u f [] h = tt
@@ -129,7 +165,7 @@ under_bound s x u f (e ∷ es) h =
 
 -- the eliminations keep it solved and make the equations equal
 pub solved_makes_equal : (n : ℕ) (s : Subst) (es : Equations) (r : Subst) → elimination n s es ≡ Some r → IsSolved s → Under s es → IsSolved r × Solves (value_at r) s × Holds (value_at r) es
-solved_makes_equal n s [] r is h k = let same : s ≡ r = cc in (subst IsSolved same h, subst (λ w. Solves (value_at w) s) same h, tt)
+solved_makes_equal n s [] r is h k = let same : s ≡ r = cc in (subst IsSolved same h, subst (λ w. Solves (value_at w) s) same (solved_twice s h), tt)
 solved_makes_equal zero s (e ∷ es) r is h k = cc
 solved_makes_equal (suc n) s (e ∷ es) r is h k =
     let x = e.0 in
@@ -156,6 +192,6 @@ from_apart n s a b (Some es) r is o h i j =
 pub mgu_makes_equal : (s : Subst) (a b : Tree) → IsSolved s → (r : Subst) → mgu s a b ≡ Some r → IsSolved r × Solves (value_at r) s × (apply r a ≡ apply r b)
 unfolding mgu
 mgu_makes_equal s a b h r is =
-    let again = instance-solves (value_at s) s h in
+    let again = instance-solves (value_at s) s (solved_twice s h) in
     let m = from_apart _ s (apply s a) (apply s b) (apart (apply s a) (apply s b)) r is refl h (again a) (again b) in
     (m.0, m.1, sym (instance-solves (value_at r) s m.1 a) ∙ m.2 ∙ instance-solves (value_at r) s m.1 b)

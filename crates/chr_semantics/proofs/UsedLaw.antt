@@ -46,4 +46,4 @@ used_law p r k m t need e =
     let q = start r in
     let h = sound_start r in
     let w = needs_top p (after p q (k + m)) (after p q (k + m)).stack t (sound_after p (k + m) q h).agrees need in
-    serves_law p q k m t w.atom w.occ h w.living w.is e ∙ w.finds
+    serves_law p r k m t w.atom w.occ w.living w.is e ∙ w.finds

@@ -7,3 +7,5 @@ pub mod Speculation
 pub mod Syntaxes
 pub mod Searches
 pub mod Desks
+pub mod Calls
+pub mod Schedules

@@ -36,12 +36,13 @@ pub record IsSound (s : State) : Type 0 where
   pub ascends : Ascends 0 s.store s.next_id
   pub agrees : Agrees s.store s.next_id s.stack
 
--- where none of the next n transitions touches the footprint of occurrence j of the living constraint i, its first firing stays
+-- In a query's run: where none of the next n transitions touches the footprint of occurrence j of the living constraint i, its first firing
+-- stays.
 abbrev pub FootprintLaw : Type 0
 FootprintLaw =
-    (p : Program) (s : State) (n i j : ℕ) (a : Atom) (o : Occurrence) → IsSound s → atom_of s.store i ≡ Some a → occurrence p a.sym j ≡ Some o
-    → touched_any p s n (footprint p s i j) ≡ 0
-    → first p (rows (after p s n)) (after p s n).history i j ≡ first p (rows s) s.history i j
+    (p : Program) (r : Query) (k n i j : ℕ) (a : Atom) (o : Occurrence)
+    → (let s = after p (start r) k in atom_of s.store i ≡ Some a → occurrence p a.sym j ≡ Some o → touched_any p s n (footprint p s i j) ≡ 0
+    → first p (rows (after p s n)) (after p s n).history i j ≡ first p (rows s) s.history i j)
 
 abbrev pub with_guest : State → Option Atom → List Row
 with_guest s None = rows s
@@ -61,12 +62,12 @@ TakenLaw =
     (p : Program) (r : Query) (n : ℕ) (t : Task)
     → (let s = after p (start r) n in first p (rows_for s t.0) (live_entries (rows s) s.history) t.0 t.1 ≡ answer p s t)
 
--- an answer that serves is the first firing
+-- in a query's run, an answer that serves is the first firing
 abbrev pub ServesLaw : Type 0
 ServesLaw =
-    (p : Program) (q : State) (k m : ℕ) (t : Task) (a : Atom) (o : Occurrence) → IsSound q → atom_of (after p q (k + m)).store t.0 ≡ Some a → occurrence p a.sym t.1 ≡ Some o
-    → serves p q k (k + m) t ≡ true
-    → answer p (after p q k) t ≡ first p (rows (after p q (k + m))) (after p q (k + m)).history t.0 t.1
+    (p : Program) (r : Query) (k m : ℕ) (t : Task) (a : Atom) (o : Occurrence)
+    → (let q = start r in atom_of (after p q (k + m)).store t.0 ≡ Some a → occurrence p a.sym t.1 ≡ Some o → serves p q k (k + m) t ≡ true
+    → answer p (after p q k) t ≡ first p (rows (after p q (k + m))) (after p q (k + m)).history t.0 t.1)
 
 -- what an Activate of a constraint of the symbol f adds to the count of a mark
 abbrev pub marks_added : ℕ → Mark → ℕ
@@ -80,8 +81,9 @@ pub record StampsLaw : Type 0 where
   pub grows : (p : Program) (q : State) (n : ℕ) (x : Mark) → touched p q (n + 1) x ≡ touched p q n x + cond (touches p (after p q n) x) 1 0
   pub untouched : (p : Program) (q : State) (k m : ℕ) (marks : List Mark) → IsTrue (list_all (λ x. touched p q k x == touched p q (k + m) x) marks) ↔ (touched_any p (after p q k) m marks ≡ 0)
   pub activated :
-      (p : Program) (q : State) (k m i j : ℕ) (a : Atom) (o : Occurrence) → IsSound q → (after p q k).next_id ≡ i → atom_of (after p q (k + m)).store i ≡ Some a → occurrence p a.sym j ≡ Some o
-      → IsTrue (list_all (λ x. touched p q k x + marks_added a.sym x == touched p q (k + m) x) (footprint p (after p q (k + m)) i j)) ↔ (touched_any p (after p q k) m (footprint p (after p q (k + m)) i j) ≡ 1)
+      (p : Program) (r : Query) (k m i j : ℕ) (a : Atom) (o : Occurrence)
+      → (let q = start r in (after p q k).next_id ≡ i → atom_of (after p q (k + m)).store i ≡ Some a → occurrence p a.sym j ≡ Some o
+      → IsTrue (list_all (λ x. touched p q k x + marks_added a.sym x == touched p q (k + m) x) (footprint p (after p q (k + m)) i j)) ↔ (touched_any p (after p q k) m (footprint p (after p q (k + m)) i j) ≡ 1))
 
 -- what the search of the next step finds
 abbrev pub step_answer_top : Program → State → List Element → Option (List ℕ)

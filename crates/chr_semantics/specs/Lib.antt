@@ -34,3 +34,5 @@ pub mod Changes
 pub mod Desk
 pub mod Policy
 pub mod Outcome
+pub mod ScheduleText
+pub mod Calls

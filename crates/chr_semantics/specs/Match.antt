@@ -1,8 +1,9 @@
 -- Matching, one way, of heads with resolved constraints (Frühwirth 2009, matching; Duck et al. 2004, Simplify and Propagate).
-use Rattle.std.specs.Prelude.{ℕ, cond, ◌==◌, List, [], ◌∷◌, Option, Some, None, option_and_then}
+use Rattle.std.specs.Prelude.{◌≡◌, ℕ, Bool, cond, ◌==◌, List, [], ◌∷◌, map, Option, Some, None, option_and_then}
+use Rattle.std.specs.List.{list_any}
 use Rattle.std.specs.Ordering.{int_eq}
 use Rattle.chr_semantics.specs.Tree.{Tree, var, int, node, Trees, none, more, same}
-use Rattle.chr_semantics.specs.Subst.{Subst}
+use Rattle.chr_semantics.specs.Subst.{Subst, binds_var, instances, occurs_any, value_at}
 use Rattle.chr_semantics.specs.Program.{Atom, Head}
 
 -- a constraint of the store with its identity, c#i
@@ -49,3 +50,20 @@ fit_rows (h ∷ hs) (a ∷ others) m = option_and_then (fit_rows hs others) (fit
 -- the substitution over head variables alone that makes the heads equal to the resolved rows, or none
 abbrev pub fits : List Head → List Row → Option Subst
 fits heads rows = fit_rows heads rows []
+
+-- the constraints that heads stand for under a function of variables
+abbrev pub made_atom : (ℕ → Tree) → Head → Atom
+made_atom f h = record { sym = h.atom.sym; args = instances f h.atom.args }
+
+abbrev pub AreMade : (ℕ → Tree) → List Head → List Row → Type 0
+AreMade f heads rows = map (made_atom f) heads ≡ map (λ (r : Row). r.1) rows
+
+-- the variable occurs in a head
+abbrev pub has_variable : List Head → ℕ → Bool
+has_variable heads x = list_any (λ (h : Head). occurs_any x h.atom.args) heads
+
+-- The match makes the heads the rows, and it is of the variables of the heads alone; where there is none, nothing makes the heads the rows.
+pub record FitsLaw : Type 0 where
+  pub makes : (heads : List Head) (rows : List Row) (m : Subst) → fits heads rows ≡ Some m → AreMade (value_at m) heads rows
+  pub variables : (heads : List Head) (rows : List Row) (m : Subst) → fits heads rows ≡ Some m → (x : ℕ) → binds_var m x ≡ has_variable heads x
+  pub none : (heads : List Head) (rows : List Row) → fits heads rows ≡ None → (f : ℕ → Tree) → AreMade f heads rows → ⊥

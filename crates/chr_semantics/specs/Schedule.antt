@@ -1,11 +1,11 @@
 -- Schedules of answers that come from elsewhere, and the counts of their events (this project's own).
-use Rattle.std.specs.Prelude.{◌≡◌, ℕ, ◌+◌, Bool, true, false, cond, ◌&&◌, ◌==◌, nat_lt, List, [], ◌∷◌, ◌++◌, Option, Some, None, slice_get, length, option_map}
+use Rattle.std.specs.Prelude.{◌≡◌, ℕ, ◌+◌, Bool, true, false, cond, not, ◌&&◌, ◌==◌, nat_lt, ◌≤◌, ◌<◌, List, [], ◌∷◌, ◌++◌, Option, Some, None, slice_get, length, option_map, position, replicate}
 use Rattle.std.specs.List.{list_any, list_all, fold}
-use Rattle.chr_semantics.specs.Program.{Atom, Program}
+use Rattle.chr_semantics.specs.Program.{Atom, Program, Query}
 use Rattle.chr_semantics.specs.Tree.{same_all}
 use Rattle.chr_semantics.specs.Search.{atom_of}
-use Rattle.chr_semantics.specs.State.{State, resolved_atom, rows}
-use Rattle.chr_semantics.specs.Step.{after}
+use Rattle.chr_semantics.specs.State.{State, resolved_atom, rows, start}
+use Rattle.chr_semantics.specs.Step.{after, is_running}
 use Rattle.chr_semantics.specs.Touch.{touched, touched_any, footprint}
 use Rattle.chr_semantics.specs.Tasks.{Task, same_task, tasks, guest, needed_task}
 use Rattle.chr_semantics.specs.declared.limits.TheConstants.{KEPT_ROUNDS, MAX_ROUNDS, MAX_TRANSITIONS}
@@ -73,14 +73,34 @@ with_step p q g (Some t) = elim (is_served p q g t) [ true ↦ record g { steps 
 abbrev pub is_late : Progress → ℕ → Bool
 is_late g r = nat_lt (r + KEPT_ROUNDS) (length g.rounds)
 
-abbrev pub with_arrival : Progress → ℕ → ℕ → Progress
-with_arrival g r x =
-    cond (is_late g r) (record g { late = g.late + 1 })
-    (cond (list_any (same_task (r, x)) g.kept) (record g { double = g.double + 1 }) (record g { kept = g.kept ++ (r, x) ∷ [] }))
+-- What becomes of an answer, with its round: it is kept; it comes late, or again; or no round has the place that it comes with.
+pub data Took : Type 0 where
+  kept : ℕ → Took
+  late : ℕ → Took
+  double : ℕ → Took
+  stranger : Took
+
+-- the answer to the task x of round r
+abbrev pub took : Progress → ℕ → ℕ → Took
+took g r x = cond (is_late g r) (late r) (cond (list_any (same_task (r, x)) g.kept) (double r) (kept r))
+
+abbrev pub took_from : Progress → ℕ → Option ℕ → Took
+took_from g x None = stranger
+took_from g x (Some r) = took g r x
+
+-- an answer with the place of its snapshot; the rounds published theirs at these places
+abbrev pub took_at : Progress → List ℕ → ℕ → ℕ → Took
+took_at g places place x = took_from g x (position (λ y. y == place) places)
+
+abbrev pub with_took : Progress → ℕ → Took → Progress
+with_took g x (kept r) = record g { kept = g.kept ++ (r, x) ∷ [] }
+with_took g x (late r) = record g { late = g.late + 1 }
+with_took g x (double r) = record g { double = g.double + 1 }
+with_took g x stranger = g
 
 abbrev pub next : Program → State → Progress → Event → Progress
 next p q g publish = record g { rounds = g.rounds ++ g.steps ∷ [] }
-next p q g (arrive r x) = with_arrival g r x
+next p q g (arrive r x) = with_took g x (took g r x)
 next p q g move = with_step p q g (needed_task p (after p q g.steps))
 
 -- the schedule from the start q of a query
@@ -128,3 +148,32 @@ refusal p q g at_place move = cond (nat_lt g.steps MAX_TRANSITIONS) None (Some (
 abbrev pub first_refusal : Program → State → Progress → ℕ → List Event → Option Refusal
 first_refusal p q g k [] = None
 first_refusal p q g k (e ∷ es) = elim (refusal p q g k e) [ Some r ↦ Some r | None ↦ first_refusal p q (next p q g e) (k + 1) es ]
+
+-- At the limits a Publish or a Step is refused after every progress, and below them it is not; so a schedule of Publishes or Steps alone
+-- is refused at the first beyond.
+pub record LimitsLaw : Type 0 where
+  pub no_round : (p : Program) (q : State) (g : Progress) (k : ℕ) → MAX_ROUNDS ≤ length g.rounds → refusal p q g k publish ≡ Some (too_many_rounds k)
+  pub a_round : (p : Program) (q : State) (g : Progress) (k : ℕ) → length g.rounds < MAX_ROUNDS → refusal p q g k publish ≡ None
+  pub no_step : (p : Program) (q : State) (g : Progress) (k : ℕ) → MAX_TRANSITIONS ≤ g.steps → refusal p q g k move ≡ Some (too_many_steps k)
+  pub a_step : (p : Program) (q : State) (g : Progress) (k : ℕ) → g.steps < MAX_TRANSITIONS → refusal p q g k move ≡ None
+  pub rounds : (p : Program) (q : State) (n : ℕ) → first_refusal p q no_progress 0 (replicate n publish) ≡ cond (nat_lt MAX_ROUNDS n) (Some (too_many_rounds MAX_ROUNDS)) None
+  pub moves : (p : Program) (q : State) (n : ℕ) → first_refusal p q no_progress 0 (replicate n move) ≡ cond (nat_lt MAX_TRANSITIONS n) (Some (too_many_steps MAX_TRANSITIONS)) None
+
+-- a Step of a run that has ended is no transition
+abbrev pub is_idle : Program → State → Progress → Event → Bool
+is_idle p q g publish = false
+is_idle p q g (arrive r x) = false
+is_idle p q g move = not (is_running (after p q g.steps).status)
+
+-- the events of a schedule without these
+abbrev pub without_idle : Program → State → Progress → List Event → List Event
+without_idle p q g [] = []
+without_idle p q g (e ∷ es) = cond (is_idle p q g e) (without_idle p q (next p q g e) es) (e ∷ without_idle p q (next p q g e) es)
+
+abbrev pub performed : Program → State → List Event → List Event
+performed p q = without_idle p q no_progress
+
+-- a schedule of a query's run comes to the same state and counts without them
+pub record IdleLaw : Type 0 where
+  pub state : (p : Program) (r : Query) (es : List Event) → (let q = start r in after p q (progress p q (performed p q es)).steps ≡ after p q (progress p q es).steps)
+  pub counts_same : (p : Program) (r : Query) (es : List Event) → (let q = start r in counts p q (performed p q es) ≡ counts p q es)

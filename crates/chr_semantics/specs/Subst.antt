@@ -1,5 +1,5 @@
 -- Substitutions (Frühwirth 2009, substitution and unification).
-use Rattle.std.specs.Prelude.{◌≡◌, ℕ, Bool, false, cond, ◌||◌, ◌==◌, List, [], ◌∷◌, map}
+use Rattle.std.specs.Prelude.{◌≡◌, ℕ, Bool, true, false, cond, ◌||◌, ◌==◌, List, [], ◌∷◌, map}
 use Rattle.std.specs.List.{list_any}
 use Rattle.chr_semantics.specs.Tree.{Tree, var, int, node, Trees, none, more}
 
@@ -46,18 +46,14 @@ abbrev mutual
 abbrev pub Solves : (ℕ → Tree) → Subst → Type 0
 Solves f s = (x : ℕ) → instance f (value_at s x) ≡ f x
 
--- A substitution is solved where applying it twice is applying it once. `SolvedLaw` says the same by occurrences.
+-- a substitution is solved where no variable that it binds occurs in what a variable stands for
 abbrev pub IsSolved : Subst → Type 0
-IsSolved s = Solves (value_at s) s
+IsSolved s = (x y : ℕ) → binds_var s y ≡ true → occurs y (value_at s x) ≡ false
 
--- a variable that stands for another term occurs in nothing that a variable stands for
-abbrev pub HasNoBoundRight : Subst → Type 0
-HasNoBoundRight s = (x y : ℕ) → (value_at s y ≡ var y → ⊥) → occurs y (value_at s x) ≡ false
-
--- the two ways to say that a substitution is solved agree
+-- so it is exactly where applying it twice is applying it once, and no variable is bound to itself
 pub record SolvedLaw : Type 0 where
-  pub only : (s : Subst) → IsSolved s → HasNoBoundRight s
-  pub enough : (s : Subst) → HasNoBoundRight s → IsSolved s
+  pub twice : (s : Subst) → IsSolved s → Solves (value_at s) s
+  pub enough : (s : Subst) → Solves (value_at s) s → ((x : ℕ) → binds_var s x ≡ true → value_at s x ≡ var x → ⊥) → IsSolved s
 
 -- the substitution with the variable x, which it does not bind, bound to u: x is replaced by u in the whole of it
 abbrev pub with_binding : ℕ → Tree → Subst → Subst

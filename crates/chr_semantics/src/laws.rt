@@ -3,12 +3,15 @@
 ghost use Rattle.chr_semantics.specs.Tree.{SameLaw};
 ghost use Rattle.chr_semantics.specs.Subst.{SolvedLaw};
 ghost use Rattle.chr_semantics.specs.Mgu.{UnifierLaw};
+ghost use Rattle.chr_semantics.specs.Match.{FitsLaw};
 ghost use Rattle.chr_semantics.specs.Search.{TuplesLaw, RowsLaw, DeadEntriesLaw, RuleEntriesLaw};
-ghost use Rattle.chr_semantics.specs.Schedule.{AppendedLaw};
+ghost use Rattle.chr_semantics.specs.Schedule.{AppendedLaw, IdleLaw, LimitsLaw};
+ghost use Rattle.chr_semantics.specs.ScheduleText.{ReadBackLaw};
 ghost use Rattle.chr_semantics.specs.Join.{JoinLaw, OrderLaw};
 ghost use Rattle.chr_semantics.specs.Keys.{ClashLaw, LookLaw, RootLaw};
 ghost use Rattle.chr_semantics.specs.Snapshot.{SnapshotLaw, SoundLaw};
 ghost use Rattle.chr_semantics.specs.Stamps.{StampsByCallLaw};
+ghost use Rattle.chr_semantics.specs.Calls.{CallsLaw};
 ghost use Rattle.chr_semantics.specs.Desk.{TotalsLaw};
 ghost use Rattle.chr_semantics.specs.Tries.{TriesLaw};
 ghost use Rattle.chr_semantics.specs.Cursor.{CursorLaw, GatedLaw};
@@ -29,6 +32,12 @@ pub fn solved_law()
 /// else does both is an instance of it; and where there is none, nothing does both.
 pub fn unifier_law()
     ensures { UnifierLaw }
+{}
+
+/// A match makes the heads the rows, and it is of their variables alone; where there is none,
+/// nothing makes the heads the rows.
+pub fn fits_law()
+    ensures { FitsLaw }
 {}
 
 /// Where no transition touches the footprint of an occurrence of a living constraint, the
@@ -149,7 +158,28 @@ pub fn stamps_by_call_law()
     ensures { StampsByCallLaw }
 {}
 
+/// The calls that are made for a transition lead to its store and history, and raise the stamps of
+/// what it touches alone.
+pub fn calls_law()
+    ensures { CallsLaw }
+{}
+
 /// The totals of a desk add up.
 pub fn totals_law()
     ensures { TotalsLaw }
+{}
+
+/// The limits of rounds and Steps hold after every progress.
+pub fn limits_law()
+    ensures { LimitsLaw }
+{}
+
+/// Steps after the end of a run change neither its state nor its counts.
+pub fn idle_law()
+    ensures { IdleLaw }
+{}
+
+/// What is printed of a schedule of at most 2,000,000 events reads back as those events.
+pub fn read_back_law()
+    ensures { ReadBackLaw }
 {}

@@ -2,11 +2,13 @@
 //! examples.
 #![tactic(auto)]
 
+pub mod calls;
 pub mod checks;
 pub mod laws;
 pub mod limits;
 pub mod policy;
 pub mod runs;
+pub mod schedules;
 pub mod searches;
 pub mod speculation;
 pub mod whole_numbers;

@@ -38,3 +38,9 @@ pub const KEPT_ROUNDS: usize = 8;
 
 /// The most tasks that one board is ever offered.
 pub const MAX_OFFERED_TASKS: usize = 262_144;
+
+/// The events of a schedule that is read.
+pub const MAX_SCHEDULE_EVENTS: usize = 2_000_000;
+
+/// The numbers of a schedule's lines: rounds, indices, and Steps at once.
+pub const MAX_SCHEDULE_NUMBER: u32 = 4_294_967_295;

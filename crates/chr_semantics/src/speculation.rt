@@ -3,7 +3,7 @@
 //! `specs/Examples/Speculation.antt`.
 #![tactic(auto, unfolding(crate::proofs::Numerals::digits, crate::specs::Mgu::mgu))]
 
-ghost use Rattle.std.specs.Prelude.{◌≡◌, [], ◌∷◌, ◌++◌, codes, replicate};
+ghost use Rattle.std.specs.Prelude.{◌≡◌, [], ◌∷◌, ◌++◌, codes, map, replicate};
 ghost use Rattle.chr_semantics.specs.State.{done};
 ghost use Rattle.chr_semantics.specs.Text.{lines_text};
 ghost use Rattle.chr_semantics.specs.Touch.{symbol, rule, footprint};
@@ -12,7 +12,8 @@ ghost use Rattle.chr_semantics.specs.Desk.{after_drain, answers, is_closed, next
 ghost use Rattle.chr_semantics.specs.Examples.Desks.{one_given_up, one_posted, open_board, two_offered};
 ghost use Rattle.chr_semantics.specs.Examples.Example.{state_after, EndsAfter, whole_text, trace_line, history_lines};
 ghost use Rattle.chr_semantics.specs.Examples.Runs.{two_rules, duplicate};
-ghost use Rattle.chr_semantics.specs.Examples.Speculation.{moves, used_steps, own_steps, counts_in, refusal_in, tasks_after, touched_in, two_answers, three_answers, published_after, speculating, speculating_passive, guest_waits, guest_changes, partner_bound, three_solves};
+ghost use Rattle.chr_semantics.specs.Examples.Speculation.{moves, used_steps, own_steps, counts_in, refusal_in, tasks_after, touched_in, two_answers, three_answers, published_after, many_occurrences, many_wait, speculating, speculating_passive, guest_waits, guest_changes, partner_bound, three_solves, wakes_itself};
+ghost use Rattle.chr_semantics.specs.Tasks.{numbers_from};
 
 /// Answers that are made ahead serve until a rule of theirs fires or a symbol is touched.
 pub fn speculation()
@@ -160,6 +161,15 @@ pub fn touch_counts()
     ensures bound_once { touched_in three_solves (symbol 8) ≡ 2 }
     ensures footprint_is { footprint partner_bound.program (state_after partner_bound 3) 2 2 ≡
         rule 1 ∷ symbol 7 ∷ symbol 8 ∷ [] }
+{}
+
+/// Eight waiting elements give tasks, the guest too, whatever is between; a round has at most 64
+/// tasks, and each once.
+pub fn limits_of_tasks()
+    ensures eight { tasks_after many_wait 32 ≡ (1, 1) ∷ (2, 1) ∷ (3, 1) ∷ (4, 1) ∷ (5, 1) ∷ (6, 1)
+        ∷ (7, 1) ∷ (8, 1) ∷ (9, 1) ∷ (11, 1) ∷ [] }
+    ensures sixty_four { tasks_after many_occurrences 1 ≡ map (λ j. (1, j)) (numbers_from 1 64) }
+    ensures once { tasks_after wakes_itself 4 ≡ (1, 1) ∷ (1, 2) ∷ [] }
 {}
 
 /// Two tasks are offered; one is answered and drained, one given up, and the desk is closed.

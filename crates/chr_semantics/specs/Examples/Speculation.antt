@@ -124,3 +124,33 @@ three_solves = record {
     var_names = codes "X" ∷ [];
   };
 }
+
+-- r @ p(b) ==> true. t @ q ==> true.    ten times p(X), then X = a, q.
+abbrev pub many_wait : Example
+many_wait = record {
+  symbols = (codes "p", 1) ∷ (codes "q", 0) ∷ (codes "a", 0) ∷ (codes "b", 0) ∷ [];
+  program =
+      record { label = codes "r"; kept = 1; heads = head 7 (term 10 [] ∷ []) ∷ []; guard = []; body = []; head_vars = 0; vars = 0 }
+      ∷ record { label = codes "t"; kept = 1; heads = head 8 [] ∷ []; guard = []; body = []; head_vars = 0; vars = 0 }
+      ∷ [];
+  query = record { goals = replicate 10 (chr 7 (var 0 ∷ [])) ++ tell (var 0) (term 9 []) ∷ chr 8 [] ∷ []; var_names = codes "X" ∷ [] };
+}
+
+-- nine times    p, p, p, p, p, p, p, p ==> true.    p.
+abbrev pub many_occurrences : Example
+many_occurrences = record {
+  symbols = (codes "p", 0) ∷ [];
+  program = replicate 9 (record { label = codes "r"; kept = 8; heads = replicate 8 (head 7 []); guard = []; body = []; head_vars = 0; vars = 0 });
+  query = record { goals = chr 7 [] ∷ []; var_names = [] };
+}
+
+-- a @ p(X) ==> 1 < 2. b @ p(b) ==> true.    p(A).
+abbrev pub wakes_itself : Example
+wakes_itself = record {
+  symbols = (codes "p", 1) ∷ (codes "b", 0) ∷ [];
+  program =
+      record { label = codes "a"; kept = 1; heads = head 7 (var 0 ∷ []) ∷ []; guard = []; body = compare less (number 1) (number 2) ∷ []; head_vars = 1; vars = 1 }
+      ∷ record { label = codes "b"; kept = 1; heads = head 7 (term 8 [] ∷ []) ∷ []; guard = []; body = []; head_vars = 0; vars = 0 }
+      ∷ [];
+  query = record { goals = chr 7 (var 0 ∷ []) ∷ []; var_names = codes "A" ∷ [] };
+}
