@@ -8,6 +8,7 @@ use Rattle.chr_semantics.specs.Tree.{Tree, Trees, var, int, node, none, more}
 use Rattle.chr_semantics.specs.Subst.{Solves, Subst, apply, instance, instances, value_at}
 use Rattle.chr_semantics.specs.Mgu.{mgu}
 use Rattle.chr_semantics.proofs.Instances.{instance-instance}
+use Rattle.chr_semantics.proofs.SolvedLaw.{nothing_solved}
 use Rattle.chr_semantics.proofs.UnifierEqual.{mgu_makes_equal}
 use Rattle.chr_semantics.proofs.UnifierNone.{mgu_none}
 use Rattle.chr_term.specs.TermView.{trees_view, view}
@@ -66,11 +67,11 @@ same_answer names r q s t None None once h k ea eb = refl
 same_answer names r q s t (Some w) (Some v) once h k ea eb = refl
 same_answer names r q s t None (Some w) once h k ea eb =
     let f = value_at w in
-    let u = (mgu_makes_equal [] s t (no_bindings (value_at [])) w eb).2 in
+    let u = (mgu_makes_equal [] s t nothing_solved w eb).2 in
     absurd (mgu_none [] r q ea (λ i. f (get_or names i 0)) (no_bindings (λ i. f (get_or names i 0))) (forth names f r s h ∙ u ∙ sym (forth names f q t k)))
 same_answer names r q s t (Some w) None once h k ea eb =
     let g = value_at w in
-    let u = (mgu_makes_equal [] r q (no_bindings (value_at [])) w ea).2 in
+    let u = (mgu_makes_equal [] r q nothing_solved w ea).2 in
     absurd (mgu_none [] s t eb (λ x. g (place_of names x)) (no_bindings (λ x. g (place_of names x))) (home names g r s once h ∙ u ∙ sym (home names g q t once k)))
 
 -- the new terms have a unifier where the old ones have

@@ -29,6 +29,10 @@ mutual
   kept_terms f (more t ts) h =
       cc (kept_term f t (λ y k. h y (or_left (occurs y t) (occurs_any y ts) k)), kept_terms f ts (λ y k. h y (or_right (occurs y t) (occurs_any y ts) k)))
 
+-- where nothing is bound
+pub nothing_solved : IsSolved []
+nothing_solved x y bound = absurd (true≢false (sym bound))
+
 -- what is not bound stands for itself
 pub unbound_stays : (s : Subst) (x : ℕ) → binds_var s x ≡ false → value_at s x ≡ var x
 unbound_stays [] x h = refl

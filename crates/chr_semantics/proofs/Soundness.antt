@@ -14,6 +14,7 @@ use Rattle.chr_semantics.specs.Subst.{Subst, apply}
 use Rattle.chr_semantics.specs.Tree.{Tree, int}
 use Rattle.chr_semantics.specs.Value.{Fault, value}
 use Rattle.chr_semantics.proofs.Lookups.{Ascends-filter, Ascends-push, atom_before, atom_of_part, atom_last, Ascends-ends}
+use Rattle.chr_semantics.proofs.SolvedLaw.{nothing_solved}
 use Rattle.chr_semantics.proofs.UnifierEqual.{mgu_makes_equal}
 
 -- the stack against the store
@@ -141,7 +142,7 @@ sound_step p s h = sound_at p s s.status h
 
 -- the start of a query
 pub sound_start : (r : Query) → IsSound (start r)
-sound_start r = record { solved = λ x y bound. absurd (true≢false (sym bound)); ascends = omega arith; agrees = agrees_goals [] 1 (λ g. g) r.goals }
+sound_start r = record { solved = nothing_solved; ascends = omega arith; agrees = agrees_goals [] 1 (λ g. g) r.goals }
 
 -- n steps
 pub sound_after : (p : Program) (n : ℕ) (s : State) → IsSound s → IsSound (after p s n)
