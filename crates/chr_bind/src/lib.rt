@@ -20,6 +20,3 @@ pub use comparison::Comparison;
 pub use fault::Fault;
 pub use guard::{Test, guard_holds, holds};
 pub use matching::{Match, fit};
-
-#[cfg(test)]
-mod tests;

@@ -17,6 +17,3 @@ pub use fragment::{is_thin_program, is_thin_query};
 pub use machine::Machine;
 pub use state::{Elem, Fired, Status, Stepped};
 pub use store::{Id, Row, Store};
-
-#[cfg(test)]
-mod tests;

@@ -20,6 +20,3 @@ pub use reading::{read_program, read_query};
 pub use syntax::{
     Arrow, Declaration, Expr, Head, Item, Operator, Part, ProgramSyntax, QuerySyntax, RuleSyntax,
 };
-
-#[cfg(test)]
-mod tests;

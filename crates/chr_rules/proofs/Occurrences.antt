@@ -1,31 +1,17 @@
 -- What an occurrence is of: a rule of the program, at its number, and one of the rule's heads.
 use Rattle.std.proofs.Common.{◌≡◌, ◌∙◌, ℕ, zero, suc, ◌+◌, ◌-◌, ◌<◌, ◌≤◌, ◌++◌, List, [], ◌∷◌, length, refl, ap, sym, subst, arith, Bool, true, false, not, ◌&&◌, ◌==◌, map, cond, get_or, Some}
-use Rattle.std.specs.Prelude.{slice_get, reverse}
+use Rattle.std.specs.Prelude.{All, slice_get, reverse}
+use Rattle.std.proofs.lemmas.List.Elements.{All-append, All-cons, All-head, All-nil, All-tail}
 use Rattle.std.proofs.lemmas.List.{reverse-append, length-append, length-map}
 use Rattle.chr_semantics.specs.Program.{Head, Rule, Program, Occurrence, places_from, occurrences_in, occurrences_from, occurrences, occurrence}
-use Rattle.chr_semantics.proofs.Lists.{got_below}
+use Rattle.chr_semantics.proofs.Lists.{All-got, got_below}
 use Rattle.chr_rules.specs.Index.{pair_view, pairs_view, pair_of, pairs_of, head_count}
 use Rattle.chr_rules.specs.declared.index.Occurrence.{Occurrence as Pair}
 
-Every : {X : Type 0} → (X → Type 0) → List X → Type 0
-Every P [] = Unit {0}
-Every P (x ∷ xs) = P x × Every P xs
-
-every-append : {X : Type 0} (P : X → Type 0) (xs ys : List X) → Every P xs → Every P ys → Every P (xs ++ ys)
-unfolding Every
-every-append P [] ys h k = k
-every-append P (x ∷ xs) ys h k = (h.0, every-append P xs ys h.1 k)
-
-every-reverse : {X : Type 0} (P : X → Type 0) (xs : List X) → Every P xs → Every P (reverse xs)
-unfolding Every
-every-reverse P [] h = tt
-every-reverse P (x ∷ xs) h = subst (Every P) (sym (reverse-append (x ∷ []) xs)) (every-append P (reverse xs) (x ∷ []) (every-reverse P xs h.1) (h.0, tt))
-
-every-get : {X : Type 0} (P : X → Type 0) (xs : List X) (k : ℕ) (x : X) → slice_get xs k ≡ Some x → Every P xs → P x
-unfolding Every
-every-get P [] k x e h = cc
-every-get P (y ∷ xs) zero x e h = let same : y ≡ x = cc in subst P same h.0
-every-get P (y ∷ xs) (suc k) x e h = every-get P xs k x e h.1
+all_reversed : {X : Type 0} (P : X → Type 0) (xs : List X) → All P xs → All P (reverse xs)
+all_reversed P [] h = h
+all_reversed P (x ∷ xs) h =
+    subst (All P) (sym (reverse-append (x ∷ []) xs)) (All-append P (reverse xs) (x ∷ []) (all_reversed P xs (All-tail P x xs h)) (All-cons P x [] (All-head P x xs h) (All-nil P)))
 
 -- an occurrence of the rules that begin with the number r
 record IsFrom (r : ℕ) (p : Program) (o : Occurrence) : Type 0 where
@@ -33,36 +19,33 @@ record IsFrom (r : ℕ) (p : Program) (o : Occurrence) : Type 0 where
   rule : slice_get p (o.number - r) ≡ Some o.rule
   place : o.place < length o.rule.heads
 
-places_below : (b : Bool) (k m n : ℕ) (ks : List ℕ) → k < n → m ≤ n → Every (λ place. place < n) ks → Every (λ place. place < n) (cond b (k ∷ ks) ks)
-unfolding Every
-places_below true k m n ks h l e = (h, e)
+places_below : (b : Bool) (k m n : ℕ) (ks : List ℕ) → k < n → m ≤ n → All (λ place. place < n) ks → All (λ place. place < n) (cond b (k ∷ ks) ks)
+places_below true k m n ks h l e = All-cons (λ place. place < n) k ks h e
 places_below false k m n ks h l e = e
 
-places_within : (k f n : ℕ) (hs : List Head) → k + length hs ≤ n → Every (λ place. place < n) (places_from k f hs)
-unfolding Every
-places_within k f n [] h = tt
+places_within : (k f n : ℕ) (hs : List Head) → k + length hs ≤ n → All (λ place. place < n) (places_from k f hs)
+places_within k f n [] h = All-nil (λ place. place < n)
 places_within k f n (x ∷ hs) h = places_below (x.atom.sym == f && not x.passive) k k n (places_from (k + 1) f hs) (omega (arith, h)) (omega (arith, h)) (places_within (k + 1) f n hs (omega (arith, h)))
 
-from_places : (r : ℕ) (rule : Rule) (p : Program) (ks : List ℕ) → Every (λ place. place < length rule.heads) ks → Every (IsFrom r (rule ∷ p)) (map (λ k. record { number = r; rule = rule; place = k }) ks)
-unfolding Every
-from_places r rule p [] h = tt
+from_places : (r : ℕ) (rule : Rule) (p : Program) (ks : List ℕ) → All (λ place. place < length rule.heads) ks → All (IsFrom r (rule ∷ p)) (map (λ k. record { number = r; rule = rule; place = k }) ks)
+from_places r rule p [] h = All-nil (IsFrom r (rule ∷ p))
 from_places r rule p (k ∷ ks) h =
     let none : r - r ≡ 0 = omega arith in
-    (record { number = omega arith; rule = rw none; place = h.0 }, from_places r rule p ks h.1)
+    All-cons (IsFrom r (rule ∷ p)) (record { number = r; rule = rule; place = k }) (map (λ k. record { number = r; rule = rule; place = k }) ks)
+    (record { number = omega arith; rule = rw none refl; place = All-head (λ place. place < length rule.heads) k ks h }) (from_places r rule p ks (All-tail (λ place. place < length rule.heads) k ks h))
 
-from_behind : (r : ℕ) (rule : Rule) (p : Program) (os : List Occurrence) → Every (IsFrom (r + 1) p) os → Every (IsFrom r (rule ∷ p)) os
-unfolding Every
-from_behind r rule p [] h = tt
+from_behind : (r : ℕ) (rule : Rule) (p : Program) (os : List Occurrence) → All (IsFrom (r + 1) p) os → All (IsFrom r (rule ∷ p)) os
+from_behind r rule p [] h = All-nil (IsFrom r (rule ∷ p))
 from_behind r rule p (o ∷ os) h =
-    let one : o.number - r ≡ suc (o.number - (r + 1)) = omega (arith, h.0.number) in
-    (record { number = omega (arith, h.0.number); rule = rw one h.0.rule; place = h.0.place }, from_behind r rule p os h.1)
+    let first = All-head (IsFrom (r + 1) p) o os h in
+    let one : o.number - r ≡ suc (o.number - (r + 1)) = omega (arith, first.number) in
+    All-cons (IsFrom r (rule ∷ p)) o os (record { number = omega (arith, first.number); rule = rw one first.rule; place = first.place }) (from_behind r rule p os (All-tail (IsFrom (r + 1) p) o os h))
 
-all_from : (r : ℕ) (p : Program) (f : ℕ) → Every (IsFrom r p) (occurrences_from r p f)
-unfolding Every
-all_from r [] f = tt
+all_from : (r : ℕ) (p : Program) (f : ℕ) → All (IsFrom r p) (occurrences_from r p f)
+all_from r [] f = All-nil (IsFrom r [])
 all_from r (rule ∷ p) f =
-    every-append (IsFrom r (rule ∷ p)) (occurrences_in r rule f) (occurrences_from (r + 1) p f)
-    (from_places r rule p (reverse (places_from 0 f rule.heads)) (every-reverse (λ place. place < length rule.heads) (places_from 0 f rule.heads) (places_within 0 f (length rule.heads) rule.heads (omega arith))))
+    All-append (IsFrom r (rule ∷ p)) (occurrences_in r rule f) (occurrences_from (r + 1) p f)
+    (from_places r rule p (reverse (places_from 0 f rule.heads)) (all_reversed (λ place. place < length rule.heads) (places_from 0 f rule.heads) (places_within 0 f (length rule.heads) rule.heads (omega arith))))
     (from_behind r rule p (occurrences_from (r + 1) p f) (all_from (r + 1) p f))
 
 -- an occurrence of the program: its rule stands at its number, and its place is of a head
@@ -73,7 +56,7 @@ pub record IsIn (p : Program) (o : Occurrence) : Type 0 where
 pub occurrence_in : (p : Program) (f j : ℕ) (o : Occurrence) → occurrence p f j ≡ Some o → IsIn p o
 occurrence_in p f zero o e = cc
 occurrence_in p f (suc k) o e =
-    let from = every-get (IsFrom 0 p) (occurrences_from 0 p f) k o e (all_from 0 p f) in
+    let from = All-got (IsFrom 0 p) (occurrences_from 0 p f) k o e (all_from 0 p f) in
     let whole : o.number - 0 ≡ o.number = omega arith in
     record { rule = rw whole at from.rule; place = from.place }
 

@@ -1,5 +1,6 @@
 -- What is wrong with a rule, and what it stands for, part by part.
 use Rattle.std.proofs.Common.{◌≡◌, ◌∙◌, ◌<◌, ◌≤◌, ◌++◌, ℕ, List, [], ◌∷◌, Bool, true, false, if◌then◌else◌, Option, Some, None, Result, length, nat_lt, ap, refl, sym, option_map, arith}
+use Rattle.std.proofs.lemmas.Bool.{le-ltb, lt-ltb}
 use Rattle.std.specs.Prelude.{IfErr}
 use Rattle.std.specs.Result.{IsErrAnd}
 use Rattle.chr_semantics.specs.Names.{Names}
@@ -14,12 +15,6 @@ use Rattle.chr_rules.specs.declared.error.RuleErrorKind.{RuleErrorKind}
 use Rattle.chr_rules.specs.declared.error.RuleErrorKind.TheVariants.{Memory, TooManyVariables}
 use Rattle.chr_rules.proofs.Each.{err_answers}
 use Rattle.chr_rules.proofs.Mistakes.{fault_of_part, first_after, first_within, no_fault}
-
-more_than : (m n : ℕ) → m < n → nat_lt m n ≡ true
-more_than m n h = grind (arith, h)
-
-not_more_than : (m n : ℕ) → n ≤ m → nat_lt m n ≡ false
-not_more_than m n h = grind (arith, h)
 
 -- `Memory` may be returned whatever is wrong with the rule
 pub memory_refused : {T : Type 0} (r : Result T RuleErrorKind) (m : Option checks.RuleErrorKind) → IsErrAnd r (λ fault. fault ≡ Memory) → IfErr r (λ fault. IsFault fault m)
@@ -49,12 +44,12 @@ last_decides names d earlier r vars v n e =
 pub rule_too_large : (names : Names) (d : ℕ) (earlier : Program) (r : syntax.Rule) (vars : List (List ℕ)) (n : ℕ) → vars ≡ head_variables names r → None ≡ option_map fault_of (first_of (wrong_items names d r))
     → None ≡ option_map fault_of (first_of (wrong_rule vars earlier r)) → n ≡ (rule_from names 0 r).1.vars → 64 < n → option_map fault_of (error_in_rule names d earlier r) ≡ Some TooManyVariables
 rule_too_large names d earlier r vars n v a b e more =
-    ap (option_map fault_of) (last_decides names d earlier r vars v a b ∙ ap (λ c. if c then Some too_many_variables else None) (ap (nat_lt 64) (sym e) ∙ more_than 64 n more))
+    ap (option_map fault_of) (last_decides names d earlier r vars v a b ∙ ap (λ c. if c then Some too_many_variables else None) (ap (nat_lt 64) (sym e) ∙ lt-ltb 64 n more))
 
 pub rule_accepted : (names : Names) (d : ℕ) (earlier : Program) (r : syntax.Rule) (vars : List (List ℕ)) (n : ℕ) → vars ≡ head_variables names r → None ≡ option_map fault_of (first_of (wrong_items names d r))
     → None ≡ option_map fault_of (first_of (wrong_rule vars earlier r)) → n ≡ (rule_from names 0 r).1.vars → n ≤ 64 → error_in_rule names d earlier r ≡ None
 rule_accepted names d earlier r vars n v a b e few =
-    last_decides names d earlier r vars v a b ∙ ap (λ c. if c then Some too_many_variables else None) (ap (nat_lt 64) (sym e) ∙ not_more_than 64 n few)
+    last_decides names d earlier r vars v a b ∙ ap (λ c. if c then Some too_many_variables else None) (ap (nat_lt 64) (sym e) ∙ le-ltb 64 n few)
 
 -- what a rule stands for, from what its parts do
 abbrev pub made_of : ℕ → syntax.Rule → Scope × List Head → Scope × List Test → Scope × List Goal → Names × semantics.Rule

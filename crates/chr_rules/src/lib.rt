@@ -21,6 +21,3 @@ pub use goal::{Goal, Op, Query, copy_goals, print_goal};
 pub use index::Occurrence;
 pub use program::Program;
 pub use rule::Rule;
-
-#[cfg(test)]
-mod tests;

@@ -11,6 +11,3 @@ mod text;
 pub use command_line::command;
 pub use error::{RunError, TextError};
 pub use runs::{run_into, run_text};
-
-#[cfg(test)]
-mod tests;

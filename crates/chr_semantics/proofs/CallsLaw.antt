@@ -1,11 +1,11 @@
 -- The calls of a transition make its store and history, and raise the stamps of what it touches.
-use Rattle.std.proofs.Common.{◌≡◌, ℕ, zero, suc, ◌+◌, ◌<◌, ◌≤◌, Bool, true, false, cond, not, ◌&&◌, ◌||◌, ◌==◌, List, [], ◌∷◌, ◌++◌, length, map, drop, Option, Some, None, ap, refl, ◌∙◌, sym, subst, arith, true≢false}
+use Rattle.std.proofs.Common.{◌≡◌, ℕ, ◌+◌, ◌<◌, ◌≤◌, Bool, true, false, cond, not, ◌&&◌, ◌||◌, ◌==◌, List, [], ◌∷◌, ◌++◌, length, drop, Option, Some, None, ap, refl, ◌∙◌, sym, subst, arith, true≢false}
 use Rattle.std.specs.Prelude.{filter, find, Result, Ok, Err, ℤ}
 use Rattle.std.specs.List.{fold, list_any}
-use Rattle.std.proofs.lemmas.Bool.{and_parts, or_parts}
+use Rattle.std.proofs.lemmas.Bool.{and_parts, not-true, or_parts}
 use Rattle.std.proofs.lemmas.Bool.Decides.{Decides-eqb}
-use Rattle.chr_semantics.specs.Calls.{CallsLaw, bind_calls, entries_of, found_calls, found_entry, goal_calls, history_calls, rise_by_calls, status_calls, status_entry, store_calls, store_of, top_calls, top_entry}
-use Rattle.chr_semantics.specs.Changes.{Entries, Store, added, entered, rebound, removed, removed_as, woken}
+use Rattle.chr_semantics.specs.Calls.{CallsLaw, bind_calls, entries_of, found_calls, found_entry, goal_calls, rise_by_calls, status_calls, status_entry, store_of, top_calls, top_entry}
+use Rattle.chr_semantics.specs.Changes.{Entries, Store, entered, rebound, removed, removed_as, woken}
 use Rattle.chr_semantics.specs.Footprint.{Ascends, IsSound}
 use Rattle.chr_semantics.specs.Guard.{comparison_holds}
 use Rattle.chr_semantics.specs.Match.{Row}
@@ -14,10 +14,9 @@ use Rattle.chr_semantics.specs.Program.{Atom, Comparison, Goal, Occurrence, Prog
 use Rattle.chr_semantics.specs.Search.{Found, History, atom_of, can_fire, fired_before, firing, first_tuple, found_at, found_for, found_with, has_number, ids_of, no_firing, no_occurrence, passes_guard, tuples}
 use Rattle.chr_semantics.specs.State.{Element, State, Status, active, done, failed, faulted, goal, known, rows, running}
 use Rattle.chr_semantics.specs.Match.{fits}
-use Rattle.chr_semantics.specs.Stamps.{IsRise}
 use Rattle.chr_semantics.specs.Step.{bind_step, compare_step, evaluate_step, search_at, search_step, solve, step, step_at, step_top}
 use Rattle.chr_semantics.specs.Subst.{Subst, apply, instances, value_at}
-use Rattle.chr_semantics.specs.Touch.{Mark, binds, found_touches, goal_touches, has_among, has_open, rule, symbol, touches, touches_at, touches_top}
+use Rattle.chr_semantics.specs.Touch.{Mark, binds, found_touches, goal_touches, has_open, rule, symbol, touches, touches_at, touches_top}
 use Rattle.chr_semantics.specs.Tree.{Tree, int, is_ground_trees}
 use Rattle.chr_semantics.specs.Value.{Fault, value}
 use Rattle.chr_semantics.proofs.Lookups.{Ascends-filter, atom_above}
@@ -205,11 +204,7 @@ Unfired h (firing n r place t) = fired_before h n (ids_of t) ≡ false
 unfired_with : (xs : List Row) (h : History) (n : ℕ) (r : Rule) (place : ℕ) (c : Row) (o : Option (List Row)) → first_tuple xs h n r place c ≡ o → Unfired h (found_with n r place o)
 unfolding Unfired
 unfired_with xs h n r place c None e = tt
-unfired_with xs h n r place c (Some t) e = opened (fired_before h n (ids_of t)) (and_parts (passes_guard r (fits r.heads t)) (not (fired_before h n (ids_of t))) (passing_found (can_fire h n r) (tuples xs r place c) t e)).1
-  where
-    opened : (b : Bool) → not b ≡ true → b ≡ false
-    opened true e = sym e
-    opened false e = refl
+unfired_with xs h n r place c (Some t) e = not-true (fired_before h n (ids_of t)) (and_parts (passes_guard r (fits r.heads t)) (not (fired_before h n (ids_of t))) (passing_found (can_fire h n r) (tuples xs r place c) t e)).1
 
 unfired_for : (xs : List Row) (h : History) (n : ℕ) (r : Rule) (place i : ℕ) (a : Option Atom) → Unfired h (found_for xs h n r place i a)
 unfolding Unfired

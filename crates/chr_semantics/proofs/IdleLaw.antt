@@ -1,5 +1,6 @@
 -- Steps of a run that has ended change neither its state nor its counts.
 use Rattle.std.proofs.Common.{◌≡◌, ℕ, zero, suc, ◌+◌, Bool, true, false, cond, not, ◌&&◌, ◌==◌, nat_lt, List, [], ◌∷◌, ◌++◌, length, map, Option, Some, None, Result, Ok, Err, ℤ, ap, refl, ◌∙◌, sym, subst, arith, true≢false}
+use Rattle.std.proofs.lemmas.Bool.{not-true}
 use Rattle.std.specs.Prelude.{drop, filter, option_map, slice_get, ◌-◌}
 use Rattle.std.specs.List.{fold, list_all, list_any}
 use mathlib.Core.Path.{fun_ext}
@@ -237,15 +238,11 @@ module _ (p : Program) (q : State) where
   after_event g h move w = subst (λ (o : Option Task). Follows (next p q g move) (with_step p q h o)) (ap (needed_task p) w.steps_same.state) (after_step g h (needed_task p (after p q g.steps)) w)
 
   -- an idle Step
-  opened : (b : Bool) → not b ≡ true → b ≡ false
-  opened true e = sym e
-  opened false e = refl
-
   after_idle : (rests : (n : ℕ) → RestsFrom p (after p q n)) (g h : Progress) (e : Event) → is_idle p q g e ≡ true → Follows g h → Follows (next p q g e) h
   after_idle rests g h publish idle w = absurd (true≢false (sym idle))
   after_idle rests g h (arrive r x) idle w = absurd (true≢false (sym idle))
   after_idle rests g h move idle w =
-      let ended = opened (is_running (after p q g.steps).status) idle in
+      let ended = not-true (is_running (after p q g.steps).status) idle in
       subst (λ (o : Option Task). Follows (with_step p q g o) h) (sym (rests g.steps ended))
       (record { steps_same = idle_same g.steps h.steps w.steps_same ended; rounds_same = w.rounds_same; kept_same = w.kept_same; late_same = w.late_same; double_same = w.double_same; used_same = w.used_same; own_same = w.own_same })
 

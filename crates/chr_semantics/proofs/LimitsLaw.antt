@@ -1,6 +1,7 @@
 -- The limits of rounds and Steps.
-use Rattle.std.proofs.Common.{◌≡◌, ℕ, zero, suc, ◌+◌, ◌<◌, ◌≤◌, Bool, true, false, cond, List, [], ◌∷◌, ◌++◌, length, Option, Some, None, ap, refl, ◌∙◌, sym, arith, nat_lt}
+use Rattle.std.proofs.Common.{◌≡◌, ℕ, zero, suc, ◌+◌, ◌<◌, ◌≤◌, Bool, true, false, cond, length, Option, Some, None, ap, refl, ◌∙◌, sym, arith, nat_lt}
 use Rattle.std.specs.Prelude.{replicate}
+use Rattle.std.proofs.lemmas.Bool.{le-ltb, lt-ltb}
 use Rattle.std.proofs.lemmas.List.{length_push}
 use Rattle.chr_semantics.specs.Program.{Program}
 use Rattle.chr_semantics.specs.State.{State}
@@ -8,12 +9,6 @@ use Rattle.chr_semantics.specs.Step.{after}
 use Rattle.chr_semantics.specs.Schedule.{Event, LimitsLaw, Progress, Refusal, first_refusal, is_served, move, next, no_progress, publish, refusal, too_many_rounds, too_many_steps, with_step}
 use Rattle.chr_semantics.specs.Tasks.{Task, needed_task}
 use Rattle.chr_semantics.specs.declared.limits.TheConstants.{MAX_ROUNDS, MAX_TRANSITIONS}
-
-not_below : (n most : ℕ) → most ≤ n → nat_lt n most ≡ false
-not_below n most l = grind (arith, l)
-
-is_below : (n most : ℕ) → n < most → nat_lt n most ≡ true
-is_below n most l = grind (arith, l)
 
 -- a Step more, whatever it needs
 one_more : (p : Program) (q : State) (g : Progress) (t : Option Task) → (with_step p q g t).steps ≡ g.steps + 1
@@ -26,16 +21,16 @@ one_more p q g (Some t) = by_test (is_served p q g t) refl
 
 module _ (p : Program) (q : State) where
   no_round : (g : Progress) (k : ℕ) → MAX_ROUNDS ≤ length g.rounds → refusal p q g k publish ≡ Some (too_many_rounds k)
-  no_round g k l = rw (not_below (length g.rounds) MAX_ROUNDS l) refl
+  no_round g k l = rw (le-ltb (length g.rounds) MAX_ROUNDS l) refl
 
   a_round : (g : Progress) (k : ℕ) → length g.rounds < MAX_ROUNDS → refusal p q g k publish ≡ None
-  a_round g k l = rw (is_below (length g.rounds) MAX_ROUNDS l) refl
+  a_round g k l = rw (lt-ltb (length g.rounds) MAX_ROUNDS l) refl
 
   no_step : (g : Progress) (k : ℕ) → MAX_TRANSITIONS ≤ g.steps → refusal p q g k move ≡ Some (too_many_steps k)
-  no_step g k l = rw (not_below g.steps MAX_TRANSITIONS l) refl
+  no_step g k l = rw (le-ltb g.steps MAX_TRANSITIONS l) refl
 
   a_step : (g : Progress) (k : ℕ) → g.steps < MAX_TRANSITIONS → refusal p q g k move ≡ None
-  a_step g k l = rw (is_below g.steps MAX_TRANSITIONS l) refl
+  a_step g k l = rw (lt-ltb g.steps MAX_TRANSITIONS l) refl
 
   -- k events alike stand at the count k, and n more come
   Refuses : ℕ → (ℕ → Refusal) → ℕ → ℕ → Progress → Event → Type 0
@@ -47,11 +42,11 @@ module _ (p : Program) (q : State) where
 
   ends : (most : ℕ) (because : ℕ → Refusal) (k n : ℕ) (g : Progress) (e : Event) → k ≡ most → refusal p q g k e ≡ Some (because k) → Refuses most because k (suc n) g e
   unfolding Refuses
-  ends most because k n g e same there = rw (first_refusal, there) (ap (λ (m : ℕ). Some (because m)) same ∙ sym (ap (λ (b : Bool). cond b (Some (because most)) None) (is_below most (k + suc n) (omega (arith, same)))))
+  ends most because k n g e same there = rw (first_refusal, there) (ap (λ (m : ℕ). Some (because m)) same ∙ sym (ap (λ (b : Bool). cond b (Some (because most)) None) (lt-ltb most (k + suc n) (omega (arith, same)))))
 
   empty : (most : ℕ) (because : ℕ → Refusal) (k : ℕ) (g : Progress) (e : Event) → k ≤ most → Refuses most because k 0 g e
   unfolding Refuses
-  empty most because k g e l = sym (ap (λ (b : Bool). cond b (Some (because most)) None) (not_below most (k + 0) (omega (arith, l))))
+  empty most because k g e l = sym (ap (λ (b : Bool). cond b (Some (because most)) None) (le-ltb most (k + 0) (omega (arith, l))))
 
   rounds_at : (n k : ℕ) (g : Progress) (b : Bool) → nat_lt k MAX_ROUNDS ≡ b → k ≤ MAX_ROUNDS → length g.rounds ≡ k → (k < MAX_ROUNDS → Refuses MAX_ROUNDS too_many_rounds (k + 1) n (next p q g publish) publish) → Refuses MAX_ROUNDS too_many_rounds k (suc n) g publish
   rounds_at n k g true is l e go = let room : k < MAX_ROUNDS = grind (arith, is) in goes_on MAX_ROUNDS too_many_rounds k n g publish room (a_round g k (omega (arith, e, room))) (go room)

@@ -1,38 +1,23 @@
 -- What is printed of a schedule reads back.
-use Rattle.std.proofs.Common.{◌≡◌, ℕ, zero, suc, ◌+◌, ◌*◌, ◌-◌, ◌^◌, ◌<◌, ◌≤◌, Bool, true, false, cond, not, ◌&&◌, ◌==◌, List, [], ◌∷◌, ◌++◌, map, length, ap, refl, ◌∙◌, sym, subst, arith, nat_lt, nat_le}
-use Rattle.std.specs.Prelude.{All, Result, Ok, Err, codes, flat_map, replicate, slice_index}
+use Rattle.std.proofs.Common.{◌≡◌, ℕ, zero, suc, ◌+◌, ◌*◌, ◌<◌, ◌≤◌, true, false, cond, not, ◌&&◌, ◌==◌, List, [], ◌∷◌, ◌++◌, map, length, ap, refl, ◌∙◌, arith, nat_lt, nat_le}
+use Rattle.std.specs.Prelude.{All, Result, Ok, Err, codes, flat_map, slice_index}
 use Rattle.std.proofs.Common.{append_assoc}
 use Rattle.std.specs.List.{list_all, slice_split}
 use Rattle.std.specs.Str.{byte, bytes_eq}
 use Rattle.std.specs.Str.Parse.{AllDigits}
 use Rattle.std.specs.Fmt.{decimal}
 use Rattle.std.specs.Char.{digit_value, is_ascii_digit}
-use Rattle.std.proofs.lemmas.Bool.{and_parts, and_from}
+use Rattle.std.proofs.lemmas.Bool.{and_parts, and_from, le-ltb, leb-true, lt-ltb, not-true}
 use Rattle.std.proofs.lemmas.Fmt.{decimal_is_IsNumeral, first_decimal, decimal_digit}
 use Rattle.std.proofs.lemmas.Str.Parse.{digit_from_value}
 use Rattle.std.proofs.lemmas.Str.{digit_value_digit}
 use Rattle.std.proofs.lemmas.List.Splits.{slice_split_at, slice_split_none}
 use Rattle.std.proofs.lemmas.List.Elements.{All-nil, All-cons, All-append}
 use Rattle.chr_semantics.specs.Schedule.{Event, publish, arrive, move}
-use Rattle.chr_semantics.specs.ScheduleText.{Line, ReadBackLaw, ScheduleError, ScheduleErrorKind, are_digits, bad_number, with_line, arrives, events_of, is_number, is_printable, line_of, line_text, lines_of, moves, publishes, read_parts, schedule_text, size_of, with_move}
+use Rattle.chr_semantics.specs.ScheduleText.{Line, ReadBackLaw, ScheduleError, ScheduleErrorKind, are_digits, bad_number, with_line, arrives, events_of, is_number, is_printable, line_of, line_text, lines_of, moves, publishes, read_parts, size_of, with_move}
 use Rattle.chr_semantics.specs.Text.{lines_text}
 use Rattle.chr_semantics.specs.Tokens.{digits_value}
 use Rattle.chr_semantics.specs.declared.limits.TheConstants.{MAX_SCHEDULE_EVENTS, MAX_SCHEDULE_NUMBER}
-
--- tests
-
-above : (n : ℕ) → 0 < n → nat_lt 0 n ≡ true
-above n l = grind (arith, l)
-
-within : (n : ℕ) → n ≤ MAX_SCHEDULE_EVENTS → nat_lt MAX_SCHEDULE_EVENTS n ≡ false
-within n l = grind (arith, l)
-
-at_most : (n : ℕ) → nat_le n MAX_SCHEDULE_NUMBER ≡ true → n ≤ MAX_SCHEDULE_NUMBER
-at_most n e = grind (arith, e)
-
-not_true : (b : Bool) → not b ≡ true → b ≡ false
-not_true true e = sym e
-not_true false e = refl
 
 -- digits
 
@@ -103,12 +88,12 @@ line_back (arrives r x) h = ap line_of (arrive_words r x h.0 h.1) ∙ rw (digits
 line_back (moves n) h = ap line_of (step_words n h.1) ∙ rw (digits_are n h.1, number_is n h.1, value_is n h.1) (some n h.0)
   where
     some : (m : ℕ) → 0 < m → cond (true && nat_lt 0 m) (Ok (moves m)) (Err bad_number) ≡ Ok (moves m)
-    some m l = rw (above m l) refl
+    some m l = rw (lt-ltb 0 m l) refl
 
 -- no line feed stands in it
 after_word : (w : List ℕ) → list_all (λ b. not (b == byte "\n")) w ≡ true → All (λ b. (b == byte "\n") ≡ false) w
 after_word [] h = All-nil (λ b. (b == byte "\n") ≡ false)
-after_word (b ∷ bs) h = let r = and_parts (not (b == byte "\n")) (list_all (λ c. not (c == byte "\n")) bs) h in All-cons (λ c. (c == byte "\n") ≡ false) b bs (not_true (b == byte "\n") r.0) (after_word bs r.1)
+after_word (b ∷ bs) h = let r = and_parts (not (b == byte "\n")) (list_all (λ c. not (c == byte "\n")) bs) h in All-cons (λ c. (c == byte "\n") ≡ false) b bs (not-true (b == byte "\n") r.0) (after_word bs r.1)
 
 no_feed_in : (l : Line) → IsRight l → All (λ b. (b == byte "\n") ≡ false) (line_text l)
 no_feed_in publishes h = after_word (codes "publish") refl
@@ -139,7 +124,7 @@ text_parts (l ∷ ls) h =
     ∙ ap (λ (ws : List (List ℕ)). line_text l ∷ ws) (text_parts ls h.1)
 
 line_at : (n k : ℕ) (l : Line) (es : List Event) (after : ℕ → Result (List Event) ScheduleError) → n + size_of l ≤ MAX_SCHEDULE_EVENTS → after (n + size_of l) ≡ Ok es → with_line n k (Ok l) after ≡ Ok (events_of l ++ es)
-line_at n k l es after h e = rw (within (n + size_of l) h, e) refl
+line_at n k l es after h e = rw (le-ltb MAX_SCHEDULE_EVENTS (n + size_of l) h, e) refl
 
 parts_back : (n k : ℕ) (ls : List Line) → AreRight ls → n + total ls ≤ MAX_SCHEDULE_EVENTS → read_parts n k (parts_of ls) ≡ Ok (flat_map events_of ls)
 unfolding total
@@ -192,7 +177,7 @@ lines_right (publish ∷ es) h few = (tt, lines_right es h (omega (arith, few)))
 lines_right (arrive r x ∷ es) h few =
     let w = and_parts (is_printable (arrive r x)) (list_all is_printable es) h in
     let v = and_parts (nat_le r MAX_SCHEDULE_NUMBER) (nat_le x MAX_SCHEDULE_NUMBER) w.0 in
-    ((at_most r v.0, at_most x v.1), lines_right es w.1 (omega (arith, few)))
+    ((leb-true r MAX_SCHEDULE_NUMBER v.0, leb-true x MAX_SCHEDULE_NUMBER v.1), lines_right es w.1 (omega (arith, few)))
 lines_right (move ∷ es) h few = move_right (lines_of es) (lines_right es h (omega (arith, few))) (omega (arith, lines_total es, few))
 
 pub read_back_law : ReadBackLaw

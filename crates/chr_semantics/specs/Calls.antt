@@ -5,7 +5,7 @@ use Rattle.chr_semantics.specs.Program.{Goal, constraint, tell, evaluate, compar
 use Rattle.chr_semantics.specs.Search.{Found, no_occurrence, no_firing, firing, ids_of}
 use Rattle.chr_semantics.specs.State.{Element, goal, known, active, Status, running, done, failed, faulted, State}
 use Rattle.chr_semantics.specs.Step.{search_at, solve, step}
-use Rattle.chr_semantics.specs.Touch.{Mark, symbol, rule, binds}
+use Rattle.chr_semantics.specs.Touch.{symbol, rule, binds}
 use Rattle.chr_semantics.specs.Changes.{Entries, Store, added, entered, rebound, removed, woken}
 use Rattle.chr_semantics.specs.Stamps.{IsRise, Rise}
 use Rattle.chr_semantics.specs.Footprint.{IsSound}

@@ -15,6 +15,3 @@ pub use printing::{print, print_active, print_atom, print_known, print_number, p
 pub use std::alloc::AllocError as Memory;
 pub use term::{Sym, Term, are_ground, copy, copy_all, is_ground, same, same_all};
 pub use var_names::VarNames;
-
-#[cfg(test)]
-mod tests;

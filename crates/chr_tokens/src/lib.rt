@@ -27,6 +27,3 @@ pub use reading::tokens;
 pub use std::alloc::AllocError as Memory;
 pub use text::{Unread, characters};
 pub use token::{Additive, Fault, Multiplicative, Place, Placed, Relation, Sign, Token};
-
-#[cfg(test)]
-mod tests;

@@ -1,5 +1,5 @@
 -- The examples of calls on the store and the history.
-use Rattle.std.specs.Prelude.{ℕ, List, [], ◌∷◌, codes}
+use Rattle.std.specs.Prelude.{ℕ, [], ◌∷◌, codes}
 use Rattle.chr_semantics.specs.Tree.{var}
 use Rattle.chr_semantics.specs.Changes.{Entries, Store, added, empty_store, entered, no_entries, removed}
 use Rattle.chr_semantics.specs.Calls.{rise_by_calls}

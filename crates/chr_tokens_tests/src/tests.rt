@@ -1,4 +1,4 @@
-use super::*;
+use chr_tokens::*;
 use refusing_alloc::Refusing;
 use std::alloc::Global;
 use std::fmt::Write;

@@ -1,5 +1,5 @@
-use super::*;
 use chr_read::{read_program, read_query};
+use chr_rules::*;
 use chr_term::Memory;
 use refusing_alloc::Refusing;
 use shown::{shown_goals, shown_rules};

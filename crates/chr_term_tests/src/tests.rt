@@ -1,5 +1,5 @@
-use super::*;
 use chr_semantics::limits::MAX_ARITY;
+use chr_term::*;
 use itoa::Buffer;
 use refusing_alloc::Refusing;
 use std::alloc::{Allocator, Global};

@@ -1,4 +1,4 @@
-use super::*;
+use chr_bind::*;
 use chr_semantics::limits::MAX_RULE_VARIABLES;
 use chr_term::{Sym, Term, same};
 use refusing_alloc::Refusing;

@@ -1,4 +1,4 @@
-use super::*;
+use chr_read::*;
 use shown::{shown_program, shown_query};
 use std::alloc::{Allocator, Global};
 use std::process::Abort;

@@ -1,7 +1,7 @@
-use super::*;
 use chr_machine::Status;
 use chr_read::{ReadError, ReadErrorKind};
 use chr_rules::{RuleError, RuleErrorKind};
+use chr_run::*;
 use chr_term::Memory;
 use refusing_alloc::Refusing;
 use std::alloc::{Allocator, Global};

@@ -1,4 +1,4 @@
-use super::*;
+use chr_machine::*;
 use chr_read::{read_program, read_query};
 use chr_rules::{Goal, Program, Query};
 use chr_term::{Memory, Sym, Term, VarNames};
