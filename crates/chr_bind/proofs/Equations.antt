@@ -6,6 +6,7 @@ use Rattle.std.proofs.lemmas.Bool.{eq-eqb}
 use Rattle.chr_semantics.specs.Tree.{Tree, var, int, node, Trees, none, more}
 use Rattle.chr_semantics.specs.Subst.{Subst, value_at, apply, instances}
 use Rattle.chr_semantics.specs.Mgu.{Equations, both, apart, apart_all, apart_under}
+use Rattle.chr_semantics.proofs.Tests.{eqb_sym}
 
 pub both-nil : (p : Option Equations) → both p (Some []) ≡ p
 both-nil None = refl
@@ -30,9 +31,6 @@ int_eq_same z = (Decides-int_eq z z).1 refl
 
 int_eq_sym : (z w : ℤ) → int_eq z w ≡ int_eq w z
 int_eq_sym z w = same_from_decides (int_eq z w) (int_eq w z) (Decides-int_eq z w) ((λ h. sym ((Decides-int_eq w z).0 h)), (λ h. (Decides-int_eq w z).1 (sym h)))
-
-eqb_sym : (x y : ℕ) → (x == y) ≡ (y == x)
-eqb_sym x y = same_from_decides (x == y) (y == x) (Decides-eqb x y) ((λ h. sym ((Decides-eqb y x).0 h)), (λ h. (Decides-eqb y x).1 (sym h)))
 
 -- a term taken apart with itself gives nothing
 mutual

@@ -6,4 +6,5 @@ pub mod Steps
 pub mod Sections
 pub mod Listings
 pub mod Views
-mod Laws
+mod Learned
+mod OneReading

@@ -9,6 +9,7 @@ mod error;
 mod exprs;
 mod halt;
 mod items;
+pub mod laws;
 mod reading;
 mod rules;
 mod syntax;

@@ -1,5 +1,5 @@
 -- The index of the occurrences, an occurrence at a time.
-use Rattle.std.proofs.Common.{◌≡◌, ◌≢◌, ◌∙◌, ℕ, zero, suc, ◌+◌, ◌-◌, ◌<◌, ◌≤◌, ◌++◌, List, [], ◌∷◌, length, Vec, refl, ap, sym, arith, Bool, true, false, not, ◌&&◌, ◌==◌, map, cond, get_or, append-nil, append_assoc, slice_set, take, drop, drop-cons, add-one, add-zero}
+use Rattle.std.proofs.Common.{◌≡◌, ◌∙◌, ℕ, zero, suc, ◌+◌, ◌-◌, ◌<◌, ◌≤◌, ◌++◌, List, [], ◌∷◌, length, Vec, refl, ap, sym, arith, Bool, true, false, not, ◌&&◌, ◌==◌, map, cond, get_or, append-nil, append_assoc, slice_set, take, drop, drop-cons, add-one, add-zero}
 use Rattle.std.proofs.lemmas.List.{map-append, reverse-append, length-map, length-take-le}
 use Rattle.std.proofs.lemmas.Simd.{map-map}
 use Rattle.std.specs.Prelude.{slice_get, reverse}

@@ -1,5 +1,5 @@
 -- What an occurrence is of: a rule of the program, at its number, and one of the rule's heads.
-use Rattle.std.proofs.Common.{◌≡◌, ◌∙◌, ℕ, zero, suc, ◌+◌, ◌-◌, ◌<◌, ◌≤◌, ◌++◌, List, [], ◌∷◌, length, refl, ap, sym, subst, arith, Bool, true, false, not, ◌&&◌, ◌==◌, map, cond, get_or, Some}
+use Rattle.std.proofs.Common.{◌≡◌, ◌∙◌, ℕ, zero, suc, ◌+◌, ◌-◌, ◌<◌, ◌≤◌, List, [], ◌∷◌, length, refl, ap, sym, subst, arith, Bool, true, false, not, ◌&&◌, ◌==◌, map, cond, get_or, Some}
 use Rattle.std.specs.Prelude.{All, slice_get, reverse}
 use Rattle.std.proofs.lemmas.List.Elements.{All-append, All-cons, All-head, All-nil, All-tail}
 use Rattle.std.proofs.lemmas.List.{reverse-append, length-append, length-map}

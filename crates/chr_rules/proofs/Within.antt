@@ -1,5 +1,5 @@
 -- What is found in the parts of lists and chains.
-use Rattle.std.proofs.Common.{◌≡◌, ◌<◌, ◌≤◌, arith, Vec, Box, String, length, ◌∙◌, ℕ, List, [], ◌∷◌, Bool, true, false, ◌||◌, refl, ap, sym, None}
+use Rattle.std.proofs.Common.{◌≡◌, ◌<◌, arith, Vec, Box, String, length, ◌∙◌, ℕ, List, [], ◌∷◌, Bool, ◌||◌, refl, ap, sym, None}
 use Rattle.std.specs.List.{list_any}
 use Rattle.chr_semantics.specs.Syntax as s
 use Rattle.chr_semantics.specs.Syntax.{Expr, exprs_of, list}
@@ -12,6 +12,7 @@ use Rattle.chr_read.specs.declared.syntax.Expr.TheVariants.{Call, List as Listed
 use Rattle.std.specs.Prelude.{box_value, string_bytes}
 use Rattle.chr_read.specs.declared.syntax.Expr.{Expr as Code}
 use Rattle.chr_read.specs.declared.syntax.Operator.{Operator}
+use Rattle.chr_semantics.proofs.Tests.{or_assoc, or_false}
 use Rattle.chr_rules.specs.Parts.{operands}
 
 -- a list and a chain are no names
@@ -22,14 +23,6 @@ called_list (e ∷ es) = refl
 pub called_chain : (e f : Expr) (o : Operator) (xs : List (Operator × Expr)) → call_of (chain (s.operation (operator_view o) e f) xs) ≡ None
 called_chain e f o [] = refl
 called_chain e f o (x ∷ xs) = called_chain (s.operation (operator_view o) e f) x.1 x.0 xs
-
-pub or_false : (x : Bool) → x ≡ (x || false)
-or_false true = refl
-or_false false = refl
-
-or_assoc : (x y z : Bool) → (x || (y || z)) ≡ ((x || y) || z)
-or_assoc true y z = refl
-or_assoc false y z = refl
 
 part_of_list : (v : List ℕ → Bool) (n : ℕ → Bool) (es : List Expr) (end : Expr) → has_part v n (list es end) ≡ (have_part v n (exprs_of es) || has_part v n end)
 part_of_list v n [] end = refl

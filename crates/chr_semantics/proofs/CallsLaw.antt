@@ -19,6 +19,7 @@ use Rattle.chr_semantics.specs.Subst.{Subst, apply, instances, value_at}
 use Rattle.chr_semantics.specs.Touch.{Mark, binds, found_touches, goal_touches, has_open, rule, symbol, touches, touches_at, touches_top}
 use Rattle.chr_semantics.specs.Tree.{Tree, int, is_ground_trees}
 use Rattle.chr_semantics.specs.Value.{Fault, value}
+use Rattle.chr_semantics.proofs.KeptEntries.{goal_history}
 use Rattle.chr_semantics.proofs.Lookups.{Ascends-filter, atom_above}
 
 -- removals
@@ -226,38 +227,26 @@ pub record Makes (n : Store) (t : State) : Type 0 where
   pub next_is : n.next_id ≡ t.next_id
 
 module _ (p : Program) (s : State) (m : Store) (h : IsSound s) (same : m.rows ≡ s.store) (next : m.next_id ≡ s.next_id) where
+  bound_rows : (t : State) → (bind_calls s t m).rows ≡ s.store
+  bound_rows t = stays (binds s t) ∙ same
+    where
+      stays : (b : Bool) → (cond b (rebound m (woken m s.subst)) m).rows ≡ m.rows
+      stays true = rebound_rows m (woken m s.subst)
+      stays false = refl
+
+  bound_next : (t : State) → (bind_calls s t m).next_id ≡ s.next_id
+  bound_next t = stays (binds s t) ∙ next
+    where
+      stays : (b : Bool) → (cond b (rebound m (woken m s.subst)) m).next_id ≡ m.next_id
+      stays true = rebound_next m (woken m s.subst)
+      stays false = refl
+
   made_bound : (rest : List Element) (o : Option Subst) → Makes (bind_calls s (bind_step s rest o) m) (bind_step s rest o)
-  made_bound rest o = record { rows_are = stays (binds s (bind_step s rest o)) ∙ same ∙ sym (store_is o); next_is = keeps (binds s (bind_step s rest o)) ∙ next ∙ sym (next_is o) }
-    where
-      stays : (b : Bool) → (cond b (rebound m (woken m s.subst)) m).rows ≡ m.rows
-      stays true = rebound_rows m (woken m s.subst)
-      stays false = refl
-
-      keeps : (b : Bool) → (cond b (rebound m (woken m s.subst)) m).next_id ≡ m.next_id
-      keeps true = rebound_next m (woken m s.subst)
-      keeps false = refl
-
-      store_is : (o : Option Subst) → (bind_step s rest o).store ≡ s.store
-      store_is None = refl
-      store_is (Some r) = refl
-
-      next_is : (o : Option Subst) → (bind_step s rest o).next_id ≡ s.next_id
-      next_is None = refl
-      next_is (Some r) = refl
-
-  made_faulted : (rest : List Element) (f : Fault) → Makes (bind_calls s (record s { status = faulted f }) m) (record s { status = faulted f })
-  made_faulted rest f = record { rows_are = stays (binds s (record s { status = faulted f })) ∙ same; next_is = keeps (binds s (record s { status = faulted f })) ∙ next }
-    where
-      stays : (b : Bool) → (cond b (rebound m (woken m s.subst)) m).rows ≡ m.rows
-      stays true = rebound_rows m (woken m s.subst)
-      stays false = refl
-
-      keeps : (b : Bool) → (cond b (rebound m (woken m s.subst)) m).next_id ≡ m.next_id
-      keeps true = rebound_next m (woken m s.subst)
-      keeps false = refl
+  made_bound rest None = record { rows_are = bound_rows (bind_step s rest None); next_is = bound_next (bind_step s rest None) }
+  made_bound rest (Some r) = record { rows_are = bound_rows (bind_step s rest (Some r)); next_is = bound_next (bind_step s rest (Some r)) }
 
   made_evaluated : (rest : List Element) (x : Tree) (v : Result ℤ Fault) → Makes (bind_calls s (evaluate_step s rest x v) m) (evaluate_step s rest x v)
-  made_evaluated rest x (Err f) = made_faulted rest f
+  made_evaluated rest x (Err f) = record { rows_are = bound_rows (evaluate_step s rest x (Err f)); next_is = bound_next (evaluate_step s rest x (Err f)) }
   made_evaluated rest x (Ok z) = made_bound rest (mgu s.subst x (int z))
 
   made_decided : (rest : List Element) (c : Comparison) (v w : Result ℤ Fault) → Makes m (compare_step s rest c v w)
@@ -355,30 +344,6 @@ entered_stamps k h n ids r same new = by_test (fired_before k.list n ids) (ap (�
     by_test true e = absurd (true≢false e)
     by_test false e = refl
 
-history_bound : (s : State) (rest : List Element) (o : Option Subst) → (bind_step s rest o).history ≡ s.history
-history_bound s rest None = refl
-history_bound s rest (Some r) = refl
-
-history_evaluated : (s : State) (rest : List Element) (x : Tree) (v : Result ℤ Fault) → (evaluate_step s rest x v).history ≡ s.history
-history_evaluated s rest x (Err f) = refl
-history_evaluated s rest x (Ok z) = history_bound s rest (mgu s.subst x (int z))
-
-history_decided : (s : State) (rest : List Element) (c : Comparison) (v w : Result ℤ Fault) → (compare_step s rest c v w).history ≡ s.history
-history_decided s rest c (Err f) w = refl
-history_decided s rest c (Ok x) (Err f) = refl
-history_decided s rest c (Ok x) (Ok y) = either (comparison_holds c x y) _ _ refl refl
-  where
-    either : (b : Bool) (t u : State) → t.history ≡ s.history → u.history ≡ s.history → (cond b t u).history ≡ s.history
-    either true t u k l = k
-    either false t u k l = l
-
-history_solved : (s : State) (rest : List Element) (g : Goal) → (solve s rest g).history ≡ s.history
-history_solved s rest (constraint a) = refl
-history_solved s rest (tell t u) = history_bound s rest (mgu s.subst t u)
-history_solved s rest (evaluate x t) = history_evaluated s rest x (value (apply s.subst t))
-history_solved s rest (compare c t u) = history_decided s rest c (value (apply s.subst t)) (value (apply s.subst u))
-history_solved s rest fail = refl
-
 module _ (p : Program) (s : State) (k : Entries) (same : k.list ≡ s.history) where
   entered_found : (rest : List Element) (i j : ℕ) (a : Atom) (w : Found) → Unfired s.history w → (found_entry w k).list ≡ (search_step s rest i j a w).history
   unfolding Unfired
@@ -388,7 +353,7 @@ module _ (p : Program) (s : State) (k : Entries) (same : k.list ≡ s.history) w
 
   entered_top : (es : List Element) → (top_entry p s es k).list ≡ (step_top p s es).history
   entered_top [] = same
-  entered_top (goal g ∷ rest) = same ∙ sym (history_solved s rest g)
+  entered_top (goal g ∷ rest) = same ∙ sym (goal_history s rest g)
   entered_top (known i a ∷ rest) = same
   entered_top (active i j a ∷ rest) = entered_found rest i j a (search_at p s i j a) (unfired p s i j a)
 

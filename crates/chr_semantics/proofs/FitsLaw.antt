@@ -1,5 +1,5 @@
 -- A match makes the heads the rows, has the variables of the heads alone, and is found wherever something makes the heads the rows.
-use Rattle.std.proofs.Common.{◌≡◌, ℕ, Bool, true, false, cond, ◌||◌, ◌==◌, List, [], ◌∷◌, Option, Some, None, option_and_then, ap, refl, ◌∙◌, sym, true≢false}
+use Rattle.std.proofs.Common.{◌≡◌, ℕ, Bool, true, false, cond, ◌||◌, ◌==◌, List, [], ◌∷◌, Option, Some, None, option_and_then, ap, refl, ◌∙◌, sym}
 use Rattle.std.specs.Prelude.{unwrap_or}
 use Rattle.std.specs.Ordering.{int_eq}
 use Rattle.std.proofs.lemmas.Bool.Decides.{Decides-eqb, Decides-int_eq}
@@ -10,6 +10,7 @@ use Rattle.chr_semantics.specs.Match.{AreMade, FitsLaw, Row, fit, fit_all, fit_a
 use Rattle.chr_semantics.proofs.Makes.{Makes, MakesAll, MakesAtom, none_some, some_same, tested}
 use Rattle.chr_semantics.proofs.MatchOrder.{MakesRows, fit_rows_makes, value_is}
 use Rattle.chr_semantics.proofs.SameLaw.{same_law}
+use Rattle.chr_semantics.proofs.Tests.{eqb_sym, or_assoc, or_false, or_turned}
 
 -- the heads become the rows
 
@@ -48,36 +49,13 @@ bound_of (p ∷ m) x u e = at_pair (p.0 == x) (bound_of m x u) e
     at_pair true go e = refl
     at_pair false go e = go e
 
-same_number : (x y : ℕ) → (x == y) ≡ (y == x)
-same_number x y = both (x == y) (y == x) refl refl
-  where
-    both : (b c : Bool) → (x == y) ≡ b → (y == x) ≡ c → b ≡ c
-    both true true e f = refl
-    both false false e f = refl
-    both true false e f = let s : x ≡ y = (Decides-eqb x y).0 e in absurd (true≢false (sym ((Decides-eqb y x).1 (sym s)) ∙ f))
-    both false true e f = let s : y ≡ x = (Decides-eqb y x).0 f in absurd (true≢false (sym ((Decides-eqb x y).1 (sym s)) ∙ e))
-
-or_turned : (a b : Bool) → (a || b) ≡ (b || a)
-or_turned true true = refl
-or_turned true false = refl
-or_turned false true = refl
-or_turned false false = refl
-
-or_none : (a : Bool) → a ≡ (a || false)
-or_none true = refl
-or_none false = refl
-
-or_three : (a b c : Bool) → ((a || b) || c) ≡ (a || (b || c))
-or_three true b c = refl
-or_three false b c = refl
-
 in_both : (a b : Bool) → (b ≡ true → a ≡ true) → a ≡ (a || b)
 in_both true b h = refl
 in_both false true h = h refl
 in_both false false h = refl
 
 var_binds : (m n : Subst) (x : ℕ) (t : Tree) (o : Option Tree) (y : ℕ) → match_at m x ≡ o → fit_var m x t o ≡ Some n → binds_var n y ≡ (binds_var m y || (y == x))
-var_binds m n x t None y is h = ap (λ (k : Subst). binds_var k y) (sym (some_same ((x, t) ∷ m) n h)) ∙ or_turned (x == y) (binds_var m y) ∙ ap (λ (b : Bool). binds_var m y || b) (same_number x y)
+var_binds m n x t None y is h = ap (λ (k : Subst). binds_var k y) (sym (some_same ((x, t) ∷ m) n h)) ∙ or_turned (x == y) (binds_var m y) ∙ ap (λ (b : Bool). binds_var m y || b) (eqb_sym x y)
 var_binds m n x t (Some u) y is h =
     let r = tested (same u t) (Some m) n h in
     ap (λ (k : Subst). binds_var k y) (sym (some_same m n r.1)) ∙ in_both (binds_var m y) (y == x) (λ e. ap (binds_var m) ((Decides-eqb y x).0 e) ∙ bound_of m x u is)
@@ -85,20 +63,20 @@ var_binds m n x t (Some u) y is h =
 terms_next : (t u : Tree) (ts us : Trees) (m n : Subst) (y : ℕ) (o : Option Subst) → ((k : Subst) → o ≡ Some k → binds_var k y ≡ (binds_var m y || occurs y t)) → ((k : Subst) → fit_all ts us k ≡ Some n → binds_var n y ≡ (binds_var k y || occurs_any y ts))
     → option_and_then (fit_all ts us) o ≡ Some n → binds_var n y ≡ (binds_var m y || (occurs y t || occurs_any y ts))
 terms_next t u ts us m n y None f g h = absurd (none_some n h)
-terms_next t u ts us m n y (Some k) f g h = g k h ∙ ap (λ (b : Bool). b || occurs_any y ts) (f k refl) ∙ or_three (binds_var m y) (occurs y t) (occurs_any y ts)
+terms_next t u ts us m n y (Some k) f g h = g k h ∙ ap (λ (b : Bool). b || occurs_any y ts) (f k refl) ∙ sym (or_assoc (binds_var m y) (occurs y t) (occurs_any y ts))
 
 mutual
   term_binds : (p t : Tree) (m n : Subst) (y : ℕ) → fit p t m ≡ Some n → binds_var n y ≡ (binds_var m y || occurs y p)
   term_binds (var x) t m n y h = var_binds m n x t (match_at m x) y refl h
   term_binds (int z) (var w) m n y h = absurd (none_some n h)
-  term_binds (int z) (int w) m n y h = let r = tested (int_eq z w) (Some m) n h in ap (λ (k : Subst). binds_var k y) (sym (some_same m n r.1)) ∙ or_none (binds_var m y)
+  term_binds (int z) (int w) m n y h = let r = tested (int_eq z w) (Some m) n h in ap (λ (k : Subst). binds_var k y) (sym (some_same m n r.1)) ∙ or_false (binds_var m y)
   term_binds (int z) (node g us) m n y h = absurd (none_some n h)
   term_binds (node f ts) (var w) m n y h = absurd (none_some n h)
   term_binds (node f ts) (int w) m n y h = absurd (none_some n h)
   term_binds (node f ts) (node g us) m n y h = terms_bind ts us m n y (tested (f == g) (fit_all ts us m) n h).1
 
   terms_bind : (ps ts : Trees) (m n : Subst) (y : ℕ) → fit_all ps ts m ≡ Some n → binds_var n y ≡ (binds_var m y || occurs_any y ps)
-  terms_bind none none m n y h = ap (λ (k : Subst). binds_var k y) (sym (some_same m n h)) ∙ or_none (binds_var m y)
+  terms_bind none none m n y h = ap (λ (k : Subst). binds_var k y) (sym (some_same m n h)) ∙ or_false (binds_var m y)
   terms_bind none (more u us) m n y h = absurd (none_some n h)
   terms_bind (more t ts) none m n y h = absurd (none_some n h)
   terms_bind (more t ts) (more u us) m n y h = terms_next t u ts us m n y (fit t u m) (λ k is. term_binds t u m k y is) (λ k is. terms_bind ts us k n y is) h
@@ -106,10 +84,10 @@ mutual
 rows_next : (x : Head) (hs : List Head) (cs : List Row) (m n : Subst) (y : ℕ) (o : Option Subst) → ((k : Subst) → o ≡ Some k → binds_var k y ≡ (binds_var m y || occurs_any y x.atom.args)) → ((k : Subst) → fit_rows hs cs k ≡ Some n → binds_var n y ≡ (binds_var k y || has_variable hs y))
     → option_and_then (fit_rows hs cs) o ≡ Some n → binds_var n y ≡ (binds_var m y || (occurs_any y x.atom.args || has_variable hs y))
 rows_next x hs cs m n y None f g h = absurd (none_some n h)
-rows_next x hs cs m n y (Some k) f g h = g k h ∙ ap (λ (b : Bool). b || has_variable hs y) (f k refl) ∙ or_three (binds_var m y) (occurs_any y x.atom.args) (has_variable hs y)
+rows_next x hs cs m n y (Some k) f g h = g k h ∙ ap (λ (b : Bool). b || has_variable hs y) (f k refl) ∙ sym (or_assoc (binds_var m y) (occurs_any y x.atom.args) (has_variable hs y))
 
 rows_bind : (hs : List Head) (cs : List Row) (m n : Subst) (y : ℕ) → fit_rows hs cs m ≡ Some n → binds_var n y ≡ (binds_var m y || has_variable hs y)
-rows_bind [] [] m n y h = ap (λ (k : Subst). binds_var k y) (sym (some_same m n h)) ∙ or_none (binds_var m y)
+rows_bind [] [] m n y h = ap (λ (k : Subst). binds_var k y) (sym (some_same m n h)) ∙ or_false (binds_var m y)
 rows_bind [] (c ∷ cs) m n y h = absurd (none_some n h)
 rows_bind (x ∷ hs) [] m n y h = absurd (none_some n h)
 rows_bind (x ∷ hs) (c ∷ cs) m n y h =

@@ -21,3 +21,11 @@ pub record IsAccepted (program query : List ℕ) (names : Names) (rules : semant
   pub read : IsRead IsQuery query spelled
   pub is_checked : checked_query of spelled ≡ Ok (names, q)
   pub rules_are : of.rules ≡ rules
+
+-- A text has at most one reading; so two texts are accepted as at most one program and query, with their names.
+pub record OneReadingLaw : Type 0 where
+  pub programs : (text : List ℕ) (p q : syntax.Program) → IsRead IsProgram text p → IsRead IsProgram text q → p ≡ q
+  pub queries : (text : List ℕ) (p q : syntax.Query) → IsRead IsQuery text p → IsRead IsQuery text q → p ≡ q
+  pub accepted :
+      (program query : List ℕ) (m n : Names) (p r : semantics.Program) (q t : semantics.Query)
+      → IsAccepted program query m p q → IsAccepted program query n r t → (m ≡ n) × (p ≡ r) × (q ≡ t)

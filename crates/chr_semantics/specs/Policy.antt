@@ -4,7 +4,7 @@ use Rattle.chr_semantics.specs.Program.{Program}
 use Rattle.chr_semantics.specs.State.{State}
 use Rattle.chr_semantics.specs.Step.{after}
 use Rattle.chr_semantics.specs.Tasks.{Task, needed_task, tasks}
-use Rattle.chr_semantics.specs.Schedule.{Event, publish, arrive, move, Progress, no_progress, is_served, next}
+use Rattle.chr_semantics.specs.Schedule.{Counts, Event, publish, arrive, move, Progress, counts, first_refusal, no_progress, is_served, next, state_of}
 
 -- the next Step needs a search that no kept answer serves, and there are two tasks or more
 abbrev pub is_place_for : Program → State → Progress → Option Task → Bool
@@ -63,3 +63,10 @@ pub record IsPolicy (p : Program) (q : State) (workers skipped : ℕ) (es : List
   pub alone : workers ≡ 0 → has_steps_alone es ≡ true
   pub keeps : keeps_policy p q first_stage es ≡ true
   pub missed : (workers ≡ 0 → ⊥) → missed_places p q first_stage es ≤ skipped
+
+-- what ties a run of n transitions to its schedule: no event of it is refused, its Steps lead to where these transitions do, and the counts
+-- are the schedule's
+pub record IsTied (p : Program) (q : State) (n : ℕ) (c : Counts) (es : List Event) : Type 0 where
+  pub none_refused : first_refusal p q no_progress 0 es ≡ None
+  pub same_state : state_of p q es ≡ after p q n
+  pub counts_are : c ≡ counts p q es

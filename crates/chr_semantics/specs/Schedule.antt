@@ -107,6 +107,10 @@ next p q g move = with_step p q g (needed_task p (after p q g.steps))
 abbrev pub progress : Program → State → List Event → Progress
 progress p q = fold (next p q) no_progress
 
+-- its state: the one after its Steps
+abbrev pub state_of : Program → State → List Event → State
+state_of p q es = after p q (progress p q es).steps
+
 -- a schedule with one event more
 abbrev pub AppendedLaw : Type 0
 AppendedLaw = (p : Program) (q : State) (es : List Event) (e : Event) → progress p q (es ++ e ∷ []) ≡ next p q (progress p q es) e
@@ -175,5 +179,5 @@ performed p q = without_idle p q no_progress
 
 -- a schedule of a query's run comes to the same state and counts without them
 pub record IdleLaw : Type 0 where
-  pub state : (p : Program) (r : Query) (es : List Event) → (let q = start r in after p q (progress p q (performed p q es)).steps ≡ after p q (progress p q es).steps)
+  pub state : (p : Program) (r : Query) (es : List Event) → (let q = start r in state_of p q (performed p q es) ≡ state_of p q es)
   pub counts_same : (p : Program) (r : Query) (es : List Event) → (let q = start r in counts p q (performed p q es) ≡ counts p q es)

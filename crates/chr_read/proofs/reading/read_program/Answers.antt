@@ -5,7 +5,7 @@ use Rattle.chr_tokens.specs.TokenView.{IsEnded, placed_views}
 use Rattle.chr_read.specs.Automaton as m
 use Rattle.chr_read.specs.Automaton.{programs}
 use Rattle.chr_read.specs.SyntaxView.{part_views}
-use Rattle.chr_read.proofs.Laws.{program_same, programs_run, programs_spell, only_memory, only_so, points, read_so, refused}
+use Rattle.chr_read.proofs.Learned.{program_same, programs_run, programs_spell, only_memory, only_so, points, read_so, refused}
 use Rattle.chr_read.proofs.reading.read_program.Goals as goal
 
 pub returns-in-Ok-clause-read : goal.returns-in-Ok-clause-read

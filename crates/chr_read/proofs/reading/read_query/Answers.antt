@@ -5,7 +5,7 @@ use Rattle.chr_tokens.specs.TokenView.{IsEnded, placed_views}
 use Rattle.chr_read.specs.Automaton as m
 use Rattle.chr_read.specs.Automaton.{queries}
 use Rattle.chr_read.specs.SyntaxView.{query_view}
-use Rattle.chr_read.proofs.Laws.{queries_run, queries_spell, query_same, only_memory, only_so, points, read_so, refused}
+use Rattle.chr_read.proofs.Learned.{queries_run, queries_spell, query_same, only_memory, only_so, points, read_so, refused}
 use Rattle.chr_read.proofs.reading.read_query.Goals as goal
 
 pub returns-in-Ok-clause-read : goal.returns-in-Ok-clause-read

@@ -70,6 +70,9 @@ no_kind : (k : written.ReadErrorKind) → kind_view k ≡ None → k ≡ Written
 no_kind Written.Memory e = refl
 no_kind _ e = cc
 
+pub accept_same : (x y : SyntaxTree) → accept x ≡ accept y → x ≡ y
+accept_same x y e = cc
+
 module _ {S : Type 0} (Spelled : List Placed → S → Type 0) (l : Language) (tree : S → SyntaxTree)
     (runs : (ts : List Placed) (s : S) → Spelled ts s → run any_room (first_state l) ts ≡ accept (tree s))
     (spells : (ts : List Placed) (x : SyntaxTree) → run any_room (first_state l) ts ≡ accept x → (s : S) × (x ≡ tree s) × Spelled ts s)
@@ -83,9 +86,6 @@ module _ {S : Type 0} (Spelled : List Placed → S → Type 0) (l : Language) (t
 
   accepted : (s : S) → IsRead Spelled bytes s → verdict_of l ts ≡ accept (tree s)
   accepted s h = limits.accepts Spelled l tree runs spells ts s (subst (λ x. Spelled x s) (sym are) h.spells) (subst (Within 0) (sym are) h.within)
-
-  accept_same : (x y : SyntaxTree) → accept x ≡ accept y → x ≡ y
-  accept_same x y e = cc
 
   pub only_so : (r : S) → verdict_of l ts ≡ accept (tree r) → (s : S) → IsRead Spelled bytes s → r ≡ s
   only_so r e s h = same r s (accept_same (tree r) (tree s) (sym e ∙ accepted s h))
