@@ -220,7 +220,7 @@ fn show_part<A: Allocator>(
 }
 
 /// A program's parts, each with its line, or the error.
-pub fn shown_program<A: Allocator>(
+pub(crate) fn shown_program<A: Allocator>(
     alloc: Global,
     answer: &Result<ProgramSyntax<A>, ReadError>,
 ) -> Result<String, Memory> {
@@ -239,7 +239,7 @@ pub fn shown_program<A: Allocator>(
 }
 
 /// A query's line and items, or the error.
-pub fn shown_query<A: Allocator>(
+pub(crate) fn shown_query<A: Allocator>(
     alloc: Global,
     answer: &Result<QuerySyntax<A>, ReadError>,
 ) -> Result<String, Memory> {

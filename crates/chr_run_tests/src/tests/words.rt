@@ -71,7 +71,7 @@ fn answer_of(
 }
 
 /// What it answers to words where the file has this text, and the input none.
-pub fn answer_to_file(alloc: Global, words: &[&str], text: &[u8]) -> Result<Answer, Memory> {
+pub(crate) fn answer_to_file(alloc: Global, words: &[&str], text: &[u8]) -> Result<Answer, Memory> {
     let files = Files {
         text,
         step: usize::MAX,
@@ -81,7 +81,7 @@ pub fn answer_to_file(alloc: Global, words: &[&str], text: &[u8]) -> Result<Answ
 }
 
 /// What it answers with no words to an input that is read so.
-pub fn answer_to_input(alloc: Global, source: &mut Source) -> Result<Answer, Memory> {
+pub(crate) fn answer_to_input(alloc: Global, source: &mut Source) -> Result<Answer, Memory> {
     let files = Files {
         text: &[],
         step: 0,
@@ -91,7 +91,7 @@ pub fn answer_to_input(alloc: Global, source: &mut Source) -> Result<Answer, Mem
 }
 
 /// The whole text in one call.
-pub fn whole(text: &[u8]) -> Source<'_> {
+pub(crate) fn whole(text: &[u8]) -> Source<'_> {
     Source {
         text,
         step: usize::MAX,
@@ -99,14 +99,14 @@ pub fn whole(text: &[u8]) -> Source<'_> {
     }
 }
 
-pub fn assert_runs(rt: &impl Abort, answer: &Answer, status: u8, text: &str) {
+pub(crate) fn assert_runs(rt: &impl Abort, answer: &Answer, status: u8, text: &str) {
     assert_eq!(rt; answer.status, status);
     assert_eq!(rt; answer.output.as_slice(), text.as_bytes());
     assert!(rt; answer.error.is_empty());
 }
 
 /// It refuses with this line, and nothing goes out.
-pub fn assert_refuses(rt: &impl Abort, answer: &Answer, line: &str) {
+pub(crate) fn assert_refuses(rt: &impl Abort, answer: &Answer, line: &str) {
     assert_eq!(rt; answer.error.as_slice(), line.as_bytes());
     assert_eq!(rt; answer.status, 2);
     assert!(rt; answer.output.is_empty());
