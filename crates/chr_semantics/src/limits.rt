@@ -21,6 +21,9 @@ pub const MAX_ARITY: usize = 16;
 /// The transitions of one machine, the budget of a run, and the Steps of a schedule.
 pub const MAX_TRANSITIONS: u64 = 1_000_000;
 
+/// The calls that change one store.
+pub const MAX_CHANGES: u64 = 1_000_000_000_000;
+
 /// The workers of a run.
 pub const MAX_WORKERS: u32 = 64;
 

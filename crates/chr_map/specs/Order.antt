@@ -1,0 +1,33 @@
+-- Entries in the order of their keys, one more of them, one less, and the one at a key.
+use Rattle.std.specs.Prelude.{◌≡◌, Bool, not, List, [], ◌∷◌, Option, Some, None, filter}
+use Rattle.std.specs.declared.cmp.Ordering.{Ordering}
+use Rattle.std.specs.declared.cmp.Ordering.TheVariants.{Less}
+use Rattle.std.specs.Ordering.{is_eq, match_ordering}
+
+module _ {K V : Type 0} (cmp : K → K → Ordering) where
+  -- all keys are greater than k
+  abbrev pub AllAbove : K → List (K × V) → Type 0
+  AllAbove k [] = Unit {0}
+  AllAbove k (e ∷ es) = (cmp k e.0 ≡ Less) × AllAbove k es
+
+  -- each key is less than all after it
+  abbrev pub Ascends : List (K × V) → Type 0
+  Ascends [] = Unit {0}
+  Ascends (e ∷ es) = AllAbove e.0 es × Ascends es
+
+  -- with the value v at the key k
+  abbrev pub entry_put : List (K × V) → K → V → List (K × V)
+  entry_put [] k v = (k, v) ∷ []
+  entry_put (e ∷ es) k v = match_ordering (cmp k e.0) ((k, v) ∷ e ∷ es) ((e.0, v) ∷ es) (e ∷ entry_put es k v)
+
+  abbrev pub is_at : K → K × V → Bool
+  is_at k e = is_eq (cmp k e.0)
+
+  -- without the key k
+  abbrev pub entry_removed : List (K × V) → K → List (K × V)
+  entry_removed es k = filter (λ e. not (is_at k e)) es
+
+  -- the value at the key k
+  abbrev pub value_of : List (K × V) → K → Option V
+  value_of [] k = None
+  value_of (e ∷ es) k = match_ordering (cmp k e.0) None (Some e.1) (value_of es k)

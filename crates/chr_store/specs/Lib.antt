@@ -1,0 +1,11 @@
+pub mod Numbers
+pub mod IdsValue
+pub mod KeyView
+pub mod Rows
+pub mod SlotsView
+pub mod RowsLeft
+pub mod Looks
+pub mod Counts
+pub mod Waking
+pub mod StoreView
+pub mod HistoryView

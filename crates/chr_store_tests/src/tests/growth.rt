@@ -1,0 +1,65 @@
+//! Many constraints, added and removed in several orders: that each list is right, and that the calls are fast enough to end in time.
+use super::*;
+
+const COUNT: u64 = 20_000;
+
+/// A store of p(0), p(1), .. with as many different keys.
+fn many<A: Allocator + Copy>(alloc: A, rt: &impl Abort) -> Result<Store<A>, Memory> {
+    let mut store = Store::new(alloc);
+    for n in 0..COUNT {
+        add(rt, &mut store, P, one(alloc, Term::Int(i128::from(n)))?)?;
+    }
+    Ok(store)
+}
+
+#[test]
+fn the_oldest_first(rt: HostRuntime) -> Result<(), Fail> {
+    let mut store = many(rt.alloc(), &rt)?;
+    for id in 1..COUNT {
+        assert!(&rt; remove(&rt, &mut store, id));
+    }
+    assert_ids(&rt, store.rows_of(P), &[COUNT]);
+    Ok(())
+}
+
+#[test]
+fn the_newest_first(rt: HostRuntime) -> Result<(), Fail> {
+    let mut store = many(rt.alloc(), &rt)?;
+    for n in 1..COUNT {
+        assert!(&rt; remove(&rt, &mut store, COUNT + 1 - n));
+    }
+    assert_ids(&rt, store.rows_of(P), &[1]);
+    Ok(())
+}
+
+/// Two are added and one is removed, over and over: a list that is used as a queue stays as short as it is.
+#[test]
+fn a_queue(rt: HostRuntime) -> Result<(), Fail> {
+    let alloc = rt.alloc();
+    let mut store = Store::new(alloc);
+    add(&rt, &mut store, P, one(alloc, Term::Int(0))?)?;
+    for n in 1..COUNT {
+        assert_eq!(&rt; add(&rt, &mut store, P, one(alloc, Term::Int(0))?)?, n + 1);
+        assert!(&rt; remove(&rt, &mut store, n));
+        assert_ids(&rt, store.rows_of(P), &[n + 1]);
+        assert_ids(&rt, store.rows_keyed(P, Some(Key::Int(0))), &[n + 1]);
+    }
+    Ok(())
+}
+
+/// Every third one goes; the keys of the others are as they were.
+#[test]
+fn from_the_middle(rt: HostRuntime) -> Result<(), Fail> {
+    let mut store = many(rt.alloc(), &rt)?;
+    for n in 0..COUNT / 3 {
+        assert!(&rt; remove(&rt, &mut store, 3 * n + 1));
+    }
+    let kept = COUNT - COUNT / 3;
+    assert_eq!(&rt; store.rows_of(P).len() as u64, kept);
+    for n in 0..COUNT {
+        let keyed = store.rows_keyed(P, Some(Key::Int(i128::from(n))));
+        let is_gone = n % 3 == 0 && n / 3 < COUNT / 3;
+        assert_eq!(&rt; keyed.is_empty(), is_gone);
+    }
+    Ok(())
+}
