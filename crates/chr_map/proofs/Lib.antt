@@ -1,3 +1,5 @@
-pub mod Turns
-pub mod Ordered
 pub mod Changed
+pub mod Clauses
+pub mod Lookups
+pub mod Ordered
+pub mod Parts

@@ -1,5 +1,5 @@
 -- Entries in order: what a part before or after a key has to do with it.
-use Rattle.std.proofs.Common.{◌≡◌, ◌∙◌, Bool, true, false, not, cond, List, [], ◌∷◌, ◌++◌, ap, refl}
+use Rattle.std.proofs.Common.{◌≡◌, ◌∙◌, Bool, true, false, not, cond, List, [], ◌∷◌, ◌++◌, ap, refl, sym}
 use Rattle.std.specs.Prelude.{Some, None}
 use Rattle.std.specs.Cmp.{IsTotalOrder}
 use Rattle.std.specs.declared.cmp.Ordering.{Ordering}
@@ -12,8 +12,12 @@ module _ {K : Type 0} (cmp : K → K → Ordering) (total : IsTotalOrder cmp) wh
   turned : (j k : K) → cmp j k ≡ Less → cmp k j ≡ Greater
   turned j k e = total.antisymm k j ∙ ap ordering_reverse e
 
-  back : (j k : K) → cmp j k ≡ Greater → cmp k j ≡ Less
+  pub back : (j k : K) → cmp j k ≡ Greater → cmp k j ≡ Less
   back j k e = total.antisymm k j ∙ ap ordering_reverse e
+
+  -- keys that are equal compare alike to others
+  pub alike : (j k m : K) → cmp k m ≡ Equal → cmp j k ≡ cmp j m
+  alike j k m e = total.antisymm j k ∙ (ap ordering_reverse (total.congr k m j e) ∙ sym (total.antisymm j m))
 
 module _ {K V : Type 0} (cmp : K → K → Ordering) where
   -- all keys compare to k so

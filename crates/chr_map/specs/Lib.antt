@@ -1,2 +1,3 @@
 pub mod Entries
 pub mod Order
+pub mod Taking

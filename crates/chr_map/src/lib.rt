@@ -1,4 +1,4 @@
-//! Ordered maps that are shared for a pointer: a change makes a new map, which has most of the old one in it.
+//! Ordered maps that are shared for a pointer: a change copies what two maps have in common, and that alone.
 #![tactic(auto)]
 
 mod map;

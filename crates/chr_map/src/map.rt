@@ -1,9 +1,9 @@
 //! Ordered maps.
-ghost use Rattle.std.specs.Prelude.{◌≡◌, [], IfOk};
+ghost use Rattle.std.specs.Prelude.{◌≡◌, [], OnErr, OnOk};
 ghost use Rattle.std.specs.Option.{option_copied};
 ghost use Rattle.chr_map.specs.Order.{Ascends, entry_put, entry_removed, value_of};
 
-use crate::node::{Link, found, inserted, removed, share_link};
+use crate::node::{Link, found, put, share_link, take_out};
 use crate::part::Part;
 use crate::{Memory, Share};
 use std::alloc::{Allocator, Global};
@@ -40,29 +40,27 @@ impl<K: Ord + Copy, V: Share, A: Allocator + Copy> Map<K, V, A> {
 
     /// The value at a key.
     pub fn get(&self, key: &K) -> Option<&V>
-        ensures { option_copied result ≡ value_of K.cmp self.now key.now }
+        ensures value { option_copied result ≡ value_of K.cmp self.now key.now }
+        ensures ascending { Ascends K.cmp self.now }
     {
         found(&self.root, key)
     }
 
-    /// The map with a value at a key.
-    pub fn with(&self, key: K, value: V) -> Result<Map<K, V, A>, Memory>
-        ensures { IfOk result (λ new. new ≡ entry_put K.cmp self.now key value) }
+    /// Puts a value at a key, in place of the one that was there. A refused call leaves the map as it was.
+    pub fn put(&mut self, key: K, value: V) -> Result<(), Memory>
+        ensures ok { OnOk result (self.new ≡ entry_put K.cmp self.old key value) }
+        ensures err { OnErr result (self.new ≡ self.old) }
     {
-        Ok(Map {
-            root: inserted(self.alloc, &self.root, key, value)?,
-            alloc: self.alloc,
-        })
+        put(&mut self.root, self.alloc, key, value)
     }
 
-    /// The map without a key.
-    pub fn without(&self, key: K) -> Result<Map<K, V, A>, Memory>
-        ensures { IfOk result (λ new. new ≡ entry_removed K.cmp self.now key) }
+    /// Takes out a key and its value, if it is there. A refused call leaves the map as it was.
+    pub fn take_out(&mut self, key: &K) -> Result<(), Memory>
+        ensures ok { OnOk result (self.new ≡ entry_removed K.cmp self.old key.now) }
+        ensures err { OnErr result (self.new ≡ self.old) }
+        ensures ascending { Ascends K.cmp self.old }
     {
-        Ok(Map {
-            root: removed(self.alloc, &self.root, key)?,
-            alloc: self.alloc,
-        })
+        take_out(&mut self.root, key)
     }
 }
 

@@ -1,32 +1,41 @@
-//! Nodes of a search tree, which trees share. A node is never changed.
-ghost use Rattle.std.specs.Prelude.{◌≡◌, ◌++◌, ◌∷◌, [], IfOk, IfSome};
+//! Nodes of a search tree. Trees share them; one that is shared is copied before it is changed.
+ghost use Rattle.std.specs.Prelude.{◌≡◌, ◌++◌, ◌∷◌, [], IfOk, OnErr, OnOk};
 ghost use Rattle.std.specs.Option.{option_copied};
 ghost use Rattle.chr_map.specs.Entries.{link_entries, node_entries};
 ghost use Rattle.chr_map.specs.Order.{Ascends, entry_put, entry_removed, value_of};
+ghost use Rattle.chr_map.specs.Taking.{HasFirst, entries_around, entries_below, left_entries};
 
 use crate::{Memory, Share};
 use std::alloc::Allocator;
 use std::cmp::Ordering;
+use std::mem;
 use std::sync::Arc;
 
 /// An entry, with the trees of the lesser and of the greater ones.
 #[derive(Drop)]
 pub(crate) struct Node<K: Drop, V: Drop, A: Allocator> {
-    pub(crate) left: Option<Arc<Node<K, V, A>, A>>,
+    pub(crate) left: Link<K, V, A>,
     pub(crate) key: K,
     pub(crate) value: V,
-    pub(crate) right: Option<Arc<Node<K, V, A>, A>>,
-    /// The length of the longest way down, by which trees are balanced.
-    height: u32,
+    pub(crate) right: Link<K, V, A>,
+    /// The number of entries of the tree, by which it is balanced.
+    size: u64,
 }
 
 /// A tree that may be empty.
 pub(crate) type Link<K, V, A> = Option<Arc<Node<K, V, A>, A>>;
 
-fn height<K: Drop, V: Drop, A: Allocator>(link: &Link<K, V, A>) -> u32 {
-    match link {
-        None => 0,
-        Some(node) => node.height,
+impl<K: Copy, V: Share, A: Allocator> Clone for Node<K, V, A> {
+    ghost is_clone = { λ old new. node_entries new ≡ node_entries old };
+
+    fn clone(&self) -> Result<Node<K, V, A>, Memory> {
+        Ok(Node {
+            left: share_link(&self.left)?,
+            key: self.key,
+            value: self.value.share()?,
+            right: share_link(&self.right)?,
+            size: self.size,
+        })
     }
 }
 
@@ -42,243 +51,269 @@ pub(crate) fn share_link<K: Drop, V: Drop, A: Allocator>(
     }
 }
 
-/// The tree of two trees and an entry between them.
-fn join<K: Drop, V: Drop, A: Allocator + Copy>(
-    alloc: A,
-    left: Link<K, V, A>,
-    key: K,
-    value: V,
-    right: Link<K, V, A>,
-) -> Result<Link<K, V, A>, Memory>
-    ensures { IfOk result
-        (λ link. link_entries link ≡ link_entries left ++ (key, value) ∷ link_entries right) }
-{
-    let height = height(&left).max(height(&right)).saturating_add(1);
-    Ok(Some(Arc::new(
-        alloc,
-        Node {
-            left,
-            key,
-            value,
-            right,
-            height,
-        },
-    )?))
+/// The number of entries.
+fn size<K: Drop, V: Drop, A: Allocator>(link: &Link<K, V, A>) -> u64 {
+    match link {
+        None => 0,
+        Some(node) => node.size,
+    }
 }
 
-/// The tree in a link, where it is higher than another one.
-fn higher<'a, K: Drop, V: Drop, A: Allocator>(
-    link: &'a Link<K, V, A>,
-    other: &Link<K, V, A>,
-) -> Option<&'a Node<K, V, A>>
-    ensures { IfSome result (λ node. node_entries node.now ≡ link_entries link.now) }
+impl<K: Copy, V: Share, A: Allocator + Copy> Node<K, V, A> {
+    /// Counts the entries, where those of the trees below are counted.
+    fn count(&mut self)
+        ensures { node_entries self.new ≡ node_entries self.old }
+    {
+        self.size = size(&self.left)
+            .saturating_add(size(&self.right))
+            .saturating_add(1);
+    }
+
+    /// Puts an entry in the place of its own.
+    fn set(&mut self, key: K, value: V)
+        ensures { node_entries self.new ≡ entries_around self.old (key, value) }
+    {
+        self.key = key;
+        self.value = value;
+    }
+
+    /// Lets the top of the left tree come up, unless it is shared and cannot be copied.
+    fn turn_right(&mut self)
+        ensures { node_entries self.new ≡ node_entries self.old }
+    {
+        if let Some(link) = &mut self.left {
+            if let Ok(top) = Arc::make_mut(link) {
+                mem::swap(&mut self.key, &mut top.key);
+                mem::swap(&mut self.value, &mut top.value);
+                mem::swap(&mut self.right, &mut top.right);
+                mem::swap(&mut self.right, &mut top.left);
+                top.count();
+                mem::swap(&mut self.left, &mut self.right);
+            }
+        }
+    }
+
+    /// Lets the top of the right tree come up, unless it is shared and cannot be copied.
+    fn turn_left(&mut self)
+        ensures { node_entries self.new ≡ node_entries self.old }
+    {
+        if let Some(link) = &mut self.right {
+            if let Ok(top) = Arc::make_mut(link) {
+                mem::swap(&mut self.key, &mut top.key);
+                mem::swap(&mut self.value, &mut top.value);
+                mem::swap(&mut self.left, &mut top.left);
+                mem::swap(&mut self.left, &mut top.right);
+                top.count();
+                mem::swap(&mut self.left, &mut self.right);
+            }
+        }
+    }
+
+    /// Makes the left tree lighter, whose inner part may be the heavy one.
+    fn lighten_left(&mut self)
+        ensures { node_entries self.new ≡ node_entries self.old }
+    {
+        if let Some(link) = &mut self.left {
+            if size(&link.right) > size(&link.left).saturating_mul(2) {
+                if let Ok(top) = Arc::make_mut(link) {
+                    top.turn_left();
+                }
+            }
+        }
+        self.turn_right();
+    }
+
+    /// Makes the right tree lighter, whose inner part may be the heavy one.
+    fn lighten_right(&mut self)
+        ensures { node_entries self.new ≡ node_entries self.old }
+    {
+        if let Some(link) = &mut self.right {
+            if size(&link.left) > size(&link.right).saturating_mul(2) {
+                if let Ok(top) = Arc::make_mut(link) {
+                    top.turn_right();
+                }
+            }
+        }
+        self.turn_left();
+    }
+
+    /// Balances the trees below, of which one has an entry more or less than before.
+    fn balance(&mut self)
+        ensures { node_entries self.new ≡ node_entries self.old }
+    {
+        let (left, right) = (size(&self.left), size(&self.right));
+        if left > right.saturating_mul(3).saturating_add(2) {
+            self.lighten_left();
+        } else if right > left.saturating_mul(3).saturating_add(2) {
+            self.lighten_right();
+        }
+        self.count();
+    }
+}
+
+/// Puts a value at a key. A refused call leaves the entries as they were.
+#[cycle(put)]
+pub(crate) fn put<K: Ord + Copy, V: Share, A: Allocator + Copy>(
+    link: &mut Link<K, V, A>,
+    alloc: A,
+    key: K,
+    value: V,
+) -> Result<(), Memory>
+    ensures ok { OnOk result (Ascends K.cmp (link_entries link.old) → link_entries link.new
+        ≡ entry_put K.cmp (link_entries link.old) key value) }
+    ensures err { OnErr result (link_entries link.new ≡ link_entries link.old) }
 {
     match link {
-        Some(node) if node.height > height(other) => Some(node),
-        _ => None,
-    }
-}
-
-/// The tree of two trees and an entry between them, of which the left one, with that top, is too high.
-fn turn_right<K: Copy, V: Share, A: Allocator + Copy>(
-    alloc: A,
-    top: &Node<K, V, A>,
-    key: K,
-    value: V,
-    right: Link<K, V, A>,
-) -> Result<Link<K, V, A>, Memory>
-    ensures { IfOk result
-        (λ link. link_entries link ≡ node_entries top.now ++ (key, value) ∷ link_entries right) }
-{
-    let left = share_link(&top.left)?;
-    match higher(&top.right, &top.left) {
         None => {
-            let below = join(alloc, share_link(&top.right)?, key, value, right)?;
-            join(alloc, left, top.key, top.value.share()?, below)
+            let node = Node {
+                left: None,
+                key,
+                value,
+                right: None,
+                size: 1,
+            };
+            *link = Some(Arc::new(alloc, node)?);
+            Ok(())
         }
-        Some(middle) => {
-            let before = join(
-                alloc,
-                left,
-                top.key,
-                top.value.share()?,
-                share_link(&middle.left)?,
-            )?;
-            let after = join(alloc, share_link(&middle.right)?, key, value, right)?;
-            join(alloc, before, middle.key, middle.value.share()?, after)
-        }
+        Some(node) => put_below(Arc::make_mut(node)?, alloc, key, value),
     }
 }
 
-/// The same, where the right one is too high.
-fn turn_left<K: Copy, V: Share, A: Allocator + Copy>(
+#[cycle(put)]
+fn put_below<K: Ord + Copy, V: Share, A: Allocator + Copy>(
+    node: &mut Node<K, V, A>,
     alloc: A,
-    left: Link<K, V, A>,
     key: K,
     value: V,
-    top: &Node<K, V, A>,
-) -> Result<Link<K, V, A>, Memory>
-    ensures { IfOk result
-        (λ link. link_entries link ≡ link_entries left ++ (key, value) ∷ node_entries top.now) }
+) -> Result<(), Memory>
+    ensures ok { OnOk result (Ascends K.cmp (node_entries node.old) → node_entries node.new
+        ≡ entry_put K.cmp (node_entries node.old) key value) }
+    ensures err { OnErr result (node_entries node.new ≡ node_entries node.old) }
 {
-    let right = share_link(&top.right)?;
-    match higher(&top.left, &top.right) {
-        None => {
-            let below = join(alloc, left, key, value, share_link(&top.left)?)?;
-            join(alloc, below, top.key, top.value.share()?, right)
-        }
-        Some(middle) => {
-            let before = join(alloc, left, key, value, share_link(&middle.left)?)?;
-            let after = join(
-                alloc,
-                share_link(&middle.right)?,
-                top.key,
-                top.value.share()?,
-                right,
-            )?;
-            join(alloc, before, middle.key, middle.value.share()?, after)
-        }
-    }
-}
-
-/// The tree of two trees and an entry between them, which may differ in height by two.
-pub(crate) fn balance<K: Copy, V: Share, A: Allocator + Copy>(
-    alloc: A,
-    left: Link<K, V, A>,
-    key: K,
-    value: V,
-    right: Link<K, V, A>,
-) -> Result<Link<K, V, A>, Memory>
-    ensures { IfOk result
-        (λ link. link_entries link ≡ link_entries left ++ (key, value) ∷ link_entries right) }
-{
-    match (&left, &right) {
-        (Some(top), _) if top.height > height(&right).saturating_add(1) => {
-            turn_right(alloc, top, key, value, right)
-        }
-        (_, Some(top)) if top.height > height(&left).saturating_add(1) => {
-            turn_left(alloc, left, key, value, top)
-        }
-        _ => join(alloc, left, key, value, right),
-    }
-}
-
-/// The tree with a value at a key.
-pub(crate) fn inserted<K: Ord + Copy, V: Share, A: Allocator + Copy>(
-    alloc: A,
-    link: &Link<K, V, A>,
-    key: K,
-    value: V,
-) -> Result<Link<K, V, A>, Memory>
-    ensures { IfOk result
-        (λ new. Ascends K.cmp (link_entries link.now) → link_entries new
-        ≡ entry_put K.cmp (link_entries link.now) key value) }
-{
-    let node: &Node<K, V, A> = match link {
-        None => return join(alloc, None, key, value, None),
-        Some(node) => node,
-    };
-    match key.cmp(&node.key) {
-        Ordering::Less => {
-            let left = inserted(alloc, &node.left, key, value)?;
-            let right = share_link(&node.right)?;
-            balance(alloc, left, node.key, node.value.share()?, right)
-        }
+    let answer = match key.cmp(&node.key) {
+        Ordering::Less => put(&mut node.left, alloc, key, value),
         Ordering::Equal => {
-            let right = share_link(&node.right)?;
-            join(alloc, share_link(&node.left)?, node.key, value, right)
+            node.value = value;
+            Ok(())
         }
-        Ordering::Greater => {
-            let left = share_link(&node.left)?;
-            let right = inserted(alloc, &node.right, key, value)?;
-            balance(alloc, left, node.key, node.value.share()?, right)
-        }
-    }
-}
-
-/// The tree without a key.
-pub(crate) fn removed<K: Ord + Copy, V: Share, A: Allocator + Copy>(
-    alloc: A,
-    link: &Link<K, V, A>,
-    key: K,
-) -> Result<Link<K, V, A>, Memory>
-    ensures { IfOk result
-        (λ new. Ascends K.cmp (link_entries link.now) → link_entries new
-        ≡ entry_removed K.cmp (link_entries link.now) key) }
-{
-    let node: &Node<K, V, A> = match link {
-        None => return Ok(None),
-        Some(node) => node,
+        Ordering::Greater => put(&mut node.right, alloc, key, value),
     };
-    match key.cmp(&node.key) {
-        Ordering::Less => {
-            let left = removed(alloc, &node.left, key)?;
-            let right = share_link(&node.right)?;
-            balance(alloc, left, node.key, node.value.share()?, right)
-        }
-        Ordering::Equal => merged(alloc, &node.left, &node.right),
-        Ordering::Greater => {
-            let left = share_link(&node.left)?;
-            let right = removed(alloc, &node.right, key)?;
-            balance(alloc, left, node.key, node.value.share()?, right)
-        }
-    }
+    node.balance();
+    answer
 }
 
-/// The tree of two trees, of which the second has the greater keys.
-fn merged<K: Copy, V: Share, A: Allocator + Copy>(
-    alloc: A,
-    left: &Link<K, V, A>,
-    right: &Link<K, V, A>,
-) -> Result<Link<K, V, A>, Memory>
-    ensures { IfOk result
-        (λ link. link_entries link ≡ link_entries left.now ++ link_entries right.now) }
-{
-    match right {
-        None => share_link(left),
-        Some(right) => {
-            let first = first_taken(alloc, right)?;
-            balance(
-                alloc,
-                share_link(left)?,
-                first.key,
-                first.value,
-                first.others,
-            )
-        }
-    }
-}
-
-/// The least entry of a tree, and the tree without it.
+/// What stands in the place of a node out of which an entry was taken.
 #[derive(Drop)]
-struct First<K: Copy, V: Drop, A: Allocator> {
+enum Left<K: Drop, V: Drop, A: Allocator> {
+    /// The node, changed.
+    Node,
+    /// Another tree.
+    Tree(Link<K, V, A>),
+}
+
+/// Takes out a key. A refused call leaves the entries as they were.
+#[cycle(take_out)]
+pub(crate) fn take_out<K: Ord + Copy, V: Share, A: Allocator + Copy>(
+    link: &mut Link<K, V, A>,
+    key: &K,
+) -> Result<(), Memory>
+    ensures ok { OnOk result (Ascends K.cmp (link_entries link.old) → link_entries link.new
+        ≡ entry_removed K.cmp (link_entries link.old) key.now) }
+    ensures err { OnErr result (link_entries link.new ≡ link_entries link.old) }
+{
+    match link {
+        None => Ok(()),
+        Some(node) => {
+            if let Left::Tree(tree) = take_below(Arc::make_mut(node)?, key)? {
+                *link = tree;
+            }
+            Ok(())
+        }
+    }
+}
+
+#[cycle(take_out)]
+fn take_below<K: Ord + Copy, V: Share, A: Allocator + Copy>(
+    node: &mut Node<K, V, A>,
+    key: &K,
+) -> Result<Left<K, V, A>, Memory>
+    ensures ok { IfOk result (λ rest. Ascends K.cmp (node_entries node.old) → left_entries rest node.new
+        ≡ entry_removed K.cmp (node_entries node.old) key.now) }
+    ensures err { OnErr result (node_entries node.new ≡ node_entries node.old) }
+{
+    let answer = match key.cmp(&node.key) {
+        Ordering::Less => take_out(&mut node.left, key),
+        Ordering::Equal => return take_top(node),
+        Ordering::Greater => take_out(&mut node.right, key),
+    };
+    node.balance();
+    answer?;
+    Ok(Left::Node)
+}
+
+/// Takes out the entry of the node.
+fn take_top<K: Copy, V: Share, A: Allocator + Copy>(
+    node: &mut Node<K, V, A>,
+) -> Result<Left<K, V, A>, Memory>
+    ensures ok { IfOk result (λ rest. left_entries rest node.new ≡ entries_below node.old) }
+    ensures err { OnErr result (node_entries node.new ≡ node_entries node.old) }
+{
+    match take_first(&mut node.right)? {
+        None => Ok(Left::Tree(mem::replace(&mut node.left, None))),
+        Some(first) => {
+            node.set(first.key, first.value);
+            node.balance();
+            Ok(Left::Node)
+        }
+    }
+}
+
+/// An entry that was taken out.
+#[derive(Drop)]
+struct Taken<K: Copy, V: Drop> {
     key: K,
     value: V,
-    others: Link<K, V, A>,
 }
 
-fn first_taken<K: Copy, V: Share, A: Allocator + Copy>(
-    alloc: A,
-    node: &Node<K, V, A>,
-) -> Result<First<K, V, A>, Memory>
-    ensures { IfOk result
-        (λ first. node_entries node.now ≡ (first.key, first.value) ∷ link_entries first.others) }
+/// Takes out the least entry. A refused call leaves the entries as they were.
+#[cycle(take_first)]
+fn take_first<K: Copy, V: Share, A: Allocator + Copy>(
+    link: &mut Link<K, V, A>,
+) -> Result<Option<Taken<K, V>>, Memory>
+    ensures ok { IfOk result (λ taken. HasFirst (link_entries link.old) taken (link_entries link.new)) }
+    ensures err { OnErr result (link_entries link.new ≡ link_entries link.old) }
 {
-    match &node.left {
-        None => Ok(First {
-            key: node.key,
-            value: node.value.share()?,
-            others: share_link(&node.right)?,
-        }),
-        Some(left) => {
-            let first = first_taken(alloc, left)?;
-            let right = share_link(&node.right)?;
-            let others = balance(alloc, first.others, node.key, node.value.share()?, right)?;
-            Ok(First {
-                key: first.key,
-                value: first.value,
-                others,
-            })
+    match link {
+        None => Ok(None),
+        Some(node) => {
+            let (first, left) = take_first_below(Arc::make_mut(node)?)?;
+            if let Left::Tree(tree) = left {
+                *link = tree;
+            }
+            Ok(Some(first))
+        }
+    }
+}
+
+#[cycle(take_first)]
+fn take_first_below<K: Copy, V: Share, A: Allocator + Copy>(
+    node: &mut Node<K, V, A>,
+) -> Result<(Taken<K, V>, Left<K, V, A>), Memory>
+    ensures ok { IfOk result
+        (λ r. node_entries node.old ≡ (r.0.key, r.0.value) ∷ left_entries r.1 node.new) }
+    ensures err { OnErr result (node_entries node.new ≡ node_entries node.old) }
+{
+    match take_first(&mut node.left)? {
+        Some(first) => {
+            node.balance();
+            Ok((first, Left::Node))
+        }
+        None => {
+            let first = Taken {
+                key: node.key,
+                value: node.value.share()?,
+            };
+            Ok((first, Left::Tree(mem::replace(&mut node.right, None))))
         }
     }
 }

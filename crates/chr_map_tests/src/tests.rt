@@ -11,7 +11,7 @@ fn numbers<A: Allocator + Copy>(alloc: A, count: u64, step: u64) -> Result<Numbe
     let mut map = Map::new(alloc);
     let mut key: u64 = 0;
     for _ in 0..count {
-        map = map.with(key, Pointer::new(alloc, key.wrapping_mul(10))?)?;
+        map.put(key, Pointer::new(alloc, key.wrapping_mul(10))?)?;
         key = key.wrapping_add(step) % count.max(1);
     }
     Ok(map)
@@ -48,10 +48,13 @@ fn put_and_taken_out(rt: HostRuntime) -> Result<(), Fail> {
     let map = numbers(alloc, 7, 3)?;
     assert_eq!(&rt; value(&map, 6), Some(60));
     assert_eq!(&rt; value(&map, 7), None);
-    let other = map.with(6, Pointer::new(alloc, 1)?)?.without(3)?;
+    let mut other = map.share()?;
+    other.put(6, Pointer::new(alloc, 1)?)?;
+    other.take_out(&3)?;
+    other.take_out(&9)?;
     assert_eq!(&rt; (value(&other, 6), value(&other, 3)), (Some(1), None));
     assert_eq!(&rt; (value(&map, 6), value(&map, 3)), (Some(60), Some(30)));
-    assert_eq!(&rt; value(&other.without(9)?, 5), Some(50));
+    assert_eq!(&rt; value(&other, 5), Some(50));
     Ok(())
 }
 
@@ -71,42 +74,43 @@ fn walked_in_order(rt: HostRuntime) -> Result<(), Fail> {
     Ok(())
 }
 
-/// However the keys come and go, the longest way down has at most 1.44 times the logarithm of their number.
+/// However the keys come and go, the longest way down stays within twice the logarithm of their number.
 #[test]
 fn stays_balanced(rt: HostRuntime) -> Result<(), Fail> {
     let alloc = rt.alloc();
     for step in [1, 9_999, 7, 4_001] {
         let mut map = numbers(alloc, 10_000, step)?;
         let mut keys = Vec::new(alloc);
-        assert!(&rt; collect(&map.entries(), 64, &mut keys)? <= 19);
+        assert!(&rt; collect(&map.entries(), 64, &mut keys)? <= 27);
         assert_eq!(&rt; keys.len(), 10_000);
         for key in 0..9_000 {
-            map = map.without(key)?;
+            map.take_out(&key)?;
         }
         keys.clear();
-        assert!(&rt; collect(&map.entries(), 64, &mut keys)? <= 14);
+        assert!(&rt; collect(&map.entries(), 64, &mut keys)? <= 20);
         assert_eq!(&rt; keys.len(), 1_000);
     }
     Ok(())
 }
 
-/// Whether a change goes through with so many growths. A refused one leaves the map as it was.
-fn is_changed(meter: &Refusing<Global>, rt: &impl Abort, left: u64) -> Result<bool, Memory> {
+/// Whether two changes go through with so many growths, behind a map that is kept. A refused one leaves the map as it was, and the kept one
+/// sees neither.
+fn are_changed(meter: &Refusing<Global>, rt: &impl Abort, left: u64) -> Result<bool, Memory> {
     meter.allow(1_000_000);
-    let map = numbers(meter, 20, 7)?;
+    let kept = numbers(meter, 20, 7)?;
+    let mut map = kept.share()?;
     meter.allow(left);
-    let answer = map.without(11);
-    let is_refused = answer.is_err();
-    assert_eq!(rt; meter.asked() > left, is_refused, "{left}");
-    meter.allow(1_000_000);
-    assert_eq!(rt; value(&map, 11), Some(110));
-    match answer {
-        Ok(other) => {
-            assert_eq!(rt; value(&other, 11), None);
-            Ok(true)
-        }
-        Err(_) => Ok(false),
-    }
+    let is_taken = map.take_out(&11).is_ok();
+    let is_put = match Pointer::new(meter, 1) {
+        Ok(one) => map.put(30, one).is_ok(),
+        Err(_) => false,
+    };
+    let are_all = is_taken && is_put;
+    assert!(rt; are_all || meter.asked() > left, "{left}");
+    assert_eq!(rt; value(&map, 11), if is_taken { None } else { Some(110) });
+    assert_eq!(rt; value(&map, 30), if is_put { Some(1) } else { None });
+    assert_eq!(rt; (value(&kept, 11), value(&kept, 30)), (Some(110), None));
+    Ok(are_all)
 }
 
 #[test]
@@ -114,7 +118,7 @@ fn refused(rt: HostRuntime) -> Result<(), Fail> {
     let meter = Refusing::new(rt.alloc(), 0);
     let mut refused = 0;
     for left in 0..60 {
-        if is_changed(&meter, &rt, left)? {
+        if are_changed(&meter, &rt, left)? {
             break;
         }
         refused = left + 1;

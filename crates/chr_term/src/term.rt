@@ -6,7 +6,7 @@ use crate::Memory;
 use std::alloc::{Allocator, Global};
 
 /// A symbol: a name with a number of arguments, by its number among the `Names`.
-#[derive(Clone, Copy, PartialEq, Eq, Hash, Debug, Drop)]
+#[derive(Clone, Copy, PartialEq, Eq, PartialOrd, Ord, Hash, Debug, Drop)]
 pub struct Sym(pub u32);
 
 impl Sym {

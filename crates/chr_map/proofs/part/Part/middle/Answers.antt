@@ -2,7 +2,7 @@ use Rattle.std.proofs.Common.{◌∙◌, ap, sym, subst, refl}
 use Rattle.chr_map.specs.Entries.{link_entries, node_entries}
 use Rattle.chr_map.specs.Order.{Ascends}
 use Rattle.chr_map.proofs.Ordered.{ascends_before, ascends_from}
-use Rattle.chr_map.proofs.Turns.{node_is}
+use Rattle.chr_map.proofs.Parts.{node_is}
 use Rattle.chr_map.proofs.part.Part.middle.Goals as goal
 
 pub new-requires : goal.new-requires
