@@ -100,7 +100,7 @@ fn fit_term<'t, A: Allocator>(
             Term::Var(_) | Term::Node(_, _) => false,
         },
         Term::Node(sym, patterns) => match term {
-            Term::Node(other, terms) => sym.0 == other.0
+            Term::Node(other, terms) => sym == other
                 && fit_all(patterns.as_slice(), terms.as_slice(), slots),
             Term::Var(_) | Term::Int(_) => false,
         },

@@ -85,8 +85,12 @@ fn compare<'t, A: Allocator>(
         (Root::Free(end, name), _) => to_bind(end, name, right),
         (_, Root::Free(end, name)) => to_bind(end, name, left),
         (Root::Int(x), Root::Int(y)) if x == y => RootComparison::Same,
-        (Root::Node(f, lefts), Root::Node(g, rights)) if f.0 == g.0 => {
-            RootComparison::Arguments(lefts, rights)
+        (Root::Node(f, lefts), Root::Node(g, rights)) => {
+            if f == g {
+                RootComparison::Arguments(lefts, rights)
+            } else {
+                RootComparison::Clash
+            }
         }
         _ => RootComparison::Clash,
     }

@@ -1,7 +1,7 @@
 use chr_bind::*;
 use chr_semantics::limits::MAX_RULE_VARIABLES;
 use chr_term::{Sym, Term, same};
-use refusing_alloc::Refusing;
+use refusing_alloc::{Refusing, refused_in_turn};
 use std::alloc::{Allocator, Global};
 use std::process::Abort;
 use std::test::Fail;
@@ -436,8 +436,7 @@ fn is_as_bound<A: Allocator + Copy>(
 #[test]
 fn unify_refused(rt: HostRuntime) -> Result<(), Fail> {
     let meter = Refusing::new(rt.alloc(), 0);
-    let mut refused = 0;
-    for left in 0..100u64 {
+    let refused = refused_in_turn(100, |left| -> Result<bool, Memory> {
         meter.allow(1000);
         let mut bindings = bound(&meter, &rt)?;
         let first = node(&meter, F, [Term::Var(0), Term::Var(2), Term::Var(4)])?;
@@ -447,16 +446,16 @@ fn unify_refused(rt: HostRuntime) -> Result<(), Fail> {
         let answer = unify(&rt, &mut bindings, &first, &second);
         assert_eq!(&rt; answer.is_err(), meter.asked() > left, "{left}");
         meter.allow(1000);
-        if answer.is_ok() {
-            assert_eq!(&rt; answer, Ok(Unified::Bound));
-            resolves(&rt, &bindings, &Term::Var(3), &Term::Int(7))?;
-            break;
+        match answer {
+            Ok(unified) => assert_eq!(&rt; unified, Unified::Bound),
+            Err(Memory) => {
+                is_as_bound(&meter, &rt, &bindings)?;
+                assert_eq!(&rt; unify(&rt, &mut bindings, &first, &second)?, Unified::Bound);
+            }
         }
-        is_as_bound(&meter, &rt, &bindings)?;
-        assert_eq!(&rt; unify(&rt, &mut bindings, &first, &second)?, Unified::Bound);
         resolves(&rt, &bindings, &Term::Var(3), &Term::Int(7))?;
-        refused = left + 1;
-    }
+        Ok(answer.is_ok())
+    })?;
     assert!(&rt; refused > 3 && refused < 100, "{refused}");
     Ok(())
 }
@@ -464,23 +463,19 @@ fn unify_refused(rt: HostRuntime) -> Result<(), Fail> {
 #[test]
 fn resolve_refused(rt: HostRuntime) -> Result<(), Fail> {
     let meter = Refusing::new(rt.alloc(), 0);
-    meter.allow(1000);
-    let bindings = bound(&meter, &rt)?;
-    let term = node(&meter, F, [Term::Var(0), Term::Var(3)])?;
-    let wanted = node(&meter, F, [node(&meter, F, [Term::Var(1)])?, Term::Var(2)])?;
-    let mut refused = 0;
-    for left in 0..100u64 {
+    let refused = refused_in_turn(100, |left| -> Result<bool, Memory> {
+        meter.allow(1000);
+        let bindings = bound(&meter, &rt)?;
+        let term = node(&meter, F, [Term::Var(0), Term::Var(3)])?;
+        let wanted = node(&meter, F, [node(&meter, F, [Term::Var(1)])?, Term::Var(2)])?;
         meter.allow(left);
-        let is_refused = bindings.resolve(&term).is_err();
-        assert_eq!(&rt; is_refused, meter.asked() > left, "{left}");
+        let is_resolved = bindings.resolve(&term).is_ok();
+        assert_eq!(&rt; is_resolved, meter.asked() <= left, "{left}");
         meter.allow(1000);
         is_as_bound(&meter, &rt, &bindings)?;
         resolves(&rt, &bindings, &term, &wanted)?;
-        if !is_refused {
-            break;
-        }
-        refused = left + 1;
-    }
+        Ok(is_resolved)
+    })?;
     assert_eq!(&rt; refused, 2);
     Ok(())
 }
@@ -510,16 +505,15 @@ fn room_and_fresh_refused(rt: HostRuntime) -> Result<(), Fail> {
 #[test]
 fn guard_refused(rt: HostRuntime) -> Result<(), Fail> {
     let meter = Refusing::new(rt.alloc(), 0);
-    meter.allow(1000);
-    let terms = guarded(&meter)?;
-    let matching = matched(&rt, &meter, &terms)?;
-    let test = Test::NotUnifiable(
-        one(&meter, F, one(&meter, F, Term::Var(2))?)?,
-        one(&meter, F, one(&meter, F, Term::Var(0))?)?,
-    );
-    let guard = Vec::from_array(&meter, [test])?;
-    let mut refused = 0;
-    for left in 0..100u64 {
+    let refused = refused_in_turn(100, |left| -> Result<bool, Fail> {
+        meter.allow(1000);
+        let terms = guarded(&meter)?;
+        let matching = matched(&rt, &meter, &terms)?;
+        let test = Test::NotUnifiable(
+            one(&meter, F, one(&meter, F, Term::Var(2))?)?,
+            one(&meter, F, one(&meter, F, Term::Var(0))?)?,
+        );
+        let guard = Vec::from_array(&meter, [test])?;
         meter.allow(left);
         let answer = guard_holds(&meter, &guard, &matching);
         assert_eq!(&rt; answer.is_err(), meter.asked() > left, "{left}");
@@ -531,13 +525,10 @@ fn guard_refused(rt: HostRuntime) -> Result<(), Fail> {
                     .is_some_and(|matched| same(matched, term))
             );
         }
-        if answer.is_ok() {
-            assert_eq!(&rt; answer, Ok(true));
-            break;
-        }
+        assert_ne!(&rt; answer, Ok(false));
         assert!(&rt; guard_holds(&meter, &guard, &matching)?);
-        refused = left + 1;
-    }
+        Ok(answer.is_ok())
+    })?;
     assert!(&rt; refused > 3 && refused < 100, "{refused}");
     Ok(())
 }

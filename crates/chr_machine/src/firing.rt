@@ -49,7 +49,7 @@ impl<'p, A: Allocator + Copy> Execution<'p, A> {
             return false;
         };
         let (sym, args) = &rule.heads[0];
-        sym.0 == row.sym.0 && same_all(args.as_slice(), row.args.as_slice())
+        *sym == row.sym && same_all(args.as_slice(), row.args.as_slice())
     }
 
     /// Simplify by a rule whose one head fits the constraint.

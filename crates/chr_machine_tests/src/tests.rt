@@ -1,7 +1,7 @@
 use chr_machine::*;
-use chr_read::{read_program, read_query};
 use chr_rules::{Goal, Program, Query};
 use chr_term::{Memory, Sym, Term, VarNames};
+use chr_texts::{both_of, program_of};
 use std::alloc::Allocator;
 use std::process::Abort;
 use std::test::Fail;
@@ -26,43 +26,6 @@ fn one<A: Allocator + Copy>(alloc: A, only: Term<A>) -> Result<Vec<Term<A>, A>, 
     let mut args = Vec::new(alloc);
     args.push(only)?;
     Ok(args)
-}
-
-fn program_of<A: Allocator + Copy>(alloc: A, rt: &impl Abort, text: &str) -> Program<A> {
-    match read_program(alloc, text.as_bytes()) {
-        Ok(syntax) => match Program::build(alloc, syntax) {
-            Ok(program) => program,
-            Err(error) => panic!(rt; "{error}"),
-        },
-        Err(error) => panic!(rt; "{error}"),
-    }
-}
-
-fn query_of<A: Allocator + Copy>(
-    alloc: A,
-    rt: &impl Abort,
-    program: &mut Program<A>,
-    text: &str,
-) -> Query<A> {
-    match read_query(alloc, text.as_bytes()) {
-        Ok(syntax) => match program.goals_of_query(syntax) {
-            Ok(query) => query,
-            Err(error) => panic!(rt; "{error}"),
-        },
-        Err(error) => panic!(rt; "{error}"),
-    }
-}
-
-/// A program and a query of these texts.
-fn both_of<A: Allocator + Copy>(
-    alloc: A,
-    rt: &impl Abort,
-    program: &str,
-    query: &str,
-) -> (Program<A>, Query<A>) {
-    let mut program = program_of(alloc, rt, program);
-    let query = query_of(alloc, rt, &mut program, query);
-    (program, query)
 }
 
 fn started<'p, A: Allocator + Copy>(
@@ -158,7 +121,7 @@ fn assert_ground_end<A: Allocator>(rt: &impl Abort, machine: &Machine<A>) {
 
 #[test]
 fn machine_calls(rt: HostRuntime) -> Result<(), Fail> {
-    let (program, query) = both_of(rt.alloc(), &rt, GROUND_PROGRAM, GROUND_QUERY);
+    let (program, query) = both_of(rt.alloc(), GROUND_PROGRAM, GROUND_QUERY)?;
     let mut machine = started(rt.alloc(), &rt, &program, query)?;
     assert_eq!(&rt; step(&mut machine)?, Stepped::Moved);
     assert_eq!(&rt; run_alone(&mut machine, 100)?, Stepped::Ended);
@@ -193,7 +156,7 @@ fn assert_million<A: Allocator>(rt: &impl Abort, machine: &Machine<A>) {
 
 #[test]
 fn a_million_transitions(rt: HostRuntime) -> Result<(), Fail> {
-    let program = program_of(rt.alloc(), &rt, NO_RULES);
+    let program = program_of(rt.alloc(), NO_RULES)?;
     let mut machine = started(rt.alloc(), &rt, &program, many(rt.alloc(), 524_288)?)?;
     assert_eq!(&rt; run_alone(&mut machine, 1_048_576)?, Stepped::Spent);
     assert_million(&rt, &machine);
@@ -205,7 +168,7 @@ fn a_million_transitions(rt: HostRuntime) -> Result<(), Fail> {
 
 #[test]
 fn nothing_to_do(rt: HostRuntime) -> Result<(), Fail> {
-    let (program, query) = both_of(rt.alloc(), &rt, "", "true.");
+    let (program, query) = both_of(rt.alloc(), "", "true.")?;
     let mut machine = started(rt.alloc(), &rt, &program, query)?;
     assert_stands(&rt, &machine, Status::Done, 0);
     assert_eq!(&rt; step(&mut machine)?, Stepped::Ended);
@@ -217,7 +180,7 @@ fn nothing_to_do(rt: HostRuntime) -> Result<(), Fail> {
 
 #[test]
 fn no_budget(rt: HostRuntime) -> Result<(), Fail> {
-    let (program, query) = both_of(rt.alloc(), &rt, NO_RULES, "p(1).");
+    let (program, query) = both_of(rt.alloc(), NO_RULES, "p(1).")?;
     let mut machine = started(rt.alloc(), &rt, &program, query)?;
     assert_eq!(&rt; run_alone(&mut machine, 0)?, Stepped::Moved);
     assert_stands(&rt, &machine, Status::Running, 0);

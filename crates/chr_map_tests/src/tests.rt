@@ -1,5 +1,5 @@
 use chr_map::*;
-use refusing_alloc::Refusing;
+use refusing_alloc::{Refusing, refused_in_turn};
 use std::alloc::{Allocator, Global};
 use std::process::Abort;
 use std::test::Fail;
@@ -116,13 +116,7 @@ fn are_changed(meter: &Refusing<Global>, rt: &impl Abort, left: u64) -> Result<b
 #[test]
 fn refused(rt: HostRuntime) -> Result<(), Fail> {
     let meter = Refusing::new(rt.alloc(), 0);
-    let mut refused = 0;
-    for left in 0..60 {
-        if are_changed(&meter, &rt, left)? {
-            break;
-        }
-        refused = left + 1;
-    }
+    let refused = refused_in_turn(60, |left| are_changed(&meter, &rt, left))?;
     assert!(&rt; refused > 0 && refused < 60, "{refused}");
     Ok(())
 }

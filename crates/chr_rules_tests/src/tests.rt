@@ -1,7 +1,8 @@
 use chr_read::{read_program, read_query};
 use chr_rules::*;
 use chr_term::Memory;
-use refusing_alloc::Refusing;
+use chr_texts::{both_of, program_of, query_of};
+use refusing_alloc::{Refusing, refused_in_turn};
 use shown::{shown_goals, shown_rules};
 use std::alloc::{Allocator, Global};
 use std::process::Abort;
@@ -16,52 +17,19 @@ mod printing;
 mod shown;
 mod sizes;
 
-/// A program of a text, or the error as a text.
-fn built<A: Allocator + Copy>(
-    alloc: Global,
-    own: A,
-    text: &[u8],
-) -> Result<Result<Program<A>, String>, Memory> {
-    let syntax = match read_program(own, text) {
-        Ok(syntax) => syntax,
-        Err(error) => return Ok(Err(format!(in alloc; "{error}")?)),
-    };
-    match Program::build(own, syntax) {
-        Ok(program) => Ok(Ok(program)),
-        Err(error) => Ok(Err(format!(in alloc; "{error}")?)),
-    }
-}
-
-/// A query of a text over a program, or the error as a text.
-fn asked<A: Allocator + Copy>(
-    alloc: Global,
-    own: A,
-    program: &mut Program<A>,
-    text: &[u8],
-) -> Result<Result<Query<A>, String>, Memory> {
-    let syntax = match read_query(own, text) {
-        Ok(syntax) => syntax,
-        Err(error) => return Ok(Err(format!(in alloc; "{error}")?)),
-    };
-    match program.goals_of_query(syntax) {
-        Ok(query) => Ok(Ok(query)),
-        Err(error) => Ok(Err(format!(in alloc; "{error}")?)),
-    }
-}
-
 /// What a text is as a program.
-fn program(alloc: Global, text: &[u8]) -> Result<String, Memory> {
-    match built(alloc, alloc, text)? {
+fn program(alloc: Global, text: &str) -> Result<String, Memory> {
+    match program_of(alloc, text) {
         Ok(program) => shown_rules(alloc, alloc, &program),
-        Err(error) => Ok(error),
+        Err(mistake) => Ok(format!(in alloc; "{mistake}")?),
     }
 }
 
 /// What a text is as a query over a program.
-fn query(alloc: Global, program: &mut Program, text: &[u8]) -> Result<String, Memory> {
-    match asked(alloc, alloc, program, text)? {
+fn query(alloc: Global, program: &mut Program, text: &str) -> Result<String, Memory> {
+    match query_of(alloc, program, text) {
         Ok(query) => shown_goals(alloc, program.names(), &query),
-        Err(error) => Ok(error),
+        Err(mistake) => Ok(format!(in alloc; "{mistake}")?),
     }
 }
 
@@ -74,18 +42,10 @@ fn programs(
 ) -> Result<(), Memory> {
     for (text, wanted) in table {
         let whole = format!(in alloc; "{before}\n{text}")?;
-        let found = program(alloc, whole.as_bytes())?;
+        let found = program(alloc, &whole)?;
         assert_eq!(rt; found.as_str(), *wanted, "{text}");
     }
     Ok(())
-}
-
-/// Whether a program stands for rules, whatever they are.
-fn is_accepted(rt: &impl Abort, alloc: Global, text: &[u8]) -> Result<Program, Memory> {
-    match built(alloc, alloc, text)? {
-        Ok(program) => Ok(program),
-        Err(error) => panic!(rt; "{}", error.as_str()),
-    }
 }
 
 /// Whether each query over the same program is what stands beside it.
@@ -96,7 +56,7 @@ fn queries(
     table: &[(&str, &str)],
 ) -> Result<(), Memory> {
     for (text, wanted) in table {
-        let found = query(alloc, program, text.as_bytes())?;
+        let found = query(alloc, program, text)?;
         assert_eq!(rt; found.as_str(), *wanted, "{text}");
     }
     Ok(())
@@ -146,7 +106,7 @@ fn many_rules(alloc: Global, last: &str) -> Result<String, Memory> {
 
 /// One text as a program.
 fn is_program(rt: &impl Abort, alloc: Global, text: &str, wanted: &str) -> Result<(), Memory> {
-    let found = program(alloc, text.as_bytes())?;
+    let found = program(alloc, text)?;
     assert_eq!(rt; found.as_str(), wanted, "{text}");
     Ok(())
 }

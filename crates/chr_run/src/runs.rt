@@ -142,14 +142,9 @@ fn accepted<A: Allocator + Copy>(
         (query_view t.query)) }
     ensures err { IfErr result (IsTextError program.now query.now) }
 {
-    let mut program = match accepted_program(alloc, program) {
-        Ok(program) => program,
-        Err(error) => return Err(error),
-    };
-    match accepted_query(alloc, &mut program, query) {
-        Ok(query) => Ok(Texts { program, query }),
-        Err(error) => Err(error),
-    }
+    let mut program = accepted_program(alloc, program)?;
+    let query = accepted_query(alloc, &mut program, query)?;
+    Ok(Texts { program, query })
 }
 
 /// Whether the machine performs them today.
@@ -176,10 +171,7 @@ pub fn run_text<A: Allocator + Copy, W: Write>(
     if let Err(error) = check_limits(n, workers) {
         return Err(TextError::Run(error));
     }
-    let texts = match accepted(alloc, program, query) {
-        Ok(texts) => texts,
-        Err(error) => return Err(error),
-    };
+    let texts = accepted(alloc, program, query)?;
     if !is_performed(&texts.program, &texts.query) {
         return Err(TextError::NotYet);
     }

@@ -3,7 +3,7 @@ use chr_read::{ReadError, ReadErrorKind};
 use chr_rules::{RuleError, RuleErrorKind};
 use chr_run::*;
 use chr_term::Memory;
-use refusing_alloc::Refusing;
+use refusing_alloc::{Refusing, refused_in_turn};
 use std::alloc::{Allocator, Global};
 use std::io::{Error, ErrorKind, Read, Write};
 use std::process::Abort;

@@ -1,7 +1,7 @@
 use chr_semantics::limits::MAX_ARITY;
 use chr_term::*;
 use itoa::Buffer;
-use refusing_alloc::Refusing;
+use refusing_alloc::{Refusing, refused_in_turn};
 use std::alloc::{Allocator, Global};
 use std::process::Abort;
 use std::test::Fail;
@@ -218,8 +218,8 @@ fn print_one<A: Allocator, B: Allocator>(
     }
 }
 
-/// Prints after `>`, into memory that may be refused, and says whether it was: then nothing is printed.
-fn is_refused<B: Allocator>(
+/// Prints after `>`, into memory that may be refused, and says whether it was not. Where it was, nothing is printed.
+fn is_printed<B: Allocator>(
     alloc: Global,
     rt: &impl Abort,
     meter: &Refusing<B>,
@@ -232,24 +232,20 @@ fn is_refused<B: Allocator>(
     meter.allow(1);
     text.push(b'>')?;
     meter.allow(left);
-    let refused = print_one(printed.0, &names, &vars, &args, &mut text).is_err();
-    assert_eq!(rt; refused, meter.asked() > left, "{}", printed.1);
-    let wanted = if refused { ">" } else { printed.1 };
+    let is_printed = print_one(printed.0, &names, &vars, &args, &mut text).is_ok();
+    assert_eq!(rt; is_printed, meter.asked() <= left, "{}", printed.1);
+    let wanted = if is_printed { printed.1 } else { ">" };
     assert_eq!(rt; text.as_slice(), wanted.as_bytes(), "{}", printed.1);
-    Ok(refused)
+    Ok(is_printed)
 }
 
 #[test]
 fn printed_or_refused(rt: HostRuntime) -> Result<(), Fail> {
     let meter = Refusing::new(rt.alloc(), 0);
     for printed in PRINTED {
-        let mut refused = 0;
-        for left in 0..20u64 {
-            if !is_refused(rt.alloc(), &rt, &meter, left, printed)? {
-                break;
-            }
-            refused = left + 1;
-        }
+        let refused = refused_in_turn(20, |left| {
+            is_printed(rt.alloc(), &rt, &meter, left, printed)
+        })?;
         assert!(&rt; refused > 0 && refused < 20, "{}", printed.1);
     }
     Ok(())
@@ -327,16 +323,12 @@ fn var_names_calls(rt: HostRuntime) -> Result<(), Fail> {
 #[test]
 fn refused_memory(rt: HostRuntime) -> Result<(), Fail> {
     let meter = Refusing::new(rt.alloc(), 0);
-    let mut refused = 0;
-    for left in 0..500u64 {
+    let refused = refused_in_turn(500, |left| -> Result<bool, Memory> {
         meter.allow(left);
-        let done = all_calls(&meter, &rt).is_some();
-        assert_eq!(&rt; done, meter.asked() <= left, "{left}");
-        if done {
-            break;
-        }
-        refused = left + 1;
-    }
+        let are_done = all_calls(&meter, &rt).is_some();
+        assert_eq!(&rt; are_done, meter.asked() <= left, "{left}");
+        Ok(are_done)
+    })?;
     assert!(&rt; refused > 10 && refused < 500, "{refused}");
     Ok(())
 }

@@ -1,5 +1,5 @@
 use chr_tokens::*;
-use refusing_alloc::Refusing;
+use refusing_alloc::{Refusing, refused_in_turn};
 use std::alloc::Global;
 use std::fmt::Write;
 use std::process::Abort;
@@ -318,21 +318,16 @@ const RULE: &str = "größe @ c(X), d(-12) \\ e <=> X > 3 | f(X mod 2). % g";
 fn refused_in_characters(rt: HostRuntime) -> Result<(), Fail> {
     let memory = Refusing::new(rt.alloc(), 0);
     let text = characters(rt.alloc(), RULE.as_bytes())?;
-    let mut refused = 0;
-    for left in 0..100u64 {
+    let refused = refused_in_turn(100, |left| -> Result<bool, Memory> {
         memory.allow(left);
-        match characters(&memory, RULE.as_bytes()) {
-            Ok(found) => {
-                assert!(&rt; memory.asked() <= left, "{left}");
-                assert_eq!(&rt; found.as_slice(), text.as_slice());
-                break;
-            }
-            Err(unread) => assert_eq!(&rt; unread, Unread::Memory),
+        let answer = characters(&memory, RULE.as_bytes());
+        assert_eq!(&rt; memory.asked() > left, answer.is_err(), "{left}");
+        match &answer {
+            Ok(found) => assert_eq!(&rt; found.as_slice(), text.as_slice()),
+            Err(unread) => assert_eq!(&rt; *unread, Unread::Memory),
         }
-        assert!(&rt; memory.asked() > left, "{left}");
-        assert_eq!(&rt; memory.left(), 0);
-        refused = left + 1;
-    }
+        Ok(answer.is_ok())
+    })?;
     assert!(&rt; refused > 0 && refused < 100, "{refused}");
     Ok(())
 }
@@ -341,21 +336,16 @@ fn refused_in_characters(rt: HostRuntime) -> Result<(), Fail> {
 #[test]
 fn refused_in_tokens(rt: HostRuntime) -> Result<(), Fail> {
     let memory = Refusing::new(rt.alloc(), 0);
-    let text = characters(rt.alloc(), RULE.as_bytes())?;
-    let mut refused = 0;
-    for left in 0..100u64 {
+    let refused = refused_in_turn(100, |left| -> Result<bool, Unread> {
+        let text = characters(rt.alloc(), RULE.as_bytes())?;
         memory.allow(left);
-        match tokens(&memory, &text) {
-            Ok(found) => {
-                assert!(&rt; memory.asked() <= left, "{left}");
-                assert_eq!(&rt; found.len(), 27);
-                break;
-            }
-            Err(Memory) => refused = left + 1,
+        let answer = tokens(&memory, &text);
+        assert_eq!(&rt; memory.asked() > left, answer.is_err(), "{left}");
+        if let Ok(found) = &answer {
+            assert_eq!(&rt; found.len(), 27);
         }
-        assert!(&rt; memory.asked() > left, "{left}");
-        assert_eq!(&rt; memory.left(), 0);
-    }
+        Ok(answer.is_ok())
+    })?;
     assert!(&rt; refused > 3 && refused < 100, "{refused}");
     Ok(())
 }

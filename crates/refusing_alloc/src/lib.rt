@@ -8,12 +8,14 @@
 //!
 //! ```
 //! let memory = Refusing::new(rt.alloc(), 0);
-//! for left in 0..1000 {
+//! let refused = refused_in_turn(1000, |left| {
 //!     memory.allow(left);
-//!     match call(&memory) { Ok(_) => break, Err(AllocError) => {} }
-//! }
+//!     Ok(call(&memory).is_ok())
+//! })?;
 //! ```
 #![tactic(auto)]
+
+ghost use Rattle.std.specs.Prelude.{◌≤◌, IfOk};
 
 use std::alloc::{AllocError, Allocator};
 use std::sync::atomic::{AtomicU64, Ordering};
@@ -85,6 +87,23 @@ unsafe impl<B: Allocator> Allocator for Refusing<B> {
     unsafe fn deallocate(&self, ptr: *mut u8, size: usize, align: usize) {
         self.inner.deallocate(ptr, size, align);
     }
+}
+
+/// Calls `call` with 0, 1, 2, .. up to `most` - 1, until it answers that nothing was refused. How many calls answered that something
+/// was: where that is `most`, all did. An error of `call` ends it at once.
+pub fn refused_in_turn<E, F: FnMut(u64) -> Result<bool, E>>(
+    most: u64,
+    mut call: F,
+) -> Result<u64, E>
+    requires { F.IsAlwaysCallable call }
+    ensures { IfOk result (λ refused. refused ≤ most) }
+{
+    for left in 0..most {
+        if call(left)? {
+            return Ok(left);
+        }
+    }
+    Ok(most)
 }
 
 #[cfg(test)]

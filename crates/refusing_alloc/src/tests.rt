@@ -34,16 +34,15 @@ fn filled_by_two<R: Threads + Wait + Sync>(rt: &R, memory: &Refusing<Global>) ->
 #[test]
 fn refuses_each_in_turn(rt: HostRuntime) -> Result<(), Fail> {
     let memory = Refusing::new(rt.alloc(), 0);
-    let mut refused = 0u64;
-    for left in 0..100u64 {
+    let refused = refused_in_turn(100, |left| -> Result<bool, AllocError> {
         memory.allow(left);
-        match filled(&memory, 1000) {
-            Ok(_) => break,
-            Err(_) => refused = left + 1,
+        let is_filled = filled(&memory, 1000).is_ok();
+        if !is_filled {
+            assert_eq!(rt; memory.left(), 0);
+            assert_eq!(rt; memory.asked(), left.saturating_add(1));
         }
-        assert_eq!(rt; memory.left(), 0);
-        assert_eq!(rt; memory.asked(), refused);
-    }
+        Ok(is_filled)
+    })?;
     assert!(rt; refused > 3 && refused < 30, "{refused}");
     Ok(())
 }

@@ -18,27 +18,25 @@ fn programs_that_are_not_thin(rt: HostRuntime) -> Result<(), Fail> {
     let alloc = rt.alloc();
     for rule in NOT_THIN {
         let text = format!(in alloc; "{GROUND_PROGRAM}{rule}")?;
-        assert!(&rt;
-            !is_thin_program(&program_of(alloc, &rt, text.as_str())),
-            "{rule}"
-        );
+        assert!(&rt; !is_thin_program(&program_of(alloc, &text)?), "{rule}");
     }
-    assert!(&rt; is_thin_program(&program_of(alloc, &rt, GROUND_PROGRAM)));
-    assert!(&rt; is_thin_program(&program_of(alloc, &rt, "")));
+    assert!(&rt; is_thin_program(&program_of(alloc, GROUND_PROGRAM)?));
+    assert!(&rt; is_thin_program(&program_of(alloc, "")?));
     Ok(())
 }
 
 #[test]
-fn queries(rt: HostRuntime) {
+fn queries(rt: HostRuntime) -> Result<(), Fail> {
     for (text, thin) in [
         ("true.", true),
         ("p(1), q(X).", true),
         ("p(1), fail.", false),
         ("p(1), 1 < 2.", false),
     ] {
-        let (_, query) = both_of(rt.alloc(), &rt, NO_RULES, text);
+        let (_, query) = both_of(rt.alloc(), NO_RULES, text)?;
         assert_eq!(&rt; is_thin_query(&query), thin, "{text}");
     }
+    Ok(())
 }
 
 fn add_to(alloc: Global, store: &mut Store, only: Term) -> Result<Id, Memory> {
@@ -126,7 +124,7 @@ fn is_active_first<A: Allocator>(stack: &[Elem<A>]) -> bool {
 
 #[test]
 fn the_top_is_last(rt: HostRuntime) -> Result<(), Fail> {
-    let (program, query) = both_of(rt.alloc(), &rt, GROUND_PROGRAM, GROUND_QUERY);
+    let (program, query) = both_of(rt.alloc(), GROUND_PROGRAM, GROUND_QUERY)?;
     let mut machine = started(rt.alloc(), &rt, &program, query)?;
     assert_eq!(&rt; step(&mut machine)?, Stepped::Moved);
     assert!(&rt; is_active_first(machine.stack()));
@@ -136,7 +134,7 @@ fn the_top_is_last(rt: HostRuntime) -> Result<(), Fail> {
 /// The first lines of `waking_order`.
 #[test]
 fn variables_by_name(rt: HostRuntime) -> Result<(), Fail> {
-    let (program, query) = both_of(rt.alloc(), &rt, NO_RULES, "p(X).");
+    let (program, query) = both_of(rt.alloc(), NO_RULES, "p(X).")?;
     let mut machine = started(rt.alloc(), &rt, &program, query)?;
     assert_eq!(&rt; run_alone(&mut machine, 100)?, Stepped::Ended);
     assert_eq!(&rt; machine.var_names().len(), 1);
@@ -155,7 +153,7 @@ const SECOND_LINES: [&str; 3] = [
 
 #[test]
 fn the_second_rule_fires(rt: HostRuntime) -> Result<(), Fail> {
-    let (program, query) = both_of(rt.alloc(), &rt, SECOND_FITS, "p(1).");
+    let (program, query) = both_of(rt.alloc(), SECOND_FITS, "p(1).")?;
     let mut machine = started(rt.alloc(), &rt, &program, query)?;
     assert_eq!(&rt; run_alone(&mut machine, 100)?, Stepped::Ended);
     assert_lines(&rt, &machine, &SECOND_LINES);

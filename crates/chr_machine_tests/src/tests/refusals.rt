@@ -1,6 +1,6 @@
 //! Each growth of a call refused in turn: that the refusal is a growth's, what stands after it, and that the call then goes on.
 use super::*;
-use refusing_alloc::Refusing;
+use refusing_alloc::{Refusing, refused_in_turn};
 use std::alloc::Global;
 
 /// More growths than a call of these tests asks for.
@@ -52,9 +52,9 @@ fn steps_of<A: Allocator>(machine: &Machine<A>) -> usize {
 }
 
 /// Whether `Machine::start` goes through with so many growths.
-fn machine_made(meter: &Refusing<Global>, rt: &impl Abort, left: u64) -> Result<bool, Memory> {
+fn machine_made(meter: &Refusing<Global>, rt: &impl Abort, left: u64) -> Result<bool, Fail> {
     meter.allow(AMPLE);
-    let (program, query) = both_of(meter, rt, GROUND_PROGRAM, GROUND_QUERY);
+    let (program, query) = both_of(meter, GROUND_PROGRAM, GROUND_QUERY)?;
     meter.allow(left);
     let made = started(meter, rt, &program, query);
     assert_refused(meter, rt, left, made.is_err());
@@ -71,13 +71,7 @@ fn machine_made(meter: &Refusing<Global>, rt: &impl Abort, left: u64) -> Result<
 #[test]
 fn start_refused(rt: HostRuntime) -> Result<(), Fail> {
     let meter = Refusing::new(rt.alloc(), 0);
-    let mut refused = 0;
-    for left in 0..MOST {
-        if machine_made(&meter, &rt, left)? {
-            break;
-        }
-        refused = left + 1;
-    }
+    let refused = refused_in_turn(MOST, |left| machine_made(&meter, &rt, left))?;
     assert!(&rt; refused > 0 && refused < MOST, "{refused}");
     Ok(())
 }
@@ -117,24 +111,18 @@ fn step_made(
     rt: &impl Abort,
     done: usize,
     left: u64,
-) -> Result<bool, Memory> {
+) -> Result<bool, Fail> {
     meter.allow(AMPLE);
-    let (program, query) = both_of(meter, rt, GROUND_PROGRAM, GROUND_QUERY);
+    let (program, query) = both_of(meter, GROUND_PROGRAM, GROUND_QUERY)?;
     let mut machine = started(meter, rt, &program, query)?;
-    is_stepped(meter, rt, &mut machine, done, left)
+    Ok(is_stepped(meter, rt, &mut machine, done, left)?)
 }
 
 #[test]
 fn step_refused(rt: HostRuntime) -> Result<(), Fail> {
     let meter = Refusing::new(rt.alloc(), 0);
     for done in 0..7usize {
-        let mut refused = 0;
-        for left in 0..MOST {
-            if step_made(&meter, &rt, done, left)? {
-                break;
-            }
-            refused = left + 1;
-        }
+        let refused = refused_in_turn(MOST, |left| step_made(&meter, &rt, done, left))?;
         assert!(&rt; refused > 0 && refused < MOST, "{refused} after {done}");
     }
     Ok(())
@@ -158,23 +146,17 @@ fn is_run(
 }
 
 /// The same with a new machine.
-fn run_made(meter: &Refusing<Global>, rt: &impl Abort, left: u64) -> Result<bool, Memory> {
+fn run_made(meter: &Refusing<Global>, rt: &impl Abort, left: u64) -> Result<bool, Fail> {
     meter.allow(AMPLE);
-    let (program, query) = both_of(meter, rt, GROUND_PROGRAM, GROUND_QUERY);
+    let (program, query) = both_of(meter, GROUND_PROGRAM, GROUND_QUERY)?;
     let mut machine = started(meter, rt, &program, query)?;
-    is_run(meter, rt, &mut machine, left)
+    Ok(is_run(meter, rt, &mut machine, left)?)
 }
 
 #[test]
 fn run_alone_refused(rt: HostRuntime) -> Result<(), Fail> {
     let meter = Refusing::new(rt.alloc(), 0);
-    let mut refused = 0;
-    for left in 0..MOST {
-        if run_made(&meter, &rt, left)? {
-            break;
-        }
-        refused = left + 1;
-    }
+    let refused = refused_in_turn(MOST, |left| run_made(&meter, &rt, left))?;
     assert!(&rt; refused > 7 && refused < MOST, "{refused}");
     Ok(())
 }

@@ -1,6 +1,6 @@
 //! Each growth of a list refused.
 use super::*;
-use refusing_alloc::Refusing;
+use refusing_alloc::{Refusing, refused_in_turn};
 
 /// Each production of programs.
 const PROGRAM: &str = ":- module(m, [p/1, q/2]). :- use_module(library(chr)).
@@ -15,21 +15,19 @@ const PROGRAM_SHOWN: &str =
 #[test]
 fn refused_in_a_program(rt: HostRuntime) -> Result<(), Fail> {
     let memory = Refusing::new(rt.alloc(), 0);
-    let mut refused = 0;
-    for left in 0..1000u64 {
+    let refused = refused_in_turn(1000, |left| -> Result<bool, Memory> {
         memory.allow(left);
         let answer = read_program(&memory, PROGRAM.as_bytes());
+        assert_eq!(&rt; memory.asked() > left, answer.is_err(), "{left}");
         let found = shown_program(rt.alloc(), &answer)?;
-        if answer.is_ok() {
-            assert!(&rt; memory.asked() <= left, "{left}");
-            assert_eq!(&rt; found.as_str(), PROGRAM_SHOWN);
-            break;
-        }
-        assert_eq!(&rt; found.as_str(), "0:0: Memory");
-        assert!(&rt; memory.asked() > left, "{left}");
-        assert_eq!(&rt; memory.left(), 0);
-        refused = left + 1;
-    }
+        let wanted = if answer.is_ok() {
+            PROGRAM_SHOWN
+        } else {
+            "0:0: Memory"
+        };
+        assert_eq!(&rt; found.as_str(), wanted);
+        Ok(answer.is_ok())
+    })?;
     assert!(&rt; refused > 50 && refused < 1000, "{refused}");
     Ok(())
 }
@@ -40,21 +38,19 @@ fn refused_in_a_query(rt: HostRuntime) -> Result<(), Fail> {
     let memory = Refusing::new(rt.alloc(), 0);
     let text = b"X = f(a, -1, [b, Y | _], [], [c]), 1 + 2 - 3 * (4 // 5 mod Z) =< W, true.";
     let wanted = "1: X = f(a,-1,[b,Y|_],[],[c]), {1+2-{3*{4//5 mod Z}}} =< W, true";
-    let mut refused = 0;
-    for left in 0..1000u64 {
+    let refused = refused_in_turn(1000, |left| -> Result<bool, Memory> {
         memory.allow(left);
         let answer = read_query(&memory, text);
+        assert_eq!(&rt; memory.asked() > left, answer.is_err(), "{left}");
         let found = shown_query(rt.alloc(), &answer)?;
-        if answer.is_ok() {
-            assert!(&rt; memory.asked() <= left, "{left}");
-            assert_eq!(&rt; found.as_str(), wanted);
-            break;
-        }
-        assert_eq!(&rt; found.as_str(), "0:0: Memory");
-        assert!(&rt; memory.asked() > left, "{left}");
-        assert_eq!(&rt; memory.left(), 0);
-        refused = left + 1;
-    }
+        let wanted = if answer.is_ok() {
+            wanted
+        } else {
+            "0:0: Memory"
+        };
+        assert_eq!(&rt; found.as_str(), wanted);
+        Ok(answer.is_ok())
+    })?;
     assert!(&rt; refused > 20 && refused < 1000, "{refused}");
     Ok(())
 }

@@ -13,24 +13,25 @@ const PARTS_SHOWN: &str =
 /// Each growth of `build` refused in turn, and then what it answers. How many were refused.
 fn refused_builds(rt: &impl Abort, alloc: Global, text: &str, wanted: &str) -> Result<u64, Memory> {
     let memory = Refusing::new(alloc, ENOUGH);
-    for left in 0..10_000u64 {
+    refused_in_turn(10_000, |left| -> Result<bool, Memory> {
         memory.allow(ENOUGH);
         let syntax = read_program(&memory, text.as_bytes()).map_err(|_| Memory)?;
         memory.allow(left);
         let answer = Program::build(&memory, syntax);
-        let refused = is_refused(rt, &memory, left);
+        let is_built = !is_refused(rt, &memory, left);
         memory.allow(ENOUGH);
         let found = match &answer {
             Ok(program) => shown_rules(alloc, &memory, program)?,
             Err(error) => format!(in alloc; "{error}")?,
         };
-        if !refused {
-            assert_eq!(rt; found.as_str(), wanted);
-            return Ok(left);
-        }
-        assert_eq!(rt; found.as_str(), "line 0 rule 0: Memory");
-    }
-    Ok(0)
+        let wanted = if is_built {
+            wanted
+        } else {
+            "line 0 rule 0: Memory"
+        };
+        assert_eq!(rt; found.as_str(), wanted);
+        Ok(is_built)
+    })
 }
 
 #[test]
@@ -60,15 +61,15 @@ const ASKED: &str =
 const ASKED_SHOWN: &str =
     "p(X), q([a,Y|T],f(_3,-1)), X is 1+2*Y, fail, T = [X,Z,new], X =\\= g(new(X)); 5";
 
-/// What `goals_of_query` answers over `PARTS` with so many growths, and with more after a refusal. Whether there was one.
-fn is_query_refused(rt: &impl Abort, alloc: Global, left: u64) -> Result<bool, Memory> {
+/// What `goals_of_query` answers over `PARTS` with so many growths, and with more after a refusal. Whether there was none.
+fn is_query_made(rt: &impl Abort, alloc: Global, left: u64) -> Result<bool, Memory> {
     let memory = Refusing::new(alloc, ENOUGH);
     let syntax = read_program(&memory, PARTS.as_bytes()).map_err(|_| Memory)?;
     let mut program = Program::build(&memory, syntax).map_err(|_| Memory)?;
     let syntax = read_query(&memory, ASKED.as_bytes()).map_err(|_| Memory)?;
     memory.allow(left);
     let answer = program.goals_of_query(syntax);
-    let refused = is_refused(rt, &memory, left);
+    assert_eq!(rt; answer.is_err(), is_refused(rt, &memory, left));
     memory.allow(ENOUGH);
     match &answer {
         Ok(query) => {
@@ -80,60 +81,53 @@ fn is_query_refused(rt: &impl Abort, alloc: Global, left: u64) -> Result<bool, M
             assert_eq!(rt; found.as_str(), "line 0 rule 0: Memory");
         }
     }
-    assert_eq!(rt; answer.is_err(), refused);
     let rules = shown_rules(alloc, &memory, &program)?;
     assert_eq!(rt; rules.as_str(), PARTS_SHOWN);
     let syntax = read_query(&memory, ASKED.as_bytes()).map_err(|_| Memory)?;
     let query = program.goals_of_query(syntax).map_err(|_| Memory)?;
     let found = shown_goals(alloc, program.names(), &query)?;
     assert_eq!(rt; found.as_str(), ASKED_SHOWN);
-    Ok(refused)
+    Ok(answer.is_ok())
 }
 
 #[test]
 fn query_refused(rt: HostRuntime) -> Result<(), Fail> {
-    let mut refused = 0;
-    for left in 0..1000u64 {
-        if !is_query_refused(&rt, rt.alloc(), left)? {
-            break;
-        }
-        refused = left + 1;
-    }
+    let refused = refused_in_turn(1000, |left| is_query_made(&rt, rt.alloc(), left))?;
     assert!(&rt; refused > 20 && refused < 1000, "{refused}");
     Ok(())
 }
 
-#[test]
-fn copy_refused(rt: HostRuntime) -> Result<(), Fail> {
-    let alloc = rt.alloc();
+/// What the copies of `ASKED` over `PARTS` answer with so many growths. Whether all of it was copied.
+fn is_copied(rt: &impl Abort, alloc: Global, left: u64) -> Result<bool, Memory> {
     let memory = Refusing::new(alloc, ENOUGH);
     let syntax = read_program(&memory, PARTS.as_bytes()).map_err(|_| Memory)?;
     let mut program = Program::build(&memory, syntax).map_err(|_| Memory)?;
     let syntax = read_query(&memory, ASKED.as_bytes()).map_err(|_| Memory)?;
     let query = program.goals_of_query(syntax).map_err(|_| Memory)?;
-    let mut refused = 0;
-    for left in 0..1000u64 {
-        memory.allow(left);
-        let goals = copy_goals(&memory, &query.goals);
-        assert_eq!(&rt; goals.is_err(), is_refused(&rt, &memory, left), "{left}");
-        memory.allow(left);
-        let copied = query.copy();
-        assert_eq!(&rt; copied.is_err(), is_refused(&rt, &memory, left), "{left}");
-        memory.allow(ENOUGH);
+    memory.allow(left);
+    let goals = copy_goals(&memory, &query.goals);
+    assert_eq!(rt; goals.is_err(), is_refused(rt, &memory, left), "{left}");
+    memory.allow(left);
+    let copied = query.copy();
+    assert_eq!(rt; copied.is_err(), is_refused(rt, &memory, left), "{left}");
+    memory.allow(ENOUGH);
+    let found = shown_goals(alloc, program.names(), &query)?;
+    assert_eq!(rt; found.as_str(), ASKED_SHOWN);
+    if let (Ok(goals), Ok(var_names)) = (goals, query.var_names.copy()) {
+        let query = Query { goals, var_names };
         let found = shown_goals(alloc, program.names(), &query)?;
-        assert_eq!(&rt; found.as_str(), ASKED_SHOWN);
-        if let (Ok(goals), Ok(var_names)) = (goals, query.var_names.copy()) {
-            let query = Query { goals, var_names };
-            let found = shown_goals(alloc, program.names(), &query)?;
-            assert_eq!(&rt; found.as_str(), ASKED_SHOWN);
-        }
-        if let Ok(copied) = &copied {
-            let found = shown_goals(alloc, program.names(), copied)?;
-            assert_eq!(&rt; found.as_str(), ASKED_SHOWN);
-            break;
-        }
-        refused = left + 1;
+        assert_eq!(rt; found.as_str(), ASKED_SHOWN);
     }
+    if let Ok(copied) = &copied {
+        let found = shown_goals(alloc, program.names(), copied)?;
+        assert_eq!(rt; found.as_str(), ASKED_SHOWN);
+    }
+    Ok(copied.is_ok())
+}
+
+#[test]
+fn copy_refused(rt: HostRuntime) -> Result<(), Fail> {
+    let refused = refused_in_turn(1000, |left| is_copied(&rt, rt.alloc(), left))?;
     assert!(&rt; refused > 10 && refused < 1000, "{refused}");
     Ok(())
 }

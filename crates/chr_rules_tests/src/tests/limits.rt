@@ -7,7 +7,7 @@ fn rule_limits(rt: HostRuntime) -> Result<(), Fail> {
     let text = many_rules(alloc, "p <=> true.\n")?;
     is_program(rt, alloc, &text, "line 1026 rule 1025: TooManyRules")?;
     let text = many_rules(alloc, "")?;
-    assert_eq!(rt; is_accepted(rt, alloc, text.as_bytes())?.rules(), 1024);
+    assert_eq!(rt; program_of(alloc, &text)?.rules(), 1024);
     for (text, wanted) in [
         (":- chr_constraint p/17.", "line 1 rule 0: ArityTooLarge"),
         (":- chr_constraint p/16.", ""),
@@ -26,7 +26,7 @@ fn rule_limits(rt: HostRuntime) -> Result<(), Fail> {
     let text = series(alloc, &start, ("V", 65), "]) <=> true.")?;
     is_program(rt, alloc, &text, "line 2 rule 1: TooManyVariables")?;
     let text = series(alloc, &start, ("V", 64), "]) <=> true.")?;
-    let program = is_accepted(rt, alloc, text.as_bytes())?;
+    let program = program_of(alloc, &text)?;
     assert!(rt; program.rules() == 1);
     assert_eq!(rt; program.rule(0).vars, 64);
     let text = repeated(alloc, &start, ("_,", 64), "_]) <=> true.")?;
@@ -50,7 +50,7 @@ fn wide_terms(rt: HostRuntime) -> Result<(), Fail> {
         let text = series(alloc, &start, ("a", 17), end)?;
         is_program(rt, alloc, &text, "line 2 rule 1: ArityTooLarge")?;
         let text = series(alloc, &start, ("a", 16), end)?;
-        assert_eq!(rt; is_accepted(rt, alloc, text.as_bytes())?.rules(), 1);
+        assert_eq!(rt; program_of(alloc, &text)?.rules(), 1);
     }
     Ok(())
 }

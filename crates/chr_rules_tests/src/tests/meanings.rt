@@ -25,7 +25,7 @@ fn parentheses(rt: HostRuntime) -> Result<(), Fail> {
         ("t(X) <=> (ground(X)).", "line 2 rule 1: GuardOnly"),
     ];
     programs(&rt, rt.alloc(), FIRST, &table)?;
-    let mut program = is_accepted(&rt, rt.alloc(), FIRST.as_bytes())?;
+    let mut program = program_of(rt.alloc(), FIRST)?;
     let table = [
         ("(p), (true), (t((1))).", "p, t(1); 0"),
         ("(X).", "line 1 rule 0: NotAGoal"),
@@ -144,7 +144,7 @@ dup @ p(X) # passive \\ p(X) <=> true. p(_,_), p(X), p(X,X) # passive, p(1) ==> 
         ("g", 1, ""),
     ];
     for (text, rows) in [(GCD, gcd), (dup, table)] {
-        let program = is_accepted(rt, alloc, text.as_bytes())?;
+        let program = program_of(alloc, &text)?;
         for (name, arity, wanted) in rows {
             // A symbol that has no number has no occurrence, and neither has this one.
             let sym = program.names().find(name, *arity).unwrap_or(Sym(u32::MAX));
@@ -158,9 +158,8 @@ dup @ p(X) # passive \\ p(X) <=> true. p(_,_), p(X), p(X,X) # passive, p(1) ==> 
 #[test]
 fn query_calls(rt: HostRuntime) -> Result<(), Fail> {
     let (rt, alloc) = (&rt, rt.alloc());
-    let mut program = is_accepted(rt, alloc, b":- chr_constraint p/1. p(1) <=> p(2).")?;
-    let syntax = read_query(alloc, b"p(1), p(2).").map_err(|_| Memory)?;
-    let asked = program.goals_of_query(syntax).map_err(|_| Memory)?;
+    let mut program = program_of(alloc, ":- chr_constraint p/1. p(1) <=> p(2).")?;
+    let asked = query_of(alloc, &mut program, "p(1), p(2).")?;
     assert!(rt; matches!(asked.goals.as_slice(), [Goal::Chr(_, _), Goal::Chr(_, _)]));
     let copied = asked.copy()?;
     let found = shown_goals(alloc, program.names(), &copied)?;
@@ -190,9 +189,9 @@ fn query_calls(rt: HostRuntime) -> Result<(), Fail> {
 #[test]
 fn query_errors(rt: HostRuntime) -> Result<(), Fail> {
     let (rt, alloc) = (&rt, rt.alloc());
-    let text = b":- chr_constraint p/1. p(f(X)) <=> p(z).";
+    let text = ":- chr_constraint p/1. p(f(X)) <=> p(z).";
     let rules = "#1 @ 0 of p(f(_0)); ; p(z); 1 of 1.";
-    let mut program = is_accepted(rt, alloc, text)?;
+    let mut program = program_of(alloc, text)?;
     let table = [
         ("% one\n/* two\n*/ z.", "line 3 rule 0: Undeclared"),
         ("p(1), p(1,2).", "line 1 rule 0: Undeclared"),

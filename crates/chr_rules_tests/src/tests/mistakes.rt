@@ -211,7 +211,7 @@ fn built_in_by_arity(rt: HostRuntime) -> Result<(), Fail> {
         ("integer <=> p.", "line 2 rule 1: Undeclared"),
     ];
     programs(rt, alloc, FIRST, &undeclared)?;
-    let mut program = is_accepted(rt, alloc, declared.as_bytes())?;
+    let mut program = program_of(alloc, declared)?;
     let table = [(
         "true(1), fail(X), integer, ground(1,2).",
         "true(1), fail(X), integer, ground(1,2); 1",

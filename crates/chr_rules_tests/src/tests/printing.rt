@@ -23,7 +23,7 @@ fn all_goals<A: Allocator + Copy>(
     rt: &impl Abort,
     alloc: Global,
     own: A,
-) -> Result<(Program<A>, Query<A>), Memory> {
+) -> Result<(Program<A>, Query<A>), Fail> {
     let mut text = String::new(alloc);
     for (place, goal) in GOALS.iter().enumerate() {
         if place > 0 {
@@ -32,17 +32,9 @@ fn all_goals<A: Allocator + Copy>(
         text.push_str(goal)?;
     }
     text.push_str(".")?;
-    let mut program = match built(alloc, own, b":- chr_constraint p/1, q/2, r/0.")? {
-        Ok(program) => program,
-        Err(error) => panic!(rt; "{}", error.as_str()),
-    };
-    match asked(alloc, own, &mut program, text.as_bytes())? {
-        Ok(query) => {
-            assert_eq!(rt; query.goals.len(), GOALS.len());
-            Ok((program, query))
-        }
-        Err(error) => panic!(rt; "{}", error.as_str()),
-    }
+    let (program, query) = both_of(own, ":- chr_constraint p/1, q/2, r/0.", &text)?;
+    assert_eq!(rt; query.goals.len(), GOALS.len());
+    Ok((program, query))
 }
 
 #[test]
@@ -87,13 +79,9 @@ fn print_refused(rt: HostRuntime) -> Result<(), Fail> {
     let memory = Refusing::new(alloc, ENOUGH);
     let known = (program.names(), &query.var_names);
     for (goal, wanted) in query.goals.iter().zip(GOALS) {
-        let mut refused = 0;
-        for left in 0..100u64 {
-            if is_printed(rt, &memory, left, known, goal, wanted)? {
-                break;
-            }
-            refused = left + 1;
-        }
+        let refused = refused_in_turn(100, |left| {
+            is_printed(rt, &memory, left, known, goal, wanted)
+        })?;
         assert!(rt; refused > 0 && refused < 100, "{wanted}: {refused}");
     }
     Ok(())

@@ -13,14 +13,10 @@ fn is_long(
     goals: usize,
     vars: usize,
 ) -> Result<(), Memory> {
-    let mut program = is_accepted(rt, alloc, b":- chr_constraint p/1.")?;
-    match asked(alloc, alloc, &mut program, text.as_bytes())? {
-        Ok(query) => {
-            assert_eq!(rt; query.goals.len(), goals);
-            assert_eq!(rt; query.var_names.len(), vars);
-        }
-        Err(error) => panic!(rt; "{}", error.as_str()),
-    }
+    let both = both_of(alloc, ":- chr_constraint p/1.", text);
+    let (_, query) = both.map_err(|_| Memory)?;
+    assert_eq!(rt; query.goals.len(), goals);
+    assert_eq!(rt; query.var_names.len(), vars);
     Ok(())
 }
 
@@ -79,12 +75,9 @@ fn are_named(rt: &impl Abort, names: &Names, count: usize) {
 #[test]
 fn symbols_in_a_query(rt: HostRuntime) -> Result<(), Fail> {
     let (rt, alloc) = (&rt, rt.alloc());
-    let mut program = is_accepted(rt, alloc, b":- chr_constraint p/16.")?;
     let text = with_names(alloc, "", 4375, ".")?;
-    match asked(alloc, alloc, &mut program, text.as_bytes())? {
-        Ok(query) => assert_eq!(rt; query.goals.len(), 4375),
-        Err(error) => panic!(rt; "{}", error.as_str()),
-    }
+    let (program, query) = both_of(alloc, ":- chr_constraint p/16.", &text)?;
+    assert_eq!(rt; query.goals.len(), 4375);
     are_named(rt, program.names(), 70_008);
     Ok(())
 }
@@ -94,7 +87,7 @@ fn symbols_in_a_query(rt: HostRuntime) -> Result<(), Fail> {
 fn symbols_in_a_body(rt: HostRuntime) -> Result<(), Fail> {
     let (rt, alloc) = (&rt, rt.alloc());
     let text = with_names(alloc, ":- chr_constraint p/16, q/0. q <=> ", 4375, ".")?;
-    let program = is_accepted(rt, alloc, text.as_bytes())?;
+    let program = program_of(alloc, &text)?;
     assert!(rt; program.rules() == 1);
     assert_eq!(rt; program.rule(0).body.len(), 4375);
     are_named(rt, program.names(), 70_009);
@@ -105,7 +98,7 @@ fn symbols_in_a_body(rt: HostRuntime) -> Result<(), Fail> {
 fn goals_in_a_body(rt: HostRuntime) -> Result<(), Fail> {
     let (rt, alloc) = (&rt, rt.alloc());
     let text = repeated(alloc, ":- chr_constraint p/0. p <=> ", ("p,", 99), "p.")?;
-    let program = is_accepted(rt, alloc, text.as_bytes())?;
+    let program = program_of(alloc, &text)?;
     assert!(rt; program.rules() == 1);
     assert_eq!(rt; program.rule(0).body.len(), 100);
     Ok(())

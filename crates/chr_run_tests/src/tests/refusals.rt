@@ -1,8 +1,7 @@
 //! Each growth of a run refused in turn.
 use super::*;
 use chr_machine::{is_thin_program, is_thin_query};
-use chr_read::{read_program, read_query};
-use chr_rules::Program;
+use chr_texts::both_of;
 
 /// More growths than a run of these tests asks for.
 const MOST: u64 = 10_000;
@@ -26,12 +25,12 @@ fn refused_growths(rt: HostRuntime) {
     let mut refused = [0u64; 5];
     let mut sink = Sink::open(rt.alloc());
     let mut last = 0;
-    for left in 0..MOST {
+    let all = refused_in_turn(MOST, |left| -> Result<bool, Memory> {
         meter.allow(left);
         let ran = run_case(&meter, &GROUND_RULE, &mut sink);
         assert_eq!(rt; meter.asked() > left, ran.is_err(), "{left}");
         let Err(error) = ran else {
-            break;
+            return Ok(true);
         };
         let Some(place) = place_of(error) else {
             panic!(rt; "{left}");
@@ -40,7 +39,9 @@ fn refused_growths(rt: HostRuntime) {
         assert!(rt; last <= place && place < 5, "{left}");
         refused[place] = refused[place].saturating_add(1);
         last = place;
-    }
+        Ok(false)
+    });
+    assert!(rt; all.is_ok());
     for count in refused {
         assert!(rt; count > 1 && count < MOST);
     }
@@ -55,10 +56,7 @@ fn run_read(
     sink: &mut Sink,
 ) -> Option<Result<Status, TextError>> {
     meter.allow(u64::MAX);
-    let syntax = read_program(meter, GROUND_PROGRAM.as_bytes()).ok()?;
-    let mut program = Program::build(meter, syntax).ok()?;
-    let syntax = read_query(meter, GROUND_QUERY.as_bytes()).ok()?;
-    let query = program.goals_of_query(syntax).ok()?;
+    let (program, query) = both_of(meter, GROUND_PROGRAM, GROUND_QUERY).ok()?;
     assert!(rt; is_thin_program(&program));
     assert!(rt; is_thin_query(&query));
     meter.allow(left);
@@ -70,16 +68,15 @@ fn run_read(
 #[test]
 fn run_into_refused(rt: HostRuntime) {
     let meter = Refusing::new(rt.alloc(), 0);
-    let mut refused = 0;
     let mut sink = Sink::open(rt.alloc());
-    for left in 0..MOST {
-        let Some(Err(error)) = run_read(&meter, &rt, left, &mut sink) else {
-            break;
-        };
-        assert_eq!(rt; error, TextError::Run(RunError::Memory), "{left}");
-        assert!(rt; sink.text.is_empty(), "{left}");
-        refused = left + 1;
-    }
-    assert!(rt; refused > 10 && refused < MOST, "{refused}");
+    let refused = refused_in_turn(MOST, |left| -> Result<bool, Memory> {
+        if let Some(Err(error)) = run_read(&meter, &rt, left, &mut sink) {
+            assert_eq!(rt; error, TextError::Run(RunError::Memory), "{left}");
+            assert!(rt; sink.text.is_empty(), "{left}");
+            return Ok(false);
+        }
+        Ok(true)
+    });
+    assert!(rt; refused.is_ok_and(|refused| refused > 10 && refused < MOST));
     assert_eq!(rt; sink.text.as_slice(), GROUND_TEXT.as_bytes());
 }

@@ -1,6 +1,6 @@
 //! Each growth of a call refused in turn: that the refusal is a growth's, what stands after it, and that the call then goes on.
 use super::*;
-use refusing_alloc::Refusing;
+use refusing_alloc::{Refusing, refused_in_turn};
 use std::alloc::Global;
 
 /// More growths than a call of these tests asks for.
@@ -59,13 +59,7 @@ fn is_added(meter: &Refusing<Global>, rt: &impl Abort, left: u64) -> Result<bool
 #[test]
 fn add_refused(rt: HostRuntime) -> Result<(), Fail> {
     let meter = Refusing::new(rt.alloc(), 0);
-    let mut refused = 0;
-    for left in 0..MOST {
-        if is_added(&meter, &rt, left)? {
-            break;
-        }
-        refused = left + 1;
-    }
+    let refused = refused_in_turn(MOST, |left| is_added(&meter, &rt, left))?;
     assert!(&rt; refused > 0 && refused < MOST, "{refused}");
     Ok(())
 }
@@ -91,13 +85,7 @@ fn are_woken(meter: &Refusing<Global>, rt: &impl Abort, left: u64) -> Result<boo
 #[test]
 fn woken_refused(rt: HostRuntime) -> Result<(), Fail> {
     let meter = Refusing::new(rt.alloc(), 0);
-    let mut refused = 0;
-    for left in 0..MOST {
-        if are_woken(&meter, &rt, left)? {
-            break;
-        }
-        refused = left + 1;
-    }
+    let refused = refused_in_turn(MOST, |left| are_woken(&meter, &rt, left))?;
     assert!(&rt; refused > 0 && refused < MOST, "{refused}");
     Ok(())
 }
@@ -121,13 +109,7 @@ fn is_put(meter: &Refusing<Global>, rt: &impl Abort, left: u64) -> Result<bool, 
 #[test]
 fn put_refused(rt: HostRuntime) -> Result<(), Fail> {
     let meter = Refusing::new(rt.alloc(), 0);
-    let mut refused = 0;
-    for left in 0..MOST {
-        if is_put(&meter, &rt, left)? {
-            break;
-        }
-        refused = left + 1;
-    }
+    let refused = refused_in_turn(MOST, |left| is_put(&meter, &rt, left))?;
     assert!(&rt; refused > 0 && refused < MOST, "{refused}");
     Ok(())
 }

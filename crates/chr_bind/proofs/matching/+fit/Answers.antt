@@ -1,5 +1,6 @@
 use Rattle.chr_semantics.specs.declared.limits.TheConstants.{MAX_RULE_VARIABLES}
 use Rattle.std.proofs.Common.{None, Option, Some, MatchBool, option_and_then, ◌+◌, ◌≡◌, ◌∙◌, ap, arith, drop, subst, sym}
+use Rattle.std.proofs.lemmas.Bool.Decides.{Decides-eqb}
 use Rattle.chr_semantics.specs.Match.{fit_all}
 use Rattle.chr_semantics.specs.Subst.{Subst}
 use Rattle.chr_semantics.specs.Tree.{node}
@@ -37,9 +38,9 @@ fit_all-returns g t c m h =
     let old = c.loop-i.invariant m h in
     (old.0, old.2 ∙ fit_end c.args.patterns.now c.args.terms.now c.loop-i.i old.0 c.loop-i-test.false (omega (arith, c.if-patterns-terms.false)), old.1)
 
-pub fit_term-returns-then-sym-other : goal.fit_term-returns-then-sym-other
-fit_term-returns-then-sym-other g t c m h =
+pub fit_term-returns-then-eq : goal.fit_term-returns-then-eq
+fit_term-returns-then-eq g t c m h =
     let pattern = ap view c.in-Node.is ∙ view-Node _ c.in-Node.sym c.in-Node.patterns ∙ ap (λ ts. node c.in-Node.sym.0 (trees_view ts)) (sym c.as_slice.ensures.value) in
-    let term = ap view c.in-Node-term.is ∙ view-Node _ c.in-Node-term.other c.in-Node-term.terms ∙ ap (λ ts. node c.in-Node-term.other.0 (trees_view ts)) (sym c.as_slice-then-sym-other.ensures.value) in
-    let same = fit_nodes _ _ _ _ _ _ m pattern term c.if-sym-other.true in
+    let term = ap view c.in-Node-term.is ∙ view-Node _ c.in-Node-term.other c.in-Node-term.terms ∙ ap (λ ts. node c.in-Node-term.other.0 (trees_view ts)) (sym c.as_slice-then-eq.ensures.value) in
+    let same = fit_nodes _ _ _ _ _ _ m pattern term ((Decides-eqb _ _).0 (sym c.if-eq.ensures)) in
     subst (λ (o : Option Subst). MatchBool c.fit_all.result ((n : Subst) × (o ≡ Some n) × Agrees c.fit_all.new.slots n) (o ≡ None)) (sym same) (c.fit_all.ensures m h)
