@@ -1,0 +1,17 @@
+pub mod Arguments
+pub mod Changes
+pub mod EnoughRows
+pub mod FoundLists
+pub mod Gates
+pub mod Held
+pub mod JoinEnds
+pub mod JoinSteps
+pub mod Kept
+pub mod Lookups
+pub mod PassedRows
+pub mod RuleHeads
+pub mod SamePlace
+pub mod SearchParts
+pub mod ShownRows
+pub mod Walk
+pub mod WalkParts

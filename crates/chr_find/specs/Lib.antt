@@ -1,0 +1,12 @@
+pub mod Enough
+pub mod Finds
+pub mod Gate
+pub mod Joins
+pub mod ModeView
+pub mod Places
+pub mod PlanView
+pub mod RootView
+pub mod SearchIs
+pub mod SearchView
+pub mod Shown
+pub mod TableView
