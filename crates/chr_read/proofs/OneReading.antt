@@ -34,8 +34,8 @@ one_checked text c d h k =
 one_accepted : (program query : List ℕ) (n o : Names) (p r : semantics.Program) (q t : semantics.Query) → IsAccepted program query n p q → IsAccepted program query o r t → (n ≡ o) × (p ≡ r) × (q ≡ t)
 one_accepted program query n o p r q t h k =
     let c = one_checked program h.of k.of h.is_program k.is_program in
-    let same = one_query query h.spelled k.spelled h.read k.read in
-    let both = same_answer (n, q) (o, t) (sym h.is_checked ∙ (λ i. checked_query (c i) (same i)) ∙ k.is_checked) in
+    let same = one_query query h.is_query.spelled k.is_query.spelled h.is_query.read k.is_query.read in
+    let both = same_answer (n, q) (o, t) (sym h.is_query.is_checked ∙ (λ i. checked_query (c i) (same i)) ∙ k.is_query.is_checked) in
     (ap (λ (x : Names × semantics.Query). x.0) both, sym h.rules_are ∙ ap (λ (d : Checked). d.rules) c ∙ k.rules_are, ap (λ (x : Names × semantics.Query). x.1) both)
 
 pub one_reading_law : OneReadingLaw

@@ -21,12 +21,6 @@ use Rattle.chr_run.specs.declared.error.TextError.TheVariants as error
 abbrev pub is_performed : Rules → Goals → Bool
 is_performed rules q = is_thin_program rules && is_thin_query q
 
--- the text spells a query over the program, with no mistake; the names grow
-pub record IsAcceptedQuery (c : Checked) (text : List ℕ) (names : Names) (q : Goals) : Type 0 where
-  pub spelled : syntax.Query
-  pub read : IsRead IsQuery text spelled
-  pub is_checked : checked_query c spelled ≡ Ok (names, q)
-
 -- the text of a program is not read so, or it is read and there is this mistake
 abbrev pub IsProgramError : List ℕ → TextError → Type 0
 IsProgramError text (error.Program e) = IsRefusal IsProgram text e

@@ -1,6 +1,6 @@
 //! Runs, and their texts.
 ghost use Rattle.std.specs.Prelude.{◌≡◌, ◌≤◌, IfErr, IfOk, OnOk, true};
-ghost use Rattle.chr_semantics.specs.Accepted.{IsAccepted, IsAcceptedProgram};
+ghost use Rattle.chr_semantics.specs.Accepted.{IsAccepted, IsAcceptedProgram, IsAcceptedQuery};
 ghost use Rattle.chr_semantics.specs.State.{start};
 ghost use Rattle.chr_semantics.specs.Step.{after};
 ghost use Rattle.chr_semantics.specs.Text.{text};
@@ -10,7 +10,7 @@ ghost use Rattle.chr_rules.specs.ProgramView.{checked_view};
 ghost use Rattle.chr_rules.specs.RuleView.{query_view};
 ghost use Rattle.chr_machine.specs.State.{status_view};
 ghost use Rattle.chr_run.specs.Run.{IsInto, PastLimits, WithinLimits};
-ghost use Rattle.chr_run.specs.Texts.{IsAcceptedQuery, IsProgramError, IsQueryError, IsTextError, IsTextRun, is_performed};
+ghost use Rattle.chr_run.specs.Texts.{IsProgramError, IsQueryError, IsTextError, IsTextRun, is_performed};
 
 use crate::error::{RunError, TextError};
 use crate::output::write_bytes;

@@ -13,13 +13,17 @@ pub record IsAcceptedProgram (text : List ℕ) (c : Checked) : Type 0 where
   pub read : IsRead IsProgram text spelled
   pub is_checked : checked spelled ≡ Ok c
 
--- and the other spells a query over it with no mistake, which is this one; the names are those of both
+-- the text spells a query over this program with no mistake, which is this one; the names are those of both
+pub record IsAcceptedQuery (c : Checked) (text : List ℕ) (names : Names) (q : semantics.Query) : Type 0 where
+  pub spelled : syntax.Query
+  pub read : IsRead IsQuery text spelled
+  pub is_checked : checked_query c spelled ≡ Ok (names, q)
+
+-- one text is accepted as a program, and the other as a query over it
 pub record IsAccepted (program query : List ℕ) (names : Names) (rules : semantics.Program) (q : semantics.Query) : Type 0 where
   pub of : Checked
   pub is_program : IsAcceptedProgram program of
-  pub spelled : syntax.Query
-  pub read : IsRead IsQuery query spelled
-  pub is_checked : checked_query of spelled ≡ Ok (names, q)
+  pub is_query : IsAcceptedQuery of query names q
   pub rules_are : of.rules ≡ rules
 
 -- A text has at most one reading; so two texts are accepted as at most one program and query, with their names.
