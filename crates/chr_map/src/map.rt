@@ -67,8 +67,7 @@ impl<K: Ord + Copy, V: Share, A: Allocator + Copy> Map<K, V, A> {
 impl<K: Ord + Copy, V: Share, A: Allocator> Map<K, V, A> {
     /// All entries, to be walked in order.
     pub fn entries(&self) -> Part<'_, K, V, A>
-        ensures value { result ≡ self.now }
-        ensures ascending { Ascends K.cmp self.now }
+        ensures { result ≡ self.now }
     {
         Part::new(&self.root)
     }
