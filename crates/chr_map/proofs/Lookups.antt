@@ -81,3 +81,22 @@ module _ {K V : Type 0} (cmp : K → K → Ordering) (total : IsTotalOrder cmp) 
       none_either true = refl
       none_either false = refl
   value_of-removed (e ∷ es) k j up = removed_at j k e es (cmp k e.0) refl up.0 (value_of-removed es k j up.1)
+
+  -- the first value at a key that is equal
+  abbrev pub value_at : List (K × V) → K → Option V
+  value_at [] j = None
+  value_at (e ∷ es) j = cond (is_eq (cmp j e.0)) (Some e.1) (value_at es j)
+
+  no_value : (j k : K) (es : List (K × V)) → cmp j k ≡ Less → AllAbove cmp k es → value_at es j ≡ None
+  no_value j k [] less above = refl
+  no_value j k (e ∷ es) less above = rw (total.trans j k e.0 less above.0) (no_value j k es less above.1)
+
+  by_order : (j : K) (e : K × V) (es : List (K × V)) (o : Ordering) → cmp j e.0 ≡ o → AllAbove cmp e.0 es → value_of cmp es j ≡ value_at es j → match_ordering o None (Some e.1) (value_of cmp es j) ≡ cond (is_eq o) (Some e.1) (value_at es j)
+  by_order j e es Less is above go = sym (no_value j e.0 es is above)
+  by_order j e es Equal is above go = refl
+  by_order j e es Greater is above go = go
+
+  -- where the entries ascend, the search for a key finds it
+  pub value_of-ascending : (es : List (K × V)) (j : K) → Ascends cmp es → value_of cmp es j ≡ value_at es j
+  value_of-ascending [] j up = refl
+  value_of-ascending (e ∷ es) j up = by_order j e es (cmp j e.0) refl up.0 (value_of-ascending es j up.1)

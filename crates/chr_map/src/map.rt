@@ -67,7 +67,8 @@ impl<K: Ord + Copy, V: Share, A: Allocator + Copy> Map<K, V, A> {
 impl<K: Ord + Copy, V: Share, A: Allocator> Map<K, V, A> {
     /// All entries, to be walked in order.
     pub fn entries(&self) -> Part<'_, K, V, A>
-        ensures { result ≡ self.now }
+        ensures value { result ≡ self.now }
+        ensures ascending { Ascends K.cmp self.now }
     {
         Part::new(&self.root)
     }

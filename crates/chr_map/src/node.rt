@@ -52,7 +52,7 @@ pub(crate) fn share_link<K: Drop, V: Drop, A: Allocator>(
 }
 
 /// The number of entries.
-fn size<K: Drop, V: Drop, A: Allocator>(link: &Link<K, V, A>) -> u64 {
+pub(crate) fn size<K: Drop, V: Drop, A: Allocator>(link: &Link<K, V, A>) -> u64 {
     match link {
         None => 0,
         Some(node) => node.size,

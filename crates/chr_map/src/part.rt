@@ -3,7 +3,7 @@ ghost use Rattle.std.specs.Prelude.{◌≡◌, ◌++◌, ◌∷◌, [], IfNone, 
 ghost use Rattle.chr_map.specs.Entries.{link_entries};
 
 use crate::Share;
-use crate::node::{Link, Node};
+use crate::node::{Link, Node, size};
 use std::alloc::{Allocator, Global};
 use std::marker::Model;
 
@@ -43,6 +43,11 @@ impl<'a, K: Ord + Copy, V: Share, A: Allocator> Part<'a, K, V, A> {
         ensures { result ≡ link_entries link.now }
     {
         Part { link }
+    }
+
+    /// How many entries it has, as the map balances by it. Nothing is promised of it: it is for choosing the shorter way.
+    pub fn weight(&self) -> u64 {
+        size(self.link)
     }
 
     /// An entry from about the middle, where there is one, and the parts before and after it.

@@ -17,6 +17,7 @@ use Rattle.chr_rules.specs.RuleView.{rule_view, rules_view}
 use Rattle.chr_rules.specs.declared.rule.Rule.{Rule}
 use Rattle.chr_rules.specs.Checks.{wrong_items, wrong_rule}
 use Rattle.chr_rules.proofs.Counted.{goals_count, heads_count, tests_count}
+use Rattle.chr_rules.proofs.Few.{few_heads, heads_made}
 use Rattle.chr_rules.proofs.Kept.{kept_in_all, kept_in_checked}
 use Rattle.chr_rules.proofs.Mistakes.{none_each}
 use Rattle.chr_rules.proofs.Ruled.{head_variables, too_many}
@@ -42,6 +43,7 @@ rule_bounded names d k earlier r h =
       body = goals.below;
       ordered = omega (arith, tests.more_met, goals.more_met);
       few = at_most 64 _ (none_each all 11 (nat_lt 64 (rule_from names 0 r).1.vars, too_many_variables) h refl);
+      few_heads = omega (arith, (few_heads names d earlier r h).0, heads_made (fresh_scope names, []) (all_heads r));
     }
 
 one_more_bounded : (c : Checked) (r : syntax.Rule) → error_in_rule c.names c.declared c.rules r ≡ None → AreBounded c.rules → AreBounded (with_rule c r).rules

@@ -14,7 +14,8 @@ use Rattle.chr_rules.proofs.Kept.{kept_in_all}
 use Rattle.chr_rules.proofs.Mistakes.{none_each}
 use Rattle.chr_rules.proofs.Ruled.{head_variables, too_many}
 
-few_heads : (names : Names) (d : ℕ) (earlier : Program) (r : syntax.Rule) → error_in_rule names d earlier r ≡ None → (length (all_heads r) ≤ 8) × (length earlier < 1024)
+-- an accepted rule has few heads, and there are few rules before it
+pub few_heads : (names : Names) (d : ℕ) (earlier : Program) (r : syntax.Rule) → error_in_rule names d earlier r ≡ None → (length (all_heads r) ≤ 8) × (length earlier < 1024)
 few_heads names d earlier r h =
     let all = wrong_items names d r ++ (wrong_rule (head_variables names r) earlier r ++ too_many names r) in
     (below (none_each all 7 (nat_lt 8 (length (all_heads r)), too_many_heads) h refl), above (none_each all 9 (nat_le 1024 (length earlier), too_many_rules) h refl))
@@ -36,7 +37,8 @@ one_head : (s : Scope) (p : Bool) (i : Item) → length (head_of s p i).1 ≤ 1
 one_head s p (related r e f) = omega arith
 one_head s p (plain e) = one_by s p (call_of e)
 
-heads_made : (q : Scope × List Head) (hs : List syntax.Head) → length (in_turn head_from q hs).1 ≤ length q.1 + length hs
+-- each head that is read makes one at most
+pub heads_made : (q : Scope × List Head) (hs : List syntax.Head) → length (in_turn head_from q hs).1 ≤ length q.1 + length hs
 heads_made q [] = omega arith
 heads_made q (h ∷ hs) =
     let one = one_head q.0 h.passive h.item in

@@ -1,11 +1,11 @@
 -- What an occurrence is of: a rule of the program, at its number, and one of the rule's heads.
-use Rattle.std.proofs.Common.{◌≡◌, ◌∙◌, ℕ, zero, suc, ◌+◌, ◌-◌, ◌<◌, ◌≤◌, List, [], ◌∷◌, length, refl, ap, sym, subst, arith, Bool, true, false, not, ◌&&◌, ◌==◌, map, cond, get_or, Some}
+use Rattle.std.proofs.Common.{◌≡◌, ◌∙◌, ℕ, zero, suc, ◌+◌, ◌-◌, ◌<◌, ◌≤◌, List, [], ◌∷◌, length, refl, ap, sym, subst, arith, Bool, true, false, not, ◌&&◌, ◌==◌, map, cond, get_or, Option, Some}
 use Rattle.std.specs.Prelude.{All, slice_get, reverse}
 use Rattle.std.proofs.lemmas.List.Elements.{All-append, All-cons, All-head, All-nil, All-tail}
 use Rattle.std.proofs.lemmas.List.{reverse-append, length-append, length-map}
 use Rattle.chr_semantics.specs.Program.{Head, Rule, Program, Occurrence, places_from, occurrences_in, occurrences_from, occurrences, occurrence}
 use Rattle.chr_semantics.proofs.Lists.{All-got, got_below}
-use Rattle.chr_rules.specs.Index.{pair_view, pairs_view, pair_of, pairs_of, head_count}
+use Rattle.chr_rules.specs.Index.{IsPlaceIn, pair_view, pairs_view, pair_of, pairs_of, head_count}
 use Rattle.chr_rules.specs.declared.index.Occurrence.{Occurrence as Pair}
 
 all_reversed : {X : Type 0} (P : X → Type 0) (xs : List X) → All P xs → All P (reverse xs)
@@ -109,6 +109,18 @@ numbered p f n os d e some within =
 -- it is of a rule of the program
 pub numbered_rule : (p : Program) (f n : ℕ) (pair : ℕ × ℕ) → IsNumbered p f n pair → pair.0 < length p
 numbered_rule p f n pair h = let within = got_below p h.is.number h.is.rule (occurrence_in p f n h.is h.found).rule in omega (arith, within, ap (λ (q : ℕ × ℕ). q.0) h.as_pair)
+
+-- and of one of its heads
+same_rule : (o : Option Rule) (a b : Rule) → o ≡ Some a → o ≡ Some b → a ≡ b
+same_rule o a b e f = cc (e, f)
+
+pub numbered_place : (p : Program) (f n : ℕ) (pair : ℕ × ℕ) → IsNumbered p f n pair → IsPlaceIn p pair.0 pair.1
+numbered_place p f n pair h rule at =
+    let within : IsIn p h.is = occurrence_in p f n h.is h.found in
+    let number : pair.0 ≡ h.is.number = ap (λ (q : ℕ × ℕ). q.0) h.as_pair in
+    let place : pair.1 ≡ h.is.place = ap (λ (q : ℕ × ℕ). q.1) h.as_pair in
+    let same : h.is.rule ≡ rule = same_rule (slice_get p h.is.number) h.is.rule rule within.rule (ap (slice_get p) (sym number) ∙ at) in
+    omega (arith, place, within.place, ap (λ (r : Rule). length r.heads) same)
 
 -- and its number is no more than the heads
 pub numbered_few : (p : Program) (f : ℕ) (os : List Pair) → pairs_view os ≡ pairs_of (occurrences p f) → length os ≤ head_count p

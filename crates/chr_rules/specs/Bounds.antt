@@ -4,7 +4,7 @@ use Rattle.std.proofs.Props.{props}
 use Rattle.std.specs.Coded.{×_prop, Unit-prop, le_prop}
 use Rattle.chr_semantics.specs.Tree.{Tree, var, int, node, Trees, none, more}
 use Rattle.chr_semantics.specs.Program.{Goal, constraint, tell, evaluate, compare, fail, Test, identical, not_unifiable, compares, is_integer, is_ground, Head, Rule, Program, Query}
-use Rattle.chr_semantics.specs.declared.limits.TheConstants.{MAX_RULE_VARIABLES}
+use Rattle.chr_semantics.specs.declared.limits.TheConstants.{MAX_HEADS, MAX_RULE_VARIABLES}
 use Rattle.chr_bind.specs.Terms.{AreBelow, IsBelow}
 
 -- every variable of the test is below n
@@ -34,6 +34,7 @@ pub record IsBounded (r : Rule) : Type 0 where
   pub body : All (IsGoalBelow r.vars) r.body
   pub ordered : r.head_vars ≤ r.vars
   pub few : r.vars ≤ MAX_RULE_VARIABLES
+  pub few_heads : length r.heads ≤ MAX_HEADS
 
 -- each rule of the program is so
 abbrev pub AreBounded : Program → Type 0

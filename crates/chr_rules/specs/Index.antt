@@ -1,5 +1,5 @@
 -- Programs, with the occurrences of each symbol.
-use Rattle.std.specs.Prelude.{◌≡◌, ℕ, ◌+◌, List, [], ◌∷◌, length, map, Option, Some, None, slice_get, Vec}
+use Rattle.std.specs.Prelude.{◌≡◌, ◌<◌, ℕ, ◌+◌, List, [], ◌∷◌, length, map, Option, Some, None, slice_get, Vec}
 use Rattle.chr_semantics.specs.Program as semantics
 use Rattle.chr_semantics.specs.Program.{occurrences}
 use Rattle.chr_rules.specs.declared.index.Occurrence.{Occurrence}
@@ -16,6 +16,10 @@ pair_of o = (o.number, o.place)
 
 abbrev pub pairs_of : List semantics.Occurrence → List (ℕ × ℕ)
 pairs_of os = map pair_of os
+
+-- the place is one of a head of the rule with this number
+abbrev pub IsPlaceIn : semantics.Program → ℕ → ℕ → Type 0
+IsPlaceIn p r place = (rule : semantics.Rule) → slice_get p r ≡ Some rule → place < length rule.heads
 
 -- what an index has for a symbol: nothing past its end
 abbrev pub pairs_in : {A : Type 0} → Option (Vec Occurrence A) → List (ℕ × ℕ)

@@ -6,7 +6,7 @@ ghost use Rattle.chr_read.specs.SyntaxView.{program_view, query_view as syntax_q
 ghost use Rattle.chr_rules.specs.Bounds.{AreBounded, IsBounded, IsQueryBounded, bounds};
 ghost use Rattle.chr_rules.specs.Checks.{IsError};
 ghost use Rattle.chr_rules.specs.Grown.{Grows};
-ghost use Rattle.chr_rules.specs.Index.{AreListed, head_count, pair_of, pair_view, pairs_of, pairs_view};
+ghost use Rattle.chr_rules.specs.Index.{AreListed, IsPlaceIn, head_count, pair_of, pair_view, pairs_of, pairs_view};
 ghost use Rattle.chr_rules.specs.QueryOf.{IsQueryOf};
 ghost use Rattle.chr_rules.specs.RuleView.{query_view, rule_view, rules_view};
 ghost use Rattle.chr_rules.specs.declared.error.RuleErrorKind.TheVariants.{Memory as OutOfMemory};
@@ -129,6 +129,7 @@ impl<A: Allocator> Program<A> {
         ensures found { option_map pair_view result
             ≡ option_map pair_of (occurrence (checked_view self.now).rules sym.0 number) }
         ensures rule { IfSome result (λ found. found.rule < length (checked_view self.now).rules) }
+        ensures place { IfSome result (λ found. IsPlaceIn (checked_view self.now).rules found.rule found.place) }
         ensures few { OnSome result (number < 2 ^ 31) }
     {
         let places = self.occurrences(sym);

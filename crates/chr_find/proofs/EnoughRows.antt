@@ -1,0 +1,75 @@
+-- Lists that have rows enough for a head.
+use Rattle.std.proofs.Common.{◌≡◌, ◌∙◌, ℕ, ◌<◌, Bool, true, false, List, ap, sym, refl, subst, inr, ◌∷◌}
+use Rattle.std.specs.Prelude.{◌==◌, ◌&&◌, Option, Some, None, option_and_then, option_map, get_or, length}
+use Rattle.std.specs.List.{list_any}
+use Rattle.std.proofs.lemmas.Bool.{ne_eqb}
+use Rattle.std.proofs.lemmas.Bool.Decides.{Decides-eqb}
+use Rattle.std.proofs.lemmas.List.Folds.{list_any_at}
+use Rattle.std.proofs.lemmas.Option.{slice_get_read}
+use Rattle.chr_semantics.proofs.KeyLaw.{root_law}
+use Rattle.chr_semantics.proofs.Tests.{eqb_sym}
+use Rattle.chr_semantics.specs.Keys.{arg_at, is_root, pattern_root, root_of}
+use Rattle.chr_semantics.specs.Match.{Row as Constraint, fit_all, fit_atom}
+use Rattle.chr_semantics.specs.Search.{has_number}
+use Rattle.chr_bind.specs.Matching.{AgreesWith, FitsAs}
+use Rattle.chr_bind.specs.declared.matching.Match.{Match}
+use Rattle.chr_store.specs.Rows.{row_atom}
+use Rattle.chr_store.specs.declared.row.Row.{Row}
+use Rattle.chr_semantics.specs.Program.{Atom}
+use Rattle.chr_semantics.specs.Subst.{Subst}
+use Rattle.chr_term.specs.TermView.{atom_view, trees_view, view}
+use Rattle.chr_term.specs.declared.term.Sym.{Sym}
+use Rattle.chr_term.specs.declared.term.Term.{Term}
+use Rattle.chr_find.specs.Enough.{FitsHead, IsEnough, TakesAs}
+use Rattle.chr_find.specs.RootView.{root_view, roots_view}
+use Rattle.chr_find.specs.declared.list.List.TheVariants.{Symbol, At}
+use Rattle.chr_find.specs.declared.root.Root.{Root}
+use Rattle.chr_find.proofs.Arguments.{arg_view}
+
+pub symbol_enough : (ps : ℕ → List ℕ) (f : Sym) (h : Atom) (m : Subst) → h.sym ≡ f.0 → IsEnough ps h m (Symbol f)
+symbol_enough ps f h m e c out = root_law.symbols (record { atom = h; passive = false }) m c (eqb_sym c.1.sym h.sym ∙ (ap (λ (n : ℕ). n == c.1.sym) e ∙ out))
+
+-- a test that fails where the symbols are the same fails by the root
+by_root : (s p k : Bool) (P : Type 0) → (s && (p && k)) ≡ false → (s ≡ false → P) → (s ≡ true → p ≡ true) → (k ≡ false → P) → P
+by_root false p k P e f g h = f refl
+by_root true true k P e f g h = h e
+by_root true false k P e f g h = absurd (let no : false ≡ true = g refl in cc)
+
+pub root_enough : (ps : ℕ → List ℕ) (f : Sym) (p : ℕ) (k : Root) (h : Atom) (m : Subst) → h.sym ≡ f.0 → list_any (λ q. q == p) (ps f.0) ≡ true → option_and_then (pattern_root m) (arg_at h.args p) ≡ Some (root_view k) → IsEnough ps h m (At f p k)
+root_enough ps f p k h m e planned asks c out =
+    by_root (f.0 == c.1.sym) (list_any (λ q. q == p) (ps c.1.sym)) (is_root (root_view k) (option_map root_of (arg_at c.1.args p))) (fit_atom h c.1 m ≡ None) out
+    (λ other. symbol_enough ps f h m e c other)
+    (λ same. ap (λ (n : ℕ). list_any (λ q. q == p) (ps n)) (sym ((Decides-eqb f.0 c.1.sym).0 same)) ∙ planned)
+    (λ apart. root_law.roots (record { atom = h; passive = false }) m p (root_view k) c asks apart)
+
+-- as the code learns it
+pub list_enough : {A : Type 0} (ps : ℕ → List ℕ) (f : Sym) (args : List (Term A)) (p : ℕ) (t : Term A) (o : Option Root) (k : Root) (m : Subst) → list_any (λ q. q == p) (ps f.0) ≡ true → p < length args → t ≡ get_or args p t → o ≡ Some k → roots_view o ≡ pattern_root m (view t)
+    → IsEnough ps (atom_view f args) m (At f p k)
+list_enough ps f args p t o k m planned within term is asks =
+    root_enough ps f p k (atom_view f args) m refl planned (ap (option_and_then (pattern_root m)) (arg_view args p ∙ ap (option_map view) (slice_get_read args _ p t refl within term)) ∙ (sym asks ∙ ap roots_view is))
+
+-- a position for the symbol
+pub planned_at : (ps : ℕ → List ℕ) (f : ℕ) (qs : List ℕ) (i d p : ℕ) → qs ≡ ps f → i < length qs → p ≡ get_or qs i d → list_any (λ q. q == p) (ps f) ≡ true
+planned_at ps f qs i d p planned inside at = ap (list_any (λ q. q == p)) (sym planned) ∙ list_any_at (λ q. q == p) qs i d inside ((Decides-eqb (get_or qs i d) p).1 (sym at))
+
+-- neither the own identity nor one of the others
+pub unused : (i own : ℕ) (used : List ℕ) → has_number used i ≡ false → (i ≡ own → ⊥) → has_number (own ∷ used) i ≡ false
+unused i own used others other = let e : (i == own) ≡ false = ne_eqb i own other in rw (e, others) refl
+
+-- the row fits where it is of the head's symbol and its arguments fit
+pub head_fits : {A : Type 0} (fits : Bool) (f : Sym) (args : List (Term A)) (row : Row A) (ts : List (Term A)) (old new : Match A) → ts ≡ row.args.items → (f.0 == row.sym.0) ≡ true → FitsAs fits (trees_view args) (trees_view ts) old new
+    → FitsHead fits (atom_view f args) (row_atom row) old new
+head_fits {A = A} fits f args row ts old new e same fit = by_fit fits (subst (λ (l : List (Term A)). FitsAs fits (trees_view args) (trees_view l) old new) e fit)
+  where
+    by_fit : (b : Bool) → FitsAs b (trees_view args) (trees_view row.args.items) old new → FitsHead b (atom_view f args) (row_atom row) old new
+    by_fit true g = ((λ m a. let p : (n : Subst) × (fit_all (trees_view args) (trees_view row.args.items) m ≡ Some n) × AgreesWith new n = g.0 m a in (p.0, rw same p.1, p.2)), g.1)
+    by_fit false g = ((λ m a. rw same (g.0 m a)), g.1)
+
+-- and does not fit where it is of another
+pub head_apart : {A : Type 0} (f : Sym) (args : List (Term A)) (row : Row A) (old new : Match A) → (f.0 == row.sym.0) ≡ false → new ≡ old → FitsHead false (atom_view f args) (row_atom row) old new
+head_apart f args row old new other same = ((λ m a. rw other refl), λ e. same)
+
+-- the row is taken where it was not used and fits
+pub takes_fit : {A : Type 0} (fits : Bool) (used : List ℕ) (head : Atom) (c : Constraint) (old new : Match A) → has_number used c.0 ≡ false → FitsHead fits head c.1 old new → TakesAs fits used head c old new
+takes_fit true used head c old new unused g = ((λ m a. let p : (n : Subst) × (fit_atom head c.1 m ≡ Some n) × AgreesWith new n = g.0 m a in (p.0, unused, p.1, p.2)), g.1)
+takes_fit false used head c old new unused g = ((λ m a. inr (g.0 m a)), g.1)

@@ -1,0 +1,53 @@
+-- The whole search, and what it is in the definitions.
+use Rattle.std.proofs.Common.{◌≡◌, ◌^◌, ◌<◌, ◌∙◌, ℕ, ◌+◌, Bool, true, false, cond, ◌&&◌, List, [], ◌∷◌, Option, Some, None, option_map, take, ap, refl, sym}
+use Rattle.std.specs.Prelude.{find, slice_get}
+use Rattle.chr_semantics.proofs.CursorLaw.{cursor_law, gated_law}
+use Rattle.chr_semantics.proofs.JoinLaw.{join_law}
+use Rattle.chr_semantics.proofs.TriesLaw.{tries_law}
+use Rattle.chr_semantics.specs.Cursor.{IsSpent, lies_ahead}
+use Rattle.chr_semantics.specs.Join.{Joined, after_own, enters, joined, own_joined, rows_in}
+use Rattle.chr_semantics.specs.Match.{Row, fit_atom}
+use Rattle.chr_semantics.specs.Program.{Head, Rule}
+use Rattle.chr_semantics.specs.Search.{History, can_fire, first_tuple, ids_of, tuples}
+use Rattle.chr_semantics.specs.Subst.{Subst}
+use Rattle.chr_semantics.specs.Tries.{capped, tried, tried_tuples}
+use Rattle.chr_find.specs.Finds.{Finds}
+use Rattle.chr_find.specs.First.{IsFirst}
+use Rattle.chr_find.specs.Gate.{Gate, free, on, passed}
+use Rattle.chr_find.proofs.FoundLists.{finds_none, finds_same}
+
+module _ (rows : List Row) (h : History) (r : ℕ) (rule : Rule) (place : ℕ) (own : Head) (a : Row) (n from : ℕ) where
+  -- after the match of the own head
+  pub own_found : (gate : Gate) (m : Subst) (result : Option (List ℕ)) (told now : ℕ) → fit_atom own.atom a.1 [] ≡ Some m → Finds h r rule.guard [] n (passed from gate (joined rows a place rule.heads [] 0 m)) result told now
+      → Finds h r rule.guard [] n (passed from gate (own_joined rows rule place own a)) result told now
+  own_found gate m result told now fit f =
+      finds_same h r rule.guard [] n _ _ result told now (ap (λ (e : Option Subst). passed from gate (after_own (joined rows a place rule.heads [] 0) e)) fit) f
+
+  -- and where it does not match
+  pub own_apart : (gate : Gate) (told : ℕ) → told < 2 ^ 64 → fit_atom own.atom a.1 [] ≡ None → Finds h r rule.guard [] n (passed from gate (own_joined rows rule place own a)) None told told
+  own_apart gate told small fit =
+      finds_same h r rule.guard [] n _ [] None told told (ap (λ (e : Option Subst). passed from gate (after_own (joined rows a place rule.heads [] 0) e)) fit) (finds_none h r rule.guard [] n told small)
+
+  all_pass : (ps : List Joined) → passed from free ps ≡ ps
+  all_pass [] = refl
+  all_pass (p ∷ ps) = ap (λ (l : List Joined). p ∷ l) (all_pass ps)
+
+  in_ids : (o : Option Joined) → option_map (λ (p : Joined). ids_of p.0) o ≡ option_map ids_of (option_map rows_in o)
+  in_ids None = refl
+  in_ids (Some p) = refl
+
+  -- where nothing is passed over it is the first tuple, and the tries are those of the definitions
+  pub free_first : (result : Option (List ℕ)) (told now : ℕ) → slice_get rule.heads place ≡ Some own → Finds h r rule.guard [] n (passed from free (own_joined rows rule place own a)) result told now
+      → IsFirst rows h r rule place a n result × (now ≡ capped (told + tried_tuples rows h r rule place a))
+  free_first result told now at f = (
+    f.found ∙ (ap (λ (ps : List Joined). option_map (λ (p : Joined). ids_of p.0) (find (enters h r rule) ps)) (all_pass (own_joined rows rule place own a))
+        ∙ (in_ids (find (enters h r rule) (own_joined rows rule place own a)) ∙ ap (option_map ids_of) (sym (join_law.all_rows rows h r rule place own a at)))),
+    f.tries ∙ ap (λ (k : ℕ). capped (told + k)) (ap (tried (enters h r rule)) (all_pass (own_joined rows rule place own a)) ∙ tries_law.tries rows h r rule place own a at),
+  )
+
+  -- where the tuples that can fire lie ahead, going on finds the first one too
+  pub next_first : (l : List ℕ) (result : Option (List ℕ)) (told now : ℕ) → slice_get rule.heads place ≡ Some own → IsSpent rows h r rule place a l from
+      → Finds h r rule.guard [] n (passed from (on l) (own_joined rows rule place own a)) result told now → IsFirst rows h r rule place a n result
+  next_first l result told now at spent f =
+      f.found ∙ (in_ids (find (enters h r rule) (passed from (on l) (own_joined rows rule place own a)))
+      ∙ ap (option_map ids_of) (sym (gated_law.found (lies_ahead l from) rows h r rule place own a at) ∙ sym (cursor_law.next rows h r rule place a l from spent)))

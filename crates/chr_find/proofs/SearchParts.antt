@@ -1,0 +1,40 @@
+-- What the parts of a search answer.
+use Rattle.std.proofs.Common.{◌≡◌, ℕ, ◌+◌, ◌-◌, ◌*◌, ◌∙◌, ◌<◌, Bool, true, false, List, [], ◌∷◌, ◌++◌, Option, Some, None, length, drop, ap, refl, sym, subst, arith, zero, suc}
+use Rattle.std.proofs.Math.Nat.{add-mul}
+use Rattle.std.proofs.lemmas.List.{length-append}
+use Rattle.std.specs.Prelude.{IfOk, Result, Ok, Err, slice_get}
+use Rattle.chr_bind.specs.declared.matching.Match.{Match}
+use Rattle.chr_semantics.specs.Match.{Row}
+use Rattle.chr_semantics.specs.Program.{Head, Rule}
+use Rattle.chr_semantics.specs.Search.{History}
+use Rattle.chr_find.specs.Gate.{Gate}
+use Rattle.chr_find.specs.Joins.{JoinIs}
+use Rattle.chr_find.specs.ModeView.{gate_of}
+use Rattle.chr_find.specs.declared.mode.Mode.{Mode}
+
+pub ok_more : {X E : Type 0} (P Q : X → Type 0) (r : Result X E) → ((x : X) → P x → Q x) → IfOk r P → IfOk r Q
+ok_more P Q (Ok x) f h = f x h
+ok_more P Q (Err e) f h = h
+
+-- there is a head at a level that is not the last
+pub head_there : (heads : List Head) (k : ℕ) → k < length heads → (x : Head) × (slice_get heads k ≡ Some x)
+head_there [] k lt = absurd (omega (arith, lt))
+head_there (h ∷ heads) zero lt = (h, refl)
+head_there (h ∷ heads) (suc k) lt = head_there heads k (omega (arith, lt))
+
+-- the search from the longer partners
+pub join_longer : {A : Type 0} (rows : List Row) (h : History) (r : ℕ) (rule : Rule) (place own level longer_level : ℕ) (longer : List ℕ) (next : Match A) (from quiet : ℕ) (mode : Mode) (after : List ℕ) (gate : Gate) (result : Option (List ℕ)) (told now : ℕ) → longer_level ≡ level + 1
+    → gate_of mode (drop (level + 1) after) ≡ gate → JoinIs rows h r rule place own longer_level longer next from quiet (gate_of mode (drop longer_level after)) result told now → JoinIs rows h r rule place own (level + 1) longer next from quiet gate result told now
+join_longer rows h r rule place own level longer_level longer next from quiet mode after gate result told now e g j =
+    subst (λ (x : Gate). JoinIs rows h r rule place own (level + 1) longer next from quiet x result told now) g
+    (subst (λ (k : ℕ). JoinIs rows h r rule place own k longer next from quiet (gate_of mode (drop k after)) result told now) e j)
+
+-- The measure falls where all entries are visited for a level, and where those after a middle are.
+pub level_less : (h l r n : ℕ) → l < h → n ≡ r → (h - l - 1) * (r + 3) + n + 2 < (h - l) * (r + 3)
+level_less h l r n lt e =
+    let one_more : h - l ≡ (h - l - 1) + 1 = omega (arith, lt) in
+    let whole : (h - l) * (r + 3) ≡ (h - l - 1) * (r + 3) + 1 * (r + 3) = ap (λ (x : ℕ). x * (r + 3)) one_more ∙ add-mul (h - l - 1) 1 (r + 3) in
+    omega (arith, whole, e)
+
+pub after_shorter : {X : Type 0} (part xs : List X) (m : X) (ys : List X) → part ≡ xs ++ m ∷ ys → length ys < length part
+after_shorter part xs m ys e = let whole : length part ≡ length xs + length (m ∷ ys) = ap length e ∙ length-append xs (m ∷ ys) in omega (arith, whole)

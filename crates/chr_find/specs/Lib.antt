@@ -1,0 +1,16 @@
+pub mod AtomCode
+pub mod Enough
+pub mod Finding
+pub mod Finds
+pub mod First
+pub mod Gate
+pub mod Joins
+pub mod ModeView
+pub mod Places
+pub mod NotedView
+pub mod PlanView
+pub mod RootView
+pub mod SearchIs
+pub mod SearchView
+pub mod Shown
+pub mod TableView

@@ -1,0 +1,41 @@
+-- What a search finds from its partners so far.
+use Rattle.std.specs.Prelude.{◌≡◌, ℕ, List, [], Option, Some, drop, length, slice_get}
+use Rattle.chr_bind.specs.declared.matching.Match.{Match}
+use Rattle.chr_rules.specs.RuleView.{rule_view}
+use Rattle.chr_semantics.specs.Match as semantics
+use Rattle.chr_semantics.specs.Join.{own_joined}
+use Rattle.chr_semantics.specs.Program.{Atom, Head}
+use Rattle.chr_semantics.specs.Search.{History}
+use Rattle.chr_find.specs.Finds.{Finds}
+use Rattle.chr_find.specs.Gate.{Gate, passed}
+use Rattle.chr_find.specs.Joins.{IsQuiet, JoinIs, WalkIs}
+use Rattle.chr_find.specs.ModeView.{gate_of}
+use Rattle.chr_find.specs.PlanView.{positions_of}
+use Rattle.chr_find.specs.Shown.{ForRows}
+use Rattle.chr_find.specs.declared.join.Prefix.{Prefix}
+use Rattle.chr_find.specs.declared.join.Search.{Search}
+use Rattle.chr_find.specs.declared.mode.Mode.{Mode}
+
+module _ {P A : Type 0} (h : History) (s : Search P A) where
+  -- for all heads, the own constraint at its own
+  abbrev pub OwnFinds : Atom → Mode → Option (List ℕ) → ℕ → ℕ → Type 0
+  OwnFinds own mode found told now =
+      (x : Head) → slice_get (rule_view s.rule.now).heads s.place ≡ Some x
+      → ForRows (positions_of s.plan.now) s.rows.now (λ rows. IsQuiet rows (rule_view s.rule.now).heads s.place s.own s.from s.quiet
+      → Finds h s.number (rule_view s.rule.now).guard [] (length (rule_view s.rule.now).heads) (passed s.from (gate_of mode s.after.now) (own_joined rows (rule_view s.rule.now) s.place x (s.own, own))) found told now)
+
+module _ {P A : Type 0} (h : History) (s : Search P A) (p : Prefix) where
+  -- where the partners stand to the list after which the search goes on
+  abbrev pub gate_at : Gate
+  gate_at = gate_of p.mode (drop p.level s.after.now)
+
+  -- for the heads from the level on
+  abbrev pub JoinFinds : Match A → Option (List ℕ) → ℕ → ℕ → Type 0
+  JoinFinds matching found told now =
+      ForRows (positions_of s.plan.now) s.rows.now (λ rows. JoinIs rows h s.number (rule_view s.rule.now) s.place s.own p.level p.partners matching s.from s.quiet gate_at found told now)
+
+  -- with these rows alone for the head at the level
+  abbrev pub WalkFinds : Match A → List semantics.Row → Option (List ℕ) → ℕ → ℕ → Type 0
+  WalkFinds matching walked found told now =
+      (x : Head) → slice_get (rule_view s.rule.now).heads p.level ≡ Some x
+      → ForRows (positions_of s.plan.now) s.rows.now (λ rows. WalkIs rows h s.number (rule_view s.rule.now) s.place s.own p.level p.partners matching s.from s.quiet gate_at x.atom walked found told now)

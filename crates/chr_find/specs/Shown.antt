@@ -1,0 +1,63 @@
+-- The constraints that a table shows.
+use Rattle.std.specs.Prelude.{◌≡◌, ◌<◌, ℕ, Bool, cond, List, [], ◌∷◌, Option, Some, None, option_map, filter}
+use Rattle.std.specs.List.{list_any}
+use Rattle.chr_semantics.specs.Cursor.{is_new}
+use Rattle.chr_semantics.specs.Match as semantics
+use Rattle.chr_semantics.specs.Program.{Atom}
+use Rattle.chr_store.specs.Rows.{row_atom}
+use Rattle.chr_store.specs.declared.row.Row.{Row}
+use Rattle.chr_semantics.specs.Search.{atom_of}
+use Rattle.chr_find.specs.Places.{has_list, held, same_list}
+use Rattle.chr_find.specs.declared.list.List.{List as Listing}
+use Rattle.chr_find.specs.declared.list.Place.{Place}
+
+-- the atom, if it is in the list
+abbrev pub atom_in : Listing → (ℕ → List ℕ) → Option Atom → Option Atom
+atom_in l ps None = None
+atom_in l ps (Some a) = cond (has_list (ps a.sym) a l) (Some a) None
+
+module _ {A : Type 0} where
+  -- each place of a list has the constraint of its identity, if that is in the list
+  abbrev pub Shows : (ℕ → List ℕ) → (Place → Option (Row A)) → (ℕ → Option Atom) → Type 0
+  Shows ps at f = (q : Place) → option_map row_atom (at q) ≡ atom_in q.list ps (f q.id.0)
+
+  -- the constraints in a list, in the order of the entries
+  abbrev pub walk : Listing → List (Place × Row A) → List semantics.Row
+  walk l [] = []
+  walk l (e ∷ es) = cond (same_list e.0.list l) ((e.0.id.0, row_atom e.1) ∷ walk l es) (walk l es)
+
+-- the constraints that are in a list
+abbrev pub rows_in_list : Listing → (ℕ → List ℕ) → List semantics.Row → List semantics.Row
+rows_in_list l ps rows = filter (λ (c : semantics.Row). has_list (ps c.1.sym) c.1 l) rows
+
+-- all identities are greater than n
+abbrev pub AllOver : ℕ → List semantics.Row → Type 0
+AllOver n [] = Unit {0}
+AllOver n (c ∷ rows) = (n < c.0) × AllOver n rows
+
+-- all identities are less than n
+abbrev pub AllUnder : ℕ → List semantics.Row → Type 0
+AllUnder n [] = Unit {0}
+AllUnder n (c ∷ rows) = (c.0 < n) × AllUnder n rows
+
+-- each identity is less than all after it
+abbrev pub Rises : List semantics.Row → Type 0
+Rises [] = Unit {0}
+Rises (c ∷ rows) = AllOver c.0 rows × Rises rows
+
+-- one of them has an identity that is not below `from`
+abbrev pub any_new : ℕ → List semantics.Row → Bool
+any_new from rows = list_any (λ (c : semantics.Row). is_new from c.0) rows
+
+-- the entries show these rows
+pub record IsShown {A : Type 0} (ps : ℕ → List ℕ) (es : List (Place × Row A)) (rows : List semantics.Row) : Type 0 where
+  pub rises : Rises rows
+  pub shows : Shows ps (held es) (atom_of rows)
+
+-- for each list of rows that the entries show
+abbrev pub ForRows : {A : Type 0} → (ℕ → List ℕ) → List (Place × Row A) → (List semantics.Row → Type 0) → Type 0
+ForRows ps es P = (rows : List semantics.Row) → IsShown ps es rows → P rows
+
+-- by whatever positions rows are found
+abbrev pub ForAllRows : {A : Type 0} → List (Place × Row A) → (List semantics.Row → Type 0) → Type 0
+ForAllRows es P = (ps : ℕ → List ℕ) → ForRows ps es P

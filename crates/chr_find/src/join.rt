@@ -1,0 +1,216 @@
+//! The join: the lists of partners for the heads of a rule, in order.
+ghost use Rattle.std.specs.Prelude.{◌≡◌, ◌+◌, ◌<◌, ◌≤◌, ◌^◌, ◌∷◌, ◌++◌, [], IfOk, drop, take, vec_len};
+ghost use Rattle.chr_rules.specs.RuleView.{rule_view};
+ghost use Rattle.chr_store.specs.Rows.{row_atom};
+ghost use Rattle.chr_find.specs.Gate.{gate_bound, next_gate};
+ghost use Rattle.chr_find.specs.ModeView.{gate_of};
+ghost use Rattle.chr_find.specs.SearchIs.{JoinFinds, WalkFinds, gate_at};
+ghost use Rattle.chr_find.specs.SearchView.{AreSmall};
+ghost use Rattle.chr_find.specs.Shown.{walk};
+
+use crate::Memory;
+use crate::list::{List, Place};
+use crate::lists::Rows;
+use crate::mode::Mode;
+use crate::past::Past;
+use crate::plan::Plan;
+use crate::search::{list_for, takes};
+use chr_bind::{Match, guard_holds};
+use chr_map::{Part, Pointer};
+use chr_rules::Rule;
+use chr_store::Row;
+use std::alloc::Allocator;
+use std::cmp::Ordering;
+
+/// What stays the same in a search.
+#[derive(Drop)]
+pub(crate) struct Search<'a, P, A: Allocator> {
+    pub(crate) alloc: A,
+    pub(crate) plan: &'a Plan<A>,
+    pub(crate) rows: &'a Rows<A>,
+    pub(crate) past: &'a P,
+    pub(crate) rule: &'a Rule<A>,
+    /// The number of the rule, from 0.
+    pub(crate) number: u64,
+    /// The head that the own constraint stands at, from 0.
+    pub(crate) place: usize,
+    /// The identity of the own constraint.
+    pub(crate) own: u64,
+    /// The list after which the search goes on.
+    pub(crate) after: &'a [u64],
+    /// From this identity on constraints are new.
+    pub(crate) from: u64,
+    /// From this head on, counted from 0, no constraint for a head is new.
+    pub(crate) quiet: usize,
+}
+
+/// The partners so far.
+#[derive(Clone, Copy, Drop)]
+pub(crate) struct Prefix {
+    /// How many they are.
+    pub(crate) level: usize,
+    pub(crate) partners: [u64; 8],
+    pub(crate) mode: Mode,
+}
+
+impl<'a, P: Past, A: Allocator + Copy> Search<'a, P, A> {
+    /// With one more partner.
+    fn longer(&self, prefix: Prefix, id: u64) -> Prefix
+        requires { prefix.level < 8 }
+        ensures level { result.level ≡ prefix.level + 1 }
+        ensures partners { take (prefix.level + 1) result.partners
+            ≡ take prefix.level prefix.partners ++ id ∷ [] }
+        ensures gate { gate_of result.mode (drop (prefix.level + 1) self.now.after.now)
+            ≡ next_gate self.now.from (gate_of prefix.mode (drop prefix.level self.now.after.now)) id }
+    {
+        let mut partners = prefix.partners;
+        partners[prefix.level] = id;
+        Prefix {
+            level: prefix.level + 1,
+            partners,
+            mode: prefix.mode.next(self.after, prefix.level, self.from, id),
+        }
+    }
+
+    /// Rows with lesser identities may be passed over for the next head.
+    fn least(&self, prefix: Prefix) -> u64
+        ensures bound { result ≤ gate_bound self.now.from
+            (gate_of prefix.mode (drop prefix.level self.now.after.now)) }
+        ensures quiet { 0 < result → self.now.quiet < prefix.level + 2 }
+    {
+        if self.quiet <= prefix.level.saturating_add(1) {
+            prefix.mode.bound(self.after, prefix.level, self.from)
+        } else {
+            0
+        }
+    }
+
+    /// The first list that begins with the partners so far, fits and may fire, and one try more for each complete list.
+    #[cycle(join)]
+    pub(crate) fn join(
+        &self,
+        prefix: Prefix,
+        matching: &Match<'a, A>,
+        tries: &mut u64,
+    ) -> Result<Option<[u64; 8]>, Memory>
+        requires few { vec_len self.now.rule.now.heads ≤ 8 }
+        requires small { AreSmall (rule_view self.now.rule.now).heads }
+        requires inside { prefix.level ≤ vec_len self.now.rule.now.heads }
+        ensures { IfOk result (λ found. JoinFinds (P.history self.now.past.now) self.now prefix
+            matching.now found tries.old tries.new) }
+    {
+        let _so_far = *tries;
+        if prefix.level >= self.rule.heads.len() {
+            return self.try_list(prefix, matching, tries);
+        }
+        if prefix.level == self.place {
+            return self.join(self.longer(prefix, self.own), matching, tries);
+        }
+        let (sym, args) = &self.rule.heads[prefix.level];
+        let list = list_for(self.plan, self.rows, *sym, args.as_slice(), matching);
+        let least = self.least(prefix);
+        self.visit(&self.rows.entries(), list, least, prefix, matching, tries)
+    }
+
+    /// The same with the rows of a part that are in a list, but for those with identities below `least`.
+    #[cycle(join)]
+    fn visit(
+        &self,
+        part: &Part<'a, Place, Pointer<Row<A>, A>, A>,
+        list: List,
+        least: u64,
+        prefix: Prefix,
+        matching: &Match<'a, A>,
+        tries: &mut u64,
+    ) -> Result<Option<[u64; 8]>, Memory>
+        requires few { vec_len self.now.rule.now.heads ≤ 8 }
+        requires small { AreSmall (rule_view self.now.rule.now).heads }
+        requires inside { prefix.level < vec_len self.now.rule.now.heads }
+        requires bound { least ≤ gate_bound self.now.from
+            (gate_of prefix.mode (drop prefix.level self.now.after.now)) }
+        requires quiet { 0 < least → self.now.quiet < prefix.level + 2 }
+        ensures { IfOk result (λ found. WalkFinds (P.history self.now.past.now) self.now prefix
+            matching.now (walk list part.now) found tries.old tries.new) }
+    {
+        let _so_far = *tries;
+        let middle = match part.middle() {
+            None => return Ok(None),
+            Some(middle) => middle,
+        };
+        let id = middle.key.id.0;
+        match list.cmp(&middle.key.list) {
+            Ordering::Less => self.visit(&middle.before, list, least, prefix, matching, tries),
+            Ordering::Greater => self.visit(&middle.after, list, least, prefix, matching, tries),
+            Ordering::Equal => {
+                if id < least {
+                    return self.visit(&middle.after, list, least, prefix, matching, tries);
+                }
+                let found = self.visit(&middle.before, list, least, prefix, matching, tries)?;
+                if found.is_some() {
+                    return Ok(found);
+                }
+                let found = self.try_row(id, middle.value.value(), prefix, matching, tries)?;
+                if found.is_some() {
+                    return Ok(found);
+                }
+                self.visit(&middle.after, list, least, prefix, matching, tries)
+            }
+        }
+    }
+
+    /// The same with one row.
+    #[cycle(join)]
+    fn try_row(
+        &self,
+        id: u64,
+        row: &'a Row<A>,
+        prefix: Prefix,
+        matching: &Match<'a, A>,
+        tries: &mut u64,
+    ) -> Result<Option<[u64; 8]>, Memory>
+        requires few { vec_len self.now.rule.now.heads ≤ 8 }
+        requires small { AreSmall (rule_view self.now.rule.now).heads }
+        requires inside { prefix.level < vec_len self.now.rule.now.heads }
+        ensures { IfOk result (λ found. WalkFinds (P.history self.now.past.now) self.now prefix
+            matching.now ((id, row_atom row.now) ∷ []) found tries.old tries.new) }
+    {
+        let _so_far = *tries;
+        let head = &self.rule.heads[prefix.level];
+        let used = &prefix.partners[..prefix.level];
+        let mut next = *matching;
+        if takes(self.own, used, head, id, row, &mut next) {
+            self.join(self.longer(prefix, id), &next, tries)
+        } else {
+            Ok(None)
+        }
+    }
+
+    /// The list of all partners, if it may fire.
+    fn try_list(
+        &self,
+        prefix: Prefix,
+        matching: &Match<'a, A>,
+        tries: &mut u64,
+    ) -> Result<Option<[u64; 8]>, Memory>
+        requires few { vec_len self.now.rule.now.heads ≤ 8 }
+        requires inside { prefix.level ≡ vec_len self.now.rule.now.heads }
+        ensures { IfOk result (λ found. JoinFinds (P.history self.now.past.now) self.now prefix
+            matching.now found tries.old tries.new) }
+    {
+        let _so_far = *tries;
+        if !prefix.mode.is_free() {
+            return Ok(None);
+        }
+        *tries = tries.saturating_add(1);
+        if self
+            .past
+            .was_fired(self.number, &prefix.partners[..prefix.level])
+        {
+            return Ok(None);
+        }
+        if guard_holds(self.alloc, self.rule.guard.as_slice(), matching)? {
+            return Ok(Some(prefix.partners));
+        }
+        Ok(None)
+    }
+}

@@ -1,0 +1,71 @@
+//! Where the partners so far stand to the list after which a search goes on.
+ghost use Rattle.std.specs.Prelude.{◌≡◌, ◌+◌, ℕ, List, [], drop};
+ghost use Rattle.chr_find.specs.Gate.{admits, gate_bound, next_gate};
+ghost use Rattle.chr_find.specs.ModeView.{gate_of};
+
+/// Where the partners so far stand to a list.
+#[derive(Clone, Copy, Drop)]
+pub(crate) enum Mode {
+    /// Nothing more is asked.
+    Free,
+    /// They are equal to its first identities.
+    On,
+    /// They are before it: a new row is still wanted.
+    Before,
+}
+
+impl Mode {
+    /// After one more partner at a level. A new one has an identity that is not below `from`.
+    pub(crate) fn next(self, after: &[u64], level: usize, from: u64, id: u64) -> Mode
+        ensures { gate_of result (drop (level + 1) after.now)
+            ≡ next_gate from (gate_of self (drop level after.now)) id }
+    {
+        if id >= from {
+            return Mode::Free;
+        }
+        match self {
+            Mode::Free => Mode::Free,
+            Mode::Before => Mode::Before,
+            Mode::On => {
+                if level >= after.len() {
+                    return Mode::Free;
+                }
+                let bound = after[level];
+                if bound < id {
+                    Mode::Free
+                } else if bound == id {
+                    Mode::On
+                } else {
+                    Mode::Before
+                }
+            }
+        }
+    }
+
+    /// A partner at the level with a lesser identity leads to lists before that one, which a new row alone makes wanted.
+    pub(crate) fn bound(self, after: &[u64], level: usize, from: u64) -> u64
+        ensures { result ≡ gate_bound from (gate_of self (drop level after.now)) }
+    {
+        match self {
+            Mode::Free => 0,
+            Mode::Before => from,
+            Mode::On => {
+                if level >= after.len() {
+                    return 0;
+                }
+                after[level].min(from)
+            }
+        }
+    }
+
+    /// Whether a list that ends here is one that the search asks for.
+    pub(crate) fn is_free(self) -> bool
+        ensures { (lowest : ℕ) (rest : List ℕ) → result ≡ admits lowest (gate_of self rest) [] }
+    {
+        match self {
+            Mode::Free => true,
+            Mode::On => false,
+            Mode::Before => false,
+        }
+    }
+}

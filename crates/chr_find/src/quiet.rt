@@ -1,0 +1,77 @@
+//! From which head on a search need not look for new constraints.
+ghost use Rattle.std.specs.Prelude.{◌≡◌, ◌<◌, Some, false, slice_get, vec_len};
+ghost use Rattle.chr_rules.specs.RuleView.{rule_view};
+ghost use Rattle.chr_semantics.specs.Program.{Head};
+ghost use Rattle.chr_find.specs.Joins.{IsQuiet, IsQuietAt};
+ghost use Rattle.chr_find.specs.Shown.{ForAllRows, any_new, walk};
+
+use crate::list::{List, Place};
+use crate::lists::Rows;
+use chr_map::{Part, Pointer};
+use chr_rules::Rule;
+use chr_store::Row;
+use std::alloc::Allocator;
+use std::cmp::Ordering;
+
+/// Whether a list has a row with an identity that is not below `from`.
+fn has_new<A: Allocator + Copy>(
+    part: &Part<'_, Place, Pointer<Row<A>, A>, A>,
+    list: List,
+    from: u64,
+) -> bool
+    ensures { result ≡ any_new from (walk list part.now) }
+{
+    let middle = match part.middle() {
+        None => return false,
+        Some(middle) => middle,
+    };
+    match list.cmp(&middle.key.list) {
+        Ordering::Less => has_new(&middle.before, list, from),
+        Ordering::Greater => has_new(&middle.after, list, from),
+        Ordering::Equal => {
+            if middle.key.id.0 >= from {
+                return true;
+            }
+            has_new(&middle.after, list, from)
+        }
+    }
+}
+
+/// Whether a constraint for the head at a level may be new.
+fn is_new_at<A: Allocator + Copy>(
+    rows: &Rows<A>,
+    rule: &Rule<A>,
+    place: usize,
+    own: u64,
+    from: u64,
+    level: usize,
+) -> bool
+    requires { level < vec_len rule.now.heads }
+    ensures { result ≡ false → ForAllRows rows.now
+        (λ shown. (x : Head) → slice_get (rule_view rule.now).heads level ≡ Some x →
+        IsQuietAt shown place own from level x) }
+{
+    if level == place {
+        own >= from
+    } else {
+        has_new(&rows.entries(), List::Symbol(rule.heads[level].0), from)
+    }
+}
+
+/// A number of heads after which no constraint for a head is new.
+pub(crate) fn quiet_from<A: Allocator + Copy>(
+    rows: &Rows<A>,
+    rule: &Rule<A>,
+    place: usize,
+    own: u64,
+    from: u64,
+) -> usize
+    ensures { ForAllRows rows.now
+        (λ shown. IsQuiet shown (rule_view rule.now).heads place own from result) }
+{
+    let mut quiet = rule.heads.len();
+    while quiet > 0 && !is_new_at(rows, rule, place, own, from, quiet - 1) {
+        quiet -= 1;
+    }
+    quiet
+}

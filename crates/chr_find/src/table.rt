@@ -1,0 +1,110 @@
+//! Tables: the living constraints, to be searched.
+ghost use Rattle.std.specs.Prelude.{◌≡◌, ◌+◌, IfOk, None, OnOk, Some, ℕ, option_map};
+ghost use Rattle.chr_store.specs.Rows.{row_atom};
+ghost use Rattle.chr_find.specs.AtomCode.{atoms};
+ghost use Rattle.chr_find.specs.NotedView.{AreShown};
+
+use crate::Memory;
+use crate::list::{List, Place};
+use crate::lists::Change;
+use crate::noted::Noted;
+use crate::plan::Plan;
+use chr_map::{Map, Pointer, Share};
+use chr_store::{Id, Row};
+use std::alloc::{Allocator, Global};
+
+/// The living constraints with their resolved arguments, by symbol and by what they have at their positions. A change takes two calls:
+/// one makes room, which may be refused, and the other notes it, which takes no memory. Before the next search `settle` makes what was
+/// noted. Contracts see the constraint of each identity, as when all is made.
+#[derive(Drop)]
+pub struct Table<A: Allocator = Global> {
+    pub(crate) noted: Noted<A>,
+    pub(crate) alloc: A,
+    ghost shown: { AreShown noted } by { Prim.hlevel atoms },
+}
+
+impl<A: Allocator + Copy> Table<A> {
+    ghost use Rattle.chr_find.specs.TableView.{HasRoom, IsSettled, atom_at, atoms_with};
+
+    /// No constraint.
+    pub fn new(alloc: A, plan: Pointer<Plan<A>, A>) -> Table<A>
+        ensures atoms { (i : ℕ) → atom_at result i ≡ None }
+        ensures settled { IsSettled result }
+    {
+        Table {
+            noted: Noted::new(alloc, plan, Map::new(alloc)),
+            alloc,
+        }
+    }
+
+    /// Makes room for so many changes.
+    pub fn room(&mut self, more: usize) -> Result<(), Memory>
+        ensures same { (i : ℕ) → atom_at self.new i ≡ atom_at self.old i }
+        ensures ok { OnOk result (HasRoom more self.new) }
+    {
+        self.noted.room(more)
+    }
+
+    /// Notes that a constraint lives.
+    pub fn add(&mut self, id: Id, row: Pointer<Row<A>, A>)
+        requires room { HasRoom 1 self.old }
+        requires absent { atom_at self.old id.0 ≡ None }
+        ensures atoms { (i : ℕ) → atom_at self.new i
+            ≡ atoms_with (atom_at self.old) id.0 (Some (row_atom row)) i }
+        ensures room { (n : ℕ) → HasRoom (n + 1) self.old → HasRoom n self.new }
+    {
+        self.noted.note(Change {
+            id,
+            row,
+            is_there: true,
+        });
+    }
+
+    /// Notes that a constraint lives no more. Its row is the one that stands there.
+    pub fn remove(&mut self, id: Id, row: Pointer<Row<A>, A>)
+        requires room { HasRoom 1 self.old }
+        requires there { atom_at self.old id.0 ≡ Some (row_atom row) }
+        ensures atoms { (i : ℕ) → atom_at self.new i ≡ atoms_with (atom_at self.old) id.0 None i }
+        ensures room { (n : ℕ) → HasRoom (n + 1) self.old → HasRoom n self.new }
+    {
+        self.noted.note(Change {
+            id,
+            row,
+            is_there: false,
+        });
+    }
+
+    /// Makes all changes that are noted. Contracts see the same constraints, after a refusal too.
+    pub fn settle(&mut self) -> Result<(), Memory>
+        ensures same { (i : ℕ) → atom_at self.new i ≡ atom_at self.old i }
+        ensures ok { OnOk result (IsSettled self.new) }
+    {
+        self.noted.settle()
+    }
+
+    /// The row of a constraint that lives.
+    pub fn row(&self, id: Id) -> Option<&Pointer<Row<A>, A>>
+        requires { IsSettled self.now }
+        ensures { option_map (λ row. row_atom row.now) result ≡ atom_at self.now id.0 }
+    {
+        let place = Place {
+            list: List::All,
+            id,
+        };
+        self.noted.rows.get(&place)
+    }
+
+    /// The same constraints again, at the price of a pointer or two.
+    pub fn share(&self) -> Result<Table<A>, Memory>
+        requires { IsSettled self.now }
+        ensures atoms { IfOk result (λ shared. (i : ℕ) → atom_at shared i ≡ atom_at self.now i) }
+        ensures settled { IfOk result (λ shared. IsSettled shared) }
+    {
+        let plan = self.noted.plan.share()?;
+        let rows = self.noted.rows.share()?;
+        Ok(Table {
+            noted: Noted::new(self.alloc, plan, rows),
+            alloc: self.alloc,
+        })
+    }
+}
