@@ -1,6 +1,6 @@
 //! The search of a table against a plain search, on random small stores.
-use super::plain::{Firings, Rows, plain_first};
-use super::{fire, first, remove, table_of};
+use super::plain::{Rows, plain_first};
+use super::{Nothing, first, remove, table_of};
 use chr_find::*;
 use chr_rules::{Goal, Program, Query};
 use chr_store::Row;
@@ -83,14 +83,13 @@ fn rows_of<A: Allocator + Copy>(alloc: A, query: &Query<A>) -> Result<Rows<A>, M
     Ok(rows)
 }
 
-/// Whether each search of each constraint finds the same. What is found is noted as fired.
+/// Whether each search of each constraint finds the same.
 fn assert_same(
     rt: &impl Abort,
     alloc: Global,
     program: &Program,
     table: &mut Table,
     rows: &Rows<Global>,
-    fired: &mut Firings<Global>,
     case: u64,
 ) -> Result<(), Fail> {
     for (id, row) in rows {
@@ -99,28 +98,24 @@ fn assert_same(
                 None => break,
                 Some(occurrence) => occurrence,
             };
-            let rule = occurrence.rule as u64;
-            let (found, _) = first(alloc, table, program, *id, number)?;
+            let (found, _) = first(alloc, table, &Nothing {}, program, *id, number)?;
+            let rule = program.rule(occurrence.rule);
             let wanted = plain_first(
                 alloc,
                 rows,
-                program.rule(occurrence.rule),
                 rule,
+                occurrence.rule as u64,
                 occurrence.place,
                 *id,
-                fired,
+                &Nothing {},
             )?;
             assert!(rt; found == wanted, "case {case}, {id} at {number}");
-            if let Some(ids) = found {
-                fire(table, rule, ids.as_slice())?;
-                fired.push((rule, ids))?;
-            }
         }
     }
     Ok(())
 }
 
-/// Random stores, as they are, with firings, and after a removal.
+/// Random stores, as they are and after a removal.
 #[test]
 fn as_a_plain_search(rt: HostRuntime) -> Result<(), Fail> {
     let alloc = rt.alloc();
@@ -131,14 +126,13 @@ fn as_a_plain_search(rt: HostRuntime) -> Result<(), Fail> {
             let (program, query) = both_of(alloc, program, text.as_str())?;
             let mut rows = rows_of(alloc, &query)?;
             let mut table = table_of(alloc, &program, query)?;
-            let mut fired = Vec::new(alloc);
-            assert_same(&rt, alloc, &program, &mut table, &rows, &mut fired, case)?;
+            assert_same(&rt, alloc, &program, &mut table, &rows, case)?;
             let place = dice.below(7) as usize;
             if place < rows.len() {
                 let (id, _) = rows.remove(place);
                 remove(&mut table, id)?;
             }
-            assert_same(&rt, alloc, &program, &mut table, &rows, &mut fired, case)?;
+            assert_same(&rt, alloc, &program, &mut table, &rows, case)?;
         }
     }
     Ok(())
