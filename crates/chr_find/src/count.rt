@@ -17,44 +17,32 @@ pub(crate) fn count<A: Allocator + Copy>(
     match list.cmp(&middle.key.list) {
         Ordering::Less => count(&middle.before, list),
         Ordering::Greater => count(&middle.after, list),
-        Ordering::Equal => count_last(&middle.before, list)
-            .saturating_add(count_first(&middle.after, list))
+        Ordering::Equal => count_edge(&middle.before, list, true)
+            .saturating_add(count_edge(&middle.after, list, false))
             .saturating_add(1),
     }
 }
 
-/// The same in a part that ends in the list.
-fn count_last<A: Allocator + Copy>(
+/// The same in a part that begins in the list, or ends in it where `is_last`.
+fn count_edge<A: Allocator + Copy>(
     part: &Part<'_, Place, Pointer<Row<A>, A>, A>,
     list: List,
+    is_last: bool,
 ) -> u64 {
     let middle = match part.middle() {
         None => return 0,
         Some(middle) => middle,
     };
-    if middle.key.list == list {
-        count_last(&middle.before, list)
-            .saturating_add(middle.after.weight())
-            .saturating_add(1)
+    let (outer, inner) = if is_last {
+        (&middle.after, &middle.before)
     } else {
-        count_last(&middle.after, list)
-    }
-}
-
-/// The same in a part that begins in the list.
-fn count_first<A: Allocator + Copy>(
-    part: &Part<'_, Place, Pointer<Row<A>, A>, A>,
-    list: List,
-) -> u64 {
-    let middle = match part.middle() {
-        None => return 0,
-        Some(middle) => middle,
+        (&middle.before, &middle.after)
     };
     if middle.key.list == list {
-        count_first(&middle.after, list)
-            .saturating_add(middle.before.weight())
+        count_edge(inner, list, is_last)
+            .saturating_add(outer.weight())
             .saturating_add(1)
     } else {
-        count_first(&middle.before, list)
+        count_edge(outer, list, is_last)
     }
 }

@@ -7,7 +7,7 @@ use chr_store::Row;
 use std::alloc::Allocator;
 
 /// The constraints that live, by ascending identity.
-pub type Rows<A> = Vec<(u64, Row<A>), A>;
+pub(crate) type Rows<A> = Vec<(u64, Row<A>), A>;
 
 /// Whether the list of rows, given by their places among the rows, can fire the rule.
 fn can_fire<A: Allocator + Copy>(
@@ -54,7 +54,7 @@ fn next(list: &mut [usize], count: usize) -> bool {
 }
 
 /// The first list with the own constraint at the place that can fire, as places among the rows.
-pub fn plain_first<A: Allocator + Copy>(
+pub(crate) fn plain_first<A: Allocator + Copy>(
     alloc: A,
     rows: &Rows<A>,
     rule: &Rule<A>,
