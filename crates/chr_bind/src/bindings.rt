@@ -1,8 +1,8 @@
 //! The bindings of variables, seen by contracts as one solved substitution.
 ghost use Rattle.std.specs.Prelude.{◌≡◌, ◌≤◌, ◌<◌, ◌+◌, [], IfOk, OnErr, OnOk, IsTrue, ◌↔◌, length, vec_len, vec_capacity};
 ghost use Rattle.chr_semantics.specs.Tree.{is_ground_tree};
-ghost use Rattle.chr_semantics.specs.Subst.{IsSolved, apply};
-ghost use Rattle.chr_term.specs.TermView.{view};
+ghost use Rattle.chr_semantics.specs.Subst.{IsSolved, apply, instances, value_at};
+ghost use Rattle.chr_term.specs.TermView.{trees_view, view};
 ghost use Rattle.chr_bind.specs.Terms.{IsBelow};
 ghost use Rattle.chr_bind.specs.Chains.{AreSound, IsSound, Pairs, subst_of};
 ghost use Rattle.chr_bind.specs.Unified.{IsAnswer, IsUnified};
@@ -71,6 +71,14 @@ impl<A: Allocator + Copy> Bindings<A> {
         ensures { IfOk result (λ resolved. view resolved ≡ apply self.now.subst (view term.now)) }
     {
         self.chains().resolve(self.alloc, term)
+    }
+
+    /// The terms with what their variables stand for put in.
+    pub fn resolve_all(&self, terms: &[Term<A>]) -> Result<Vec<Term<A>, A>, Memory>
+        ensures { IfOk result (λ resolved. trees_view resolved.items
+            ≡ instances (value_at self.now.subst) (trees_view terms.now)) }
+    {
+        self.chains().resolve_all(self.alloc, terms)
     }
 
     /// Makes two terms equal, with the occurs check; of two free variables the greater is bound to the lesser. After `Clash`, and where
@@ -152,6 +160,14 @@ impl<A: Allocator> Bindings<A> {
         ensures { IsTrue result ↔ (apply self.now.subst (view term.now) ≡ view other.now) }
     {
         self.chains().resolves_to(term, other)
+    }
+
+    /// Whether the first terms, resolved, are the second.
+    pub fn resolve_to(&self, terms: &[Term<A>], others: &[Term<A>]) -> bool
+        ensures { IsTrue result ↔ (instances (value_at self.now.subst) (trees_view terms.now)
+            ≡ trees_view others.now) }
+    {
+        self.chains().resolve_to(terms, others)
     }
 
     fn chains(&self) -> Chains<'_, '_, A>

@@ -125,7 +125,7 @@ impl<'l, 't, A: Allocator> Chains<'l, 't, A> {
     }
 
     #[cycle(resolve)]
-    fn resolve_all(&self, alloc: A, terms: &'t [Term<A>]) -> Result<Vec<Term<A>, A>, Memory>
+    pub fn resolve_all(&self, alloc: A, terms: &'t [Term<A>]) -> Result<Vec<Term<A>, A>, Memory>
     where
         A: Copy,
         requires { AreSound self.now }
@@ -182,7 +182,7 @@ impl<'l, 't, A: Allocator> Chains<'l, 't, A> {
     }
 
     #[cycle(matches)]
-    fn resolve_to(&self, terms: &'t [Term<A>], others: &[Term<A>]) -> bool
+    pub fn resolve_to(&self, terms: &'t [Term<A>], others: &[Term<A>]) -> bool
         requires { AreSound self.now }
         ensures { IsTrue result ↔ (instances (value_at (subst_of self.now)) (trees_view terms.now)
             ≡ trees_view others.now) }

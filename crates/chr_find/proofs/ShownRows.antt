@@ -8,7 +8,7 @@ use Rattle.chr_store.specs.declared.row.Row.{Row}
 use Rattle.chr_find.specs.Places.{has_list, row_if}
 use Rattle.chr_find.specs.PlanView.{positions_of}
 use Rattle.chr_find.specs.Shown.{Shows, atom_in}
-use Rattle.chr_find.specs.NotedView.{changed_at}
+use Rattle.chr_find.specs.NoteView.{changed_at}
 use Rattle.chr_find.specs.declared.list.List.{List as Listing}
 use Rattle.chr_find.specs.declared.list.Place.{Place}
 use Rattle.chr_find.specs.declared.lists.Change.{Change}

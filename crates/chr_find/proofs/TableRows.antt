@@ -1,10 +1,13 @@
 -- The constraints of a table after its calls.
-use Rattle.std.proofs.Common.{◌≡◌, ◌∙◌, ℕ, false, true, cond, List, [], ap, refl, sym}
+use Rattle.std.proofs.Common.{◌≡◌, ◌∙◌, ◌==◌, ℕ, Bool, false, true, cond, List, ap, refl, sym}
+use Rattle.std.proofs.lemmas.Bool.{eq-eqb}
+use Rattle.chr_store.specs.declared.id.Id.{Id}
 use Rattle.std.specs.Prelude.{Option, Some, None, option_map}
 use Rattle.chr_semantics.specs.Program.{Atom}
 use Rattle.chr_store.specs.Rows.{row_atom}
 use Rattle.chr_store.specs.declared.row.Row.{Row}
-use Rattle.chr_find.specs.NotedView.{AreShown, IsSettled, changed_at, noted_atom, row_at}
+use Rattle.chr_find.specs.NoteView.{changed_at}
+use Rattle.chr_find.specs.NotedView.{AreShown, IsSettled, noted_atom, row_at}
 use Rattle.chr_find.specs.Places.{held}
 use Rattle.chr_find.specs.PlanView.{positions_of}
 use Rattle.chr_find.specs.Shown.{Shows, atom_in}
@@ -20,6 +23,31 @@ at_all : (ps : ℕ → List ℕ) (o : Option Atom) → atom_in All ps o ≡ o
 at_all ps None = refl
 at_all ps (Some a) = refl
 
+abbrev pub out_at : {A : Type 0} → Id → Row A → Change A
+out_at id r = record { id = id; row = r; is_there = false }
+
+abbrev pub put_at : {A : Type 0} → Id → Row A → Change A
+put_at id r = record { id = id; row = r; is_there = true }
+
+none_at : (i : ℕ) (f : ℕ → Option Atom) → atoms_with f i None i ≡ None
+none_at i f = ap (λ (b : Bool). cond b None (f i)) (eq-eqb i i refl)
+
+with_twice : (b : Bool) (x y z : Option Atom) → cond b x (cond b y z) ≡ cond b x z
+with_twice true x y z = refl
+with_twice false x y z = refl
+
+-- what stands at the places is told by the constraints
+module _ {A : Type 0} (n : Noted A) (p : Plan A) (at : Place → Option (Row A)) (f : ℕ → Option Atom) (rows : (q : Place) → row_at n q ≡ at q) (shows : Shows (positions_of p) at f) where
+  pub atoms_are : (i : ℕ) → noted_atom n i ≡ f i
+  atoms_are i =
+      ap (option_map row_atom) (rows (record { list = All; id = record { 0 = i } }))
+      ∙ (shows (record { list = All; id = record { 0 = i } }) ∙ at_all (positions_of p) (f i))
+
+  pub shown_is : n.plan ≡ p → AreShown n
+  shown_is plan q =
+      ap (option_map row_atom) (rows q)
+      ∙ (shows q ∙ (ap (λ (r : Plan A). atom_in q.list (positions_of r) (f q.id.0)) (sym plan) ∙ ap (atom_in q.list (positions_of n.plan)) (sym (atoms_are q.id.0))))
+
 module _ {A : Type 0} (n m : Noted A) where
   -- the same at each place
   module _ (same : (q : Place) → row_at n q ≡ row_at m q) where
@@ -27,9 +55,7 @@ module _ {A : Type 0} (n m : Noted A) where
     atoms_same i = ap (option_map row_atom) (same (record { list = All; id = record { 0 = i } }))
 
     pub shown_same : n.plan ≡ m.plan → AreShown m → AreShown n
-    shown_same plan shown q =
-        ap (option_map row_atom) (same q)
-        ∙ (shown q ∙ (ap (λ (p : Plan A). atom_in q.list (positions_of p) (noted_atom m q.id.0)) (sym plan) ∙ ap (atom_in q.list (positions_of n.plan)) (sym (atoms_same q.id.0))))
+    shown_same plan shown = shown_is n m.plan (row_at m) (noted_atom m) same shown plan
 
   -- one change more
   module _ (c : Change A) (rows : (q : Place) → row_at n q ≡ changed_at m.plan c (row_at m) q) (shown : AreShown m) (was : noted_atom m c.id.0 ≡ atom_if (cond c.is_there false true) (row_atom c.row)) where
@@ -37,20 +63,25 @@ module _ {A : Type 0} (n m : Noted A) where
     after = shows_change m.plan c (row_at m) (noted_atom m) shown was
 
     pub atoms_changed : (i : ℕ) → noted_atom n i ≡ atoms_with (noted_atom m) c.id.0 (atom_if c.is_there (row_atom c.row)) i
-    atoms_changed i =
-        ap (option_map row_atom) (rows (record { list = All; id = record { 0 = i } }))
-        ∙ (after (record { list = All; id = record { 0 = i } }) ∙ at_all (positions_of m.plan) (atoms_with (noted_atom m) c.id.0 (atom_if c.is_there (row_atom c.row)) i))
+    atoms_changed = atoms_are n m.plan (changed_at m.plan c (row_at m)) _ rows after
 
     pub shown_changed : n.plan ≡ m.plan → AreShown n
-    shown_changed plan q =
-        ap (option_map row_atom) (rows q)
-        ∙ (after q
-        ∙ (ap (λ (p : Plan A). atom_in q.list (positions_of p) (atoms_with (noted_atom m) c.id.0 (atom_if c.is_there (row_atom c.row)) q.id.0)) (sym plan)
-        ∙ ap (atom_in q.list (positions_of n.plan)) (sym (atoms_changed q.id.0))))
+    shown_changed = shown_is n m.plan (changed_at m.plan c (row_at m)) _ rows after
+
+  -- a row in the place of another
+  module _ (id : Id) (old new : Row A) (rows : (q : Place) → row_at n q ≡ changed_at m.plan (put_at id new) (changed_at m.plan (out_at id old) (row_at m)) q) (shown : AreShown m) (was : noted_atom m id.0 ≡ Some (row_atom old)) where
+    twice : Shows (positions_of m.plan) (changed_at m.plan (put_at id new) (changed_at m.plan (out_at id old) (row_at m))) (atoms_with (atoms_with (noted_atom m) id.0 None) id.0 (Some (row_atom new)))
+    twice = shows_change m.plan (put_at id new) (changed_at m.plan (out_at id old) (row_at m)) (atoms_with (noted_atom m) id.0 None) (shows_change m.plan (out_at id old) (row_at m) (noted_atom m) shown was) (none_at id.0 (noted_atom m))
+
+    pub atoms_replaced : (i : ℕ) → noted_atom n i ≡ atoms_with (noted_atom m) id.0 (Some (row_atom new)) i
+    atoms_replaced i = atoms_are n m.plan (changed_at m.plan (put_at id new) (changed_at m.plan (out_at id old) (row_at m))) _ rows twice i ∙ with_twice (i == id.0) (Some (row_atom new)) None (noted_atom m i)
+
+    pub shown_replaced : n.plan ≡ m.plan → AreShown n
+    shown_replaced = shown_is n m.plan (changed_at m.plan (put_at id new) (changed_at m.plan (out_at id old) (row_at m))) _ rows twice
 
   -- the same entries, where all changes are made
   pub rows_shared : (es : List (Place × Row A)) → ((q : Place) → row_at n q ≡ held es q) → es ≡ m.rows → IsSettled m → (q : Place) → row_at n q ≡ row_at m q
-  rows_shared es rows same settled q = rows q ∙ (ap (λ (fs : List (Place × Row A)). held fs q) same ∙ sym (settled q))
+  rows_shared es rows same settled q = rows q ∙ (ap (λ (fs : List (Place × Row A)). held fs q) same ∙ sym (settled.rows q))
 
 module _ {A : Type 0} (n : Noted A) (rows : (q : Place) → row_at n q ≡ None) where
   -- no constraint

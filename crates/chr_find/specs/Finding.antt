@@ -7,12 +7,12 @@ use Rattle.chr_semantics.specs.Program.{Atom, Rule}
 use Rattle.chr_semantics.specs.Search.{History}
 use Rattle.chr_semantics.specs.Tries.{capped, tried_tuples}
 use Rattle.chr_find.specs.First.{IsFirst}
-use Rattle.chr_find.specs.TableView.{HasRows, atom_at}
+use Rattle.chr_find.specs.TableView.{HasHistory, HasRows, atom_at}
 use Rattle.chr_find.specs.declared.active.Active.{Active}
 use Rattle.chr_find.specs.declared.active.Cursor.{Cursor}
 use Rattle.chr_find.specs.declared.table.Table.{Table}
 
-module _ {A : Type 0} (t : Table A) (h : History) (s : Active A) where
+module _ {A : Type 0} (t : Table A) (s : Active A) where
   -- the rule, and how many heads it has
   abbrev pub rule_of : Rule
   rule_of = rule_view s.rule.now
@@ -20,14 +20,14 @@ module _ {A : Type 0} (t : Table A) (h : History) (s : Active A) where
   abbrev pub heads_of : ℕ
   heads_of = length rule_of.heads
 
-  -- for the constraints of the table, where the active one is among them
-  abbrev pub ForOwn : (List semantics.Row → semantics.Row → Type 0) → Type 0
-  ForOwn P = (rows : List semantics.Row) → HasRows t rows → (a : Atom) → atom_at t s.id.0 ≡ Some a → P rows (s.id.0, a)
+  -- for the constraints of the table, where the active one is among them, and a history that has its firings
+  abbrev pub ForOwn : (List semantics.Row → History → semantics.Row → Type 0) → Type 0
+  ForOwn P = (rows : List semantics.Row) → HasRows t rows → (h : History) → HasHistory t h → (a : Atom) → atom_at t s.id.0 ≡ Some a → P rows h (s.id.0, a)
 
   -- the first tuple that can fire, and the tries of the definitions
   abbrev pub FindsFirst : Option (List ℕ) → ℕ → ℕ → Type 0
-  FindsFirst found told now = ForOwn (λ rows a. IsFirst rows h s.number rule_of s.place a heads_of found × (now ≡ capped (told + tried_tuples rows h s.number rule_of s.place a)))
+  FindsFirst found told now = ForOwn (λ rows h a. IsFirst rows h s.number rule_of s.place a heads_of found × (now ≡ capped (told + tried_tuples rows h s.number rule_of s.place a)))
 
   -- the same tuple, where the tuples that can fire lie ahead of the cursor
   abbrev pub FindsNext : Cursor → Option (List ℕ) → Type 0
-  FindsNext c found = ForOwn (λ rows a. IsSpent rows h s.number rule_of s.place a (take heads_of c.after) c.from → IsFirst rows h s.number rule_of s.place a heads_of found)
+  FindsNext c found = ForOwn (λ rows h a. IsSpent rows h s.number rule_of s.place a (take heads_of c.after) c.from → IsFirst rows h s.number rule_of s.place a heads_of found)

@@ -1,37 +1,35 @@
--- What stands at the places, as when all changes are made.
-use Rattle.std.specs.Prelude.{◌≡◌, ◌+◌, ◌≤◌, ℕ, cond, List, [], ◌∷◌, Option, option_map, drop, vec_capacity, vec_len}
+-- What stands in a table, as when all that is noted is made.
+use Rattle.std.specs.Prelude.{◌≡◌, ◌+◌, ◌≤◌, ℕ, Bool, Option, option_map, drop, vec_capacity, vec_len}
 use Rattle.chr_semantics.specs.Program.{Atom}
 use Rattle.chr_store.specs.Rows.{row_atom}
 use Rattle.chr_store.specs.declared.row.Row.{Row}
-use Rattle.chr_find.specs.Places.{held, is_place, row_if}
+use Rattle.chr_find.specs.Firings.{is_in}
+use Rattle.chr_find.specs.NoteView.{after_all, fired_after, rows_after}
+use Rattle.chr_find.specs.Places.{held}
 use Rattle.chr_find.specs.PlanView.{positions_of}
 use Rattle.chr_find.specs.Shown.{Shows}
+use Rattle.chr_find.specs.declared.firings.Firing.{Firing}
 use Rattle.chr_find.specs.declared.list.List.TheVariants.{All}
 use Rattle.chr_find.specs.declared.list.Place.{Place}
-use Rattle.chr_find.specs.declared.lists.Change.{Change}
-use Rattle.chr_find.specs.declared.plan.Plan.{Plan}
 use Rattle.chr_find.specs.declared.noted.Noted.{Noted}
 
 module _ {A : Type 0} where
-  -- after a change
-  abbrev pub changed_at : Plan A → Change A → (Place → Option (Row A)) → Place → Option (Row A)
-  changed_at p c f q = cond (is_place (positions_of p c.row.sym.0) c.id.0 c.row q) (row_if c.is_there c.row) (f q)
-
-  -- after one change after the other
-  abbrev pub changes_at : Plan A → List (Change A) → (Place → Option (Row A)) → Place → Option (Row A)
-  changes_at p [] f q = f q
-  changes_at p (c ∷ cs) f q = changes_at p cs (changed_at p c f) q
-
+  -- the row at a place
   abbrev pub row_at : Noted A → Place → Option (Row A)
-  row_at n q = changes_at n.plan (drop n.made n.changes.items) (held n.rows) q
+  row_at n q = after_all (rows_after n.plan) (drop n.made n.notes.items) (held n.rows) q
 
-  -- all changes are made
-  abbrev pub IsSettled : Noted A → Type 0
-  IsSettled n = (q : Place) → row_at n q ≡ held n.rows q
+  -- the firing is there
+  abbrev pub fired_in : Noted A → Firing → Bool
+  fired_in n x = after_all fired_after (drop n.made n.notes.items) (is_in n.fired.all) x
 
-  -- there is room for so many changes more
+  -- all is made
+  pub record IsSettled (n : Noted A) : Type 0 where
+    pub rows : (q : Place) → row_at n q ≡ held n.rows q
+    pub fired : (x : Firing) → fired_in n x ≡ is_in n.fired.all x
+
+  -- there is room for so many notes more
   abbrev pub HasRoom : ℕ → Noted A → Type 0
-  HasRoom k n = vec_len n.changes + k ≤ vec_capacity n.changes
+  HasRoom k n = vec_len n.notes + k ≤ vec_capacity n.notes
 
   -- the constraint of an identity
   abbrev pub noted_atom : Noted A → ℕ → Option Atom

@@ -8,7 +8,6 @@ use crate::Memory;
 use crate::active::{Active, Cursor};
 use crate::join::Search;
 use crate::mode::Mode;
-use crate::past::Past;
 use crate::quiet::quiet_from;
 use crate::table::Table;
 use std::alloc::Allocator;
@@ -16,16 +15,11 @@ use std::alloc::Allocator;
 impl<A: Allocator + Copy> Table<A> {
     /// The first list of partners with which the rule can fire, and one try more for each complete list that was looked at. A constraint
     /// that does not live has none.
-    pub fn first<P: Past>(
-        &self,
-        past: &P,
-        active: &Active<'_, A>,
-        tries: &mut u64,
-    ) -> Result<Option<[u64; 8]>, Memory>
+    pub fn first(&self, active: &Active<'_, A>, tries: &mut u64) -> Result<Option<[u64; 8]>, Memory>
         requires settled { IsSettled self.now }
         requires searchable { IsSearchable active.now.rule.now active.now.place }
-        ensures found { IfOk result (λ found. FindsFirst self.now (P.history past.now) active.now
-            found tries.old tries.new) }
+        ensures found { IfOk result (λ found. FindsFirst self.now active.now found tries.old
+            tries.new) }
         ensures dead { atom_at self.now active.now.id.0 ≡ None →
             IfOk result (λ found. found ≡ None) }
     {
@@ -38,7 +32,7 @@ impl<A: Allocator + Copy> Table<A> {
             alloc: self.alloc,
             plan: self.noted.plan.value(),
             rows: &self.noted.rows,
-            past,
+            past: &self.noted.fired,
             rule: active.rule,
             number: active.number,
             place: active.place,
@@ -51,17 +45,15 @@ impl<A: Allocator + Copy> Table<A> {
     }
 
     /// The same where each list that can fire is ahead of the cursor: no other is looked at.
-    pub fn next<P: Past>(
+    pub fn next(
         &self,
-        past: &P,
         active: &Active<'_, A>,
         cursor: &Cursor,
         tries: &mut u64,
     ) -> Result<Option<[u64; 8]>, Memory>
         requires settled { IsSettled self.now }
         requires searchable { IsSearchable active.now.rule.now active.now.place }
-        ensures found { IfOk result (λ found. FindsNext self.now (P.history past.now) active.now
-            cursor.now found) }
+        ensures found { IfOk result (λ found. FindsNext self.now active.now cursor.now found) }
         ensures dead { atom_at self.now active.now.id.0 ≡ None →
             IfOk result (λ found. found ≡ None) }
     {
@@ -76,7 +68,7 @@ impl<A: Allocator + Copy> Table<A> {
             alloc: self.alloc,
             plan: self.noted.plan.value(),
             rows,
-            past,
+            past: &self.noted.fired,
             rule: active.rule,
             number: active.number,
             place: active.place,

@@ -2,25 +2,35 @@
 #![tactic(auto)]
 
 mod active;
+mod answer;
 mod count;
 mod finding;
+mod fired;
 mod firings;
 mod first;
 mod join;
 mod list;
 mod lists;
 mod mode;
+mod note;
 mod noted;
 mod past;
 mod plan;
 mod planning;
 mod quiet;
+mod rebinding;
+mod resolving;
 mod root;
 mod search;
+mod searched;
+mod snapshot;
+mod standing;
 mod table;
 
 pub use active::{Active, Cursor};
+pub use answer::{Found, find};
 pub use chr_term::Memory;
-pub use past::Past;
 pub use plan::Plan;
+pub use rebinding::Rebound;
+pub use snapshot::{Snapshot, Task};
 pub use table::Table;

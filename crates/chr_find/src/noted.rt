@@ -1,78 +1,92 @@
-//! Rows by their lists, with changes that are noted first and made later.
+//! Rows by their lists, and firings, with changes that are noted first and made later.
 ghost use Rattle.std.specs.Prelude.{◌≡◌, ◌+◌, ◌≤◌, ℕ, OnOk, vec_len};
 
 use crate::Memory;
-use crate::lists::{Change, Rows};
+use crate::fired::Fired;
+use crate::lists::Rows;
+use crate::note::Note;
 use crate::plan::Plan;
 use chr_map::Pointer;
-use chr_store::Row;
 use std::alloc::Allocator;
 
-/// Rows by their lists, and changes of them. A change is noted where there is room for it, which takes no memory, and is made by `settle`. Contracts see what
-/// stands at each place when all changes are made.
+/// Rows by their lists, firings, and changes of them. A change is noted where there is room for it, which takes no memory, and is made by
+/// `settle`. Contracts see what stands when all is made.
 #[derive(Drop)]
 pub(crate) struct Noted<A: Allocator> {
     pub(crate) plan: Pointer<Plan<A>, A>,
     pub(crate) rows: Rows<A>,
-    changes: Vec<Change<A>, A>,
-    /// How many of the changes are made.
+    pub(crate) fired: Fired<A>,
+    notes: Vec<Note<A>, A>,
+    /// How many of the notes are made.
     made: usize,
-    ghost noted: { made ≤ vec_len changes },
+    ghost noted: { made ≤ vec_len notes },
 }
 
 impl<A: Allocator + Copy> Noted<A> {
+    ghost use Rattle.chr_find.specs.declared.firings.Firing.{Firing};
     ghost use Rattle.chr_find.specs.declared.list.Place.{Place};
+    ghost use Rattle.chr_find.specs.Firings.{is_in};
+    ghost use Rattle.chr_find.specs.NoteView.{fired_after, rows_after};
     ghost use Rattle.chr_find.specs.Places.{held};
-    ghost use Rattle.chr_find.specs.NotedView.{HasRoom, IsSettled, changed_at, row_at};
+    ghost use Rattle.chr_find.specs.NotedView.{HasRoom, IsSettled, fired_in, row_at};
 
-    /// These rows, and no change.
-    pub(crate) fn new(alloc: A, plan: Pointer<Plan<A>, A>, rows: Rows<A>) -> Noted<A>
+    /// These rows and firings, and nothing noted.
+    pub(crate) fn new(
+        alloc: A,
+        plan: Pointer<Plan<A>, A>,
+        rows: Rows<A>,
+        fired: Fired<A>,
+    ) -> Noted<A>
         ensures rows { (q : Place) → row_at result q ≡ held rows q }
+        ensures fired { (f : Firing) → fired_in result f ≡ is_in fired.all f }
         ensures settled { IsSettled result }
         ensures plan { result.plan ≡ plan }
     {
         Noted {
             plan,
             rows,
-            changes: Vec::new(alloc),
+            fired,
+            notes: Vec::new(alloc),
             made: 0,
         }
     }
 
-    /// Makes room for so many changes.
+    /// Makes room for so many notes.
     pub(crate) fn room(&mut self, more: usize) -> Result<(), Memory>
-        ensures same { (q : Place) → row_at self.new q ≡ row_at self.old q }
+        ensures rows { (q : Place) → row_at self.new q ≡ row_at self.old q }
+        ensures fired { (f : Firing) → fired_in self.new f ≡ fired_in self.old f }
         ensures plan { self.new.plan ≡ self.old.plan }
         ensures ok { OnOk result (HasRoom more self.new) }
     {
-        self.changes.reserve(more)?;
+        self.notes.reserve(more)?;
         Ok(())
     }
 
-    /// Notes a change.
-    pub(crate) fn note(&mut self, change: Change<A>)
+    /// Notes what has to be made.
+    pub(crate) fn note(&mut self, note: Note<A>)
         requires { HasRoom 1 self.now }
         ensures rows { (q : Place) → row_at self.new q
-            ≡ changed_at self.old.plan change (row_at self.old) q }
+            ≡ rows_after self.old.plan note (row_at self.old) q }
+        ensures fired { (f : Firing) → fired_in self.new f ≡ fired_after note (fired_in self.old) f }
         ensures plan { self.new.plan ≡ self.old.plan }
         ensures room { (n : ℕ) → HasRoom (n + 1) self.old → HasRoom n self.new }
     {
-        self.changes.push_reserved(change);
+        self.notes.push_reserved(note);
     }
 
-    /// Makes all changes. Where that is refused, some may be made in part, and stay noted.
+    /// Makes all that is noted. Where that is refused, some of it may be made in part, and stays noted.
     pub(crate) fn settle(&mut self) -> Result<(), Memory>
-        ensures same { (q : Place) → row_at self.new q ≡ row_at self.old q }
+        ensures rows { (q : Place) → row_at self.new q ≡ row_at self.old q }
+        ensures fired { (f : Firing) → fired_in self.new f ≡ fired_in self.old f }
         ensures plan { self.new.plan ≡ self.old.plan }
         ensures ok { OnOk result (IsSettled self.new) }
     {
-        while let Some(change) = self.changes.get(self.made) {
-            let positions = self.plan.value().positions(change.row.value().sym);
-            change.make(&mut self.rows, positions)?;
+        while let Some(note) = self.notes.get(self.made) {
+            note.make(self.plan.value(), &mut self.rows, &mut self.fired)?;
             self.made += 1;
         }
         self.made = 0;
-        self.changes.clear();
+        self.notes.clear();
         Ok(())
     }
 }

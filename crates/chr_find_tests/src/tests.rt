@@ -11,20 +11,6 @@ use std::test::Fail;
 mod plain;
 mod random;
 
-/// Nothing has fired.
-#[derive(Drop)]
-struct Nothing {}
-
-impl Past for Nothing {
-    ghost use Rattle.std.specs.Prelude.{[]};
-
-    ghost history = { λ nothing. [] };
-
-    fn was_fired(&self, _rule: u64, _ids: &[u64]) -> bool {
-        false
-    }
-}
-
 /// Adds a constraint, if there is none with its identity.
 fn add<A: Allocator + Copy>(
     table: &mut Table<A>,
@@ -52,6 +38,15 @@ fn remove<A: Allocator + Copy>(table: &mut Table<A>, id: u64) -> Result<(), Memo
     Ok(())
 }
 
+/// Notes a firing, if it has no more identities than a rule can have heads.
+fn fire<A: Allocator + Copy>(table: &mut Table<A>, rule: u64, ids: &[u64]) -> Result<(), Memory> {
+    if ids.len() <= 8 {
+        table.room(1)?;
+        table.fire(rule, ids);
+    }
+    Ok(())
+}
+
 /// The constraints of a query, which get the identities from 1 on.
 fn table_of<A: Allocator + Copy>(
     alloc: A,
@@ -75,7 +70,6 @@ fn table_of<A: Allocator + Copy>(
 fn first<A: Allocator + Copy>(
     alloc: A,
     table: &mut Table<A>,
-    past: &impl Past,
     program: &Program<A>,
     id: u64,
     number: u32,
@@ -91,7 +85,7 @@ fn first<A: Allocator + Copy>(
     };
     let active = Active::at(program, occurrence, Id(id));
     let mut tries = 0;
-    let found = table.first(past, &active, &mut tries)?;
+    let found = table.first(&active, &mut tries)?;
     let ids = match found {
         None => None,
         Some(ids) => Some(listed(alloc, &ids[..active.rule.heads.len()])?),
@@ -118,7 +112,7 @@ fn assert_first(
 ) -> Result<(), Fail> {
     let (program, query) = both_of(alloc, texts.0, texts.1)?;
     let mut table = table_of(alloc, &program, query)?;
-    let (found, _) = first(alloc, &mut table, &Nothing {}, &program, id, number)?;
+    let (found, _) = first(alloc, &mut table, &program, id, number)?;
     match (found, wanted) {
         (None, None) => {}
         (Some(found), Some(wanted)) => assert_eq!(rt; found.as_slice(), wanted),
@@ -145,4 +139,34 @@ fn one_row_two_heads(rt: HostRuntime) -> Result<(), Fail> {
     assert_first(&rt, rt.alloc(), texts, 1, 1, None)?;
     let texts = (":- chr_constraint p/1. p(X), p(Y) <=> true.", "p(1), p(1).");
     assert_first(&rt, rt.alloc(), texts, 1, 1, Some(&[2, 1]))
+}
+
+/// A list that has fired does not fire again; the next one does.
+#[test]
+fn history_goes_on(rt: HostRuntime) -> Result<(), Fail> {
+    let alloc = rt.alloc();
+    let (program, query) = both_of(
+        alloc,
+        ":- chr_constraint p/1, q/1. p(X), q(Y) ==> true.",
+        "q(1), q(2), p(3).",
+    )?;
+    let mut table = table_of(alloc, &program, query)?;
+    fire(&mut table, 0, &[3, 1])?;
+    let (found, _) = first(alloc, &mut table, &program, 3, 1)?;
+    assert!(&rt; is_list(&found, &[3, 2]));
+    fire(&mut table, 0, &[3, 2])?;
+    let (found, _) = first(alloc, &mut table, &program, 3, 1)?;
+    assert!(&rt; found.is_none());
+    remove(&mut table, 1)?;
+    remove(&mut table, 2)?;
+    let (found, _) = first(alloc, &mut table, &program, 3, 1)?;
+    assert!(&rt; found.is_none());
+    Ok(())
+}
+
+fn is_list<A: Allocator>(found: &Option<Vec<u64, A>>, wanted: &[u64]) -> bool {
+    match found {
+        None => false,
+        Some(found) => found.as_slice() == wanted,
+    }
 }

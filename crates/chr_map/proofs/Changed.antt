@@ -5,11 +5,11 @@ use Rattle.std.specs.Cmp.{IsTotalOrder}
 use Rattle.std.specs.declared.cmp.Ordering.{Ordering}
 use Rattle.std.specs.declared.cmp.Ordering.TheVariants.{Less, Equal, Greater}
 use Rattle.chr_map.specs.Entries.{link_entries, node_entries}
-use Rattle.chr_map.specs.Order.{Ascends, entry_put, entry_removed, value_of}
+use Rattle.chr_map.specs.Order.{Ascends, entry_edited, entry_put, entry_removed, value_of}
 use Rattle.chr_map.specs.Taking.{HasFirst, entries_below}
 use Rattle.chr_map.specs.declared.node.Node.{Node}
 use Rattle.chr_map.specs.declared.node.Taken.{Taken}
-use Rattle.chr_map.proofs.Ordered.{ascends_before, ascends_from, put_after, put_before, put_here, removed_after, removed_before, removed_here, value_after, value_before, value_here}
+use Rattle.chr_map.proofs.Ordered.{ascends_before, ascends_from, edited_after, edited_before, edited_here, put_after, put_before, put_here, removed_after, removed_before, removed_here, value_after, value_before, value_here}
 use Rattle.chr_map.proofs.Parts.{node_is, parts}
 
 -- what was taken out first
@@ -64,6 +64,18 @@ module _ {K V A : Type 0} (n : Node K V A) where
     pub put_in_right : IsTotalOrder cmp → (k : K) (v : V) (new es : List (K × V)) (o : Ordering) → o ≡ cmp k (parts n).key → o ≡ Greater → es ≡ left ++ top ∷ new → (Ascends cmp right → new ≡ entry_put cmp right k v)
         → Ascends cmp (node_entries n) → es ≡ entry_put cmp (node_entries n) k v
     put_in_right total k v new es o c e is r up = is ∙ (rw (r (right_ascends up), node_is n) (sym (put_after cmp total k v left top right (whole up) (sym c ∙ e))))
+
+    pub edited_in_left : (f : V → V) (k : K) (new es : List (K × V)) (o : Ordering) → o ≡ cmp k (parts n).key → o ≡ Less → es ≡ new ++ top ∷ right → (Ascends cmp left → new ≡ entry_edited cmp f left k)
+        → Ascends cmp (node_entries n) → es ≡ entry_edited cmp f (node_entries n) k
+    edited_in_left f k new es o c e is l up = is ∙ (rw (l (left_ascends up), node_is n) (sym (edited_before cmp f k left top right (sym c ∙ e))))
+
+    pub edited_at_top : IsTotalOrder cmp → (f : V → V) (k : K) (v : V) (es : List (K × V)) (o : Ordering) → o ≡ cmp k (parts n).key → o ≡ Equal → es ≡ left ++ ((parts n).key, v) ∷ right → v ≡ f (parts n).value
+        → Ascends cmp (node_entries n) → es ≡ entry_edited cmp f (node_entries n) k
+    edited_at_top total f k v es o c e is v_is up = is ∙ (rw (v_is, node_is n) (sym (edited_here cmp f total k left top right (whole up) (sym c ∙ e))))
+
+    pub edited_in_right : IsTotalOrder cmp → (f : V → V) (k : K) (new es : List (K × V)) (o : Ordering) → o ≡ cmp k (parts n).key → o ≡ Greater → es ≡ left ++ top ∷ new → (Ascends cmp right → new ≡ entry_edited cmp f right k)
+        → Ascends cmp (node_entries n) → es ≡ entry_edited cmp f (node_entries n) k
+    edited_in_right total f k new es o c e is r up = is ∙ (rw (r (right_ascends up), node_is n) (sym (edited_after cmp f total k left top right (whole up) (sym c ∙ e))))
 
     pub removed_in_left : IsTotalOrder cmp → (k : K) (new es : List (K × V)) (o : Ordering) → o ≡ cmp k (parts n).key → o ≡ Less → es ≡ new ++ top ∷ right → (Ascends cmp left → new ≡ entry_removed cmp left k)
         → Ascends cmp (node_entries n) → es ≡ entry_removed cmp (node_entries n) k

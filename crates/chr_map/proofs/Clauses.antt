@@ -2,15 +2,15 @@
 use Rattle.std.proofs.Common.{◌≡◌, sym, subst}
 use Rattle.std.specs.Prelude.{Result, Ok, Err, IfOk, OnErr, OnOk}
 
--- a clause of an answer leads to one of an equal answer
-ok_leads : {X E : Type 0} (P Q : Type 0) (r : Result X E) → OnOk r P → (P → Q) → OnOk r Q
+-- a clause of an answer leads to another, also of an equal answer
+pub ok_leads : {X E : Type 0} (P Q : Type 0) (r : Result X E) → OnOk r P → (P → Q) → OnOk r Q
 ok_leads P Q (Ok x) h f = f h
 ok_leads P Q (Err x) h f = tt
 
 pub ok_more : {X E : Type 0} (P Q : Type 0) (a r : Result X E) → a ≡ r → OnOk r P → (P → Q) → OnOk a Q
 ok_more {X = X} {E = E} P Q a r e h f = subst (λ (x : Result X E). OnOk x Q) (sym e) (ok_leads P Q r h f)
 
-err_leads : {X E : Type 0} (P Q : Type 0) (r : Result X E) → OnErr r P → (P → Q) → OnErr r Q
+pub err_leads : {X E : Type 0} (P Q : Type 0) (r : Result X E) → OnErr r P → (P → Q) → OnErr r Q
 err_leads P Q (Ok x) h f = tt
 err_leads P Q (Err x) h f = f h
 

@@ -2,10 +2,11 @@
 use Rattle.std.proofs.Common.{◌≡◌, ◌∙◌, Bool, true, false, not, cond, List, [], ◌∷◌, ap, refl, sym}
 use Rattle.std.specs.Prelude.{Option, Some, None}
 use Rattle.std.specs.Cmp.{IsTotalOrder}
+use Rattle.std.specs.Option.{option_map}
 use Rattle.std.specs.declared.cmp.Ordering.{Ordering}
 use Rattle.std.specs.declared.cmp.Ordering.TheVariants.{Less, Equal, Greater}
 use Rattle.std.specs.Ordering.{is_eq, match_ordering, ordering_reverse}
-use Rattle.chr_map.specs.Order.{AllAbove, Ascends, entry_put, entry_removed, value_of}
+use Rattle.chr_map.specs.Order.{AllAbove, Ascends, entry_edited, entry_put, entry_removed, value_of}
 use Rattle.chr_map.proofs.Ordered.{alike, back}
 
 module _ {K V : Type 0} (cmp : K → K → Ordering) (total : IsTotalOrder cmp) where
@@ -46,6 +47,46 @@ module _ {K V : Type 0} (cmp : K → K → Ordering) (total : IsTotalOrder cmp) 
   pub value_of-put : (es : List (K × V)) (k : K) (v : V) (j : K) → value_of cmp (entry_put cmp es k v) j ≡ cond (is_eq (cmp j k)) (Some v) (value_of cmp es j)
   value_of-put [] k v j = put_in_none (cmp j k) v
   value_of-put (e ∷ es) k v j = put_at j k v e es (cmp k e.0) refl (value_of-put es k v j)
+
+  -- at keys that are equal stands the same
+  same_value : (j k : K) (es : List (K × V)) → cmp j k ≡ Equal → value_of cmp es j ≡ value_of cmp es k
+  same_value j k [] is = refl
+  same_value j k (e ∷ es) is = rw (total.congr j k e.0 is, same_value j k es is) refl
+
+  not_here : (o : Ordering) (v x : V) (rest : Option V) → is_eq o ≡ false → match_ordering o None (Some v) rest ≡ match_ordering o None (Some x) rest
+  not_here Less v x rest e = refl
+  not_here Equal v x rest e = cc
+  not_here Greater v x rest e = refl
+
+  module _ (f : V → V) (k : K) where
+    edited_there_at : (e : K × V) (es : List (K × V)) (o : Ordering) → cmp k e.0 ≡ o → value_of cmp (entry_edited cmp f es k) k ≡ option_map f (value_of cmp es k)
+        → value_of cmp (match_ordering o (e ∷ es) ((e.0, f e.1) ∷ es) (e ∷ entry_edited cmp f es k)) k ≡ option_map f (match_ordering o None (Some e.1) (value_of cmp es k))
+    edited_there_at e es Less at go = rw at refl
+    edited_there_at e es Equal at go = rw at refl
+    edited_there_at e es Greater at go = rw at go
+
+    edited_there : (es : List (K × V)) → value_of cmp (entry_edited cmp f es k) k ≡ option_map f (value_of cmp es k)
+    edited_there [] = refl
+    edited_there (e ∷ es) = edited_there_at e es (cmp k e.0) refl (edited_there es)
+
+    edited_elsewhere_at : (j : K) (e : K × V) (es : List (K × V)) (o : Ordering) → cmp k e.0 ≡ o → is_eq (cmp j k) ≡ false → value_of cmp (entry_edited cmp f es k) j ≡ value_of cmp es j
+        → value_of cmp (match_ordering o (e ∷ es) ((e.0, f e.1) ∷ es) (e ∷ entry_edited cmp f es k)) j ≡ value_of cmp (e ∷ es) j
+    edited_elsewhere_at j e es Less at other go = refl
+    edited_elsewhere_at j e es Equal at other go = not_here (cmp j e.0) (f e.1) e.1 (value_of cmp es j) (ap is_eq (sym (alike cmp total j k e.0 at)) ∙ other)
+    edited_elsewhere_at j e es Greater at other go = ap (λ (rest : Option V). match_ordering (cmp j e.0) None (Some e.1) rest) go
+
+    edited_elsewhere : (es : List (K × V)) (j : K) → is_eq (cmp j k) ≡ false → value_of cmp (entry_edited cmp f es k) j ≡ value_of cmp es j
+    edited_elsewhere [] j other = refl
+    edited_elsewhere (e ∷ es) j other = edited_elsewhere_at j e es (cmp k e.0) refl other (edited_elsewhere es j other)
+
+    edited_by_order : (es : List (K × V)) (j : K) (o : Ordering) → cmp j k ≡ o → value_of cmp (entry_edited cmp f es k) j ≡ cond (is_eq o) (option_map f (value_of cmp es j)) (value_of cmp es j)
+    edited_by_order es j Less is = edited_elsewhere es j (ap is_eq is)
+    edited_by_order es j Equal is = same_value j k (entry_edited cmp f es k) is ∙ (edited_there es ∙ ap (option_map f) (sym (same_value j k es is)))
+    edited_by_order es j Greater is = edited_elsewhere es j (ap is_eq is)
+
+  -- at a key whose value was changed stands the new one, and elsewhere what stood there
+  pub value_of-edited : (f : V → V) (es : List (K × V)) (k j : K) → value_of cmp (entry_edited cmp f es k) j ≡ cond (is_eq (cmp j k)) (option_map f (value_of cmp es j)) (value_of cmp es j)
+  value_of-edited f es k j = edited_by_order f k es j (cmp j k) refl
 
   gone : (j k m : K) (x : V) (o : Ordering) (old : Option V) → cmp k m ≡ Equal → cmp j m ≡ o → (o ≡ Less → old ≡ None) → cond (is_eq (cmp j k)) None old ≡ cond (is_eq (cmp j k)) None (match_ordering o None (Some x) old)
   gone j k m x Less old at is none = rw (none refl) refl

@@ -6,7 +6,7 @@ use Rattle.std.specs.declared.cmp.Ordering.{Ordering}
 use Rattle.std.specs.declared.cmp.Ordering.TheVariants.{Less, Equal, Greater}
 use Rattle.std.specs.Ordering.{is_eq, match_ordering, ordering_reverse}
 use Rattle.std.proofs.lemmas.List.Elements.{filter-append}
-use Rattle.chr_map.specs.Order.{AllAbove, Ascends, entry_put, entry_removed, is_at, value_of}
+use Rattle.chr_map.specs.Order.{AllAbove, Ascends, entry_edited, entry_put, entry_removed, is_at, value_of}
 
 module _ {K : Type 0} (cmp : K → K → Ordering) (total : IsTotalOrder cmp) where
   turned : (j k : K) → cmp j k ≡ Less → cmp k j ≡ Greater
@@ -81,6 +81,28 @@ module _ {K V : Type 0} (cmp : K → K → Ordering) where
 
   pub put_after : IsTotalOrder cmp → (k : K) (v : V) (xs : List (K × V)) (m : K × V) (ys : List (K × V)) → Ascends cmp (xs ++ m ∷ ys) → cmp k m.0 ≡ Greater → entry_put cmp (xs ++ m ∷ ys) k v ≡ xs ++ m ∷ entry_put cmp ys k v
   put_after total k v xs m ys up e = put_past k v xs (m ∷ ys) (all_greater total k xs m ys up e) ∙ rw e refl
+
+  -- changing
+  module _ (f : V → V) where
+    edited_at : (o : Ordering) (k : K) (x : K × V) (xs zs : List (K × V)) → entry_edited cmp f (xs ++ zs) k ≡ entry_edited cmp f xs k ++ zs
+        → match_ordering o (x ∷ (xs ++ zs)) ((x.0, f x.1) ∷ (xs ++ zs)) (x ∷ entry_edited cmp f (xs ++ zs) k) ≡ match_ordering o (x ∷ xs) ((x.0, f x.1) ∷ xs) (x ∷ entry_edited cmp f xs k) ++ zs
+    edited_at Less k x xs zs go = refl
+    edited_at Equal k x xs zs go = refl
+    edited_at Greater k x xs zs go = ap (λ (l : List (K × V)). x ∷ l) go
+
+    pub edited_before : (k : K) (xs : List (K × V)) (m : K × V) (ys : List (K × V)) → cmp k m.0 ≡ Less → entry_edited cmp f (xs ++ m ∷ ys) k ≡ entry_edited cmp f xs k ++ m ∷ ys
+    edited_before k [] m ys e = rw e refl
+    edited_before k (x ∷ xs) m ys e = edited_at (cmp k x.0) k x xs (m ∷ ys) (edited_before k xs m ys e)
+
+    edited_past : (k : K) (xs zs : List (K × V)) → AllCompare Greater k xs → entry_edited cmp f (xs ++ zs) k ≡ xs ++ entry_edited cmp f zs k
+    edited_past k [] zs h = refl
+    edited_past k (x ∷ xs) zs h = rw h.0 (ap (λ (l : List (K × V)). x ∷ l) (edited_past k xs zs h.1))
+
+    pub edited_here : IsTotalOrder cmp → (k : K) (xs : List (K × V)) (m : K × V) (ys : List (K × V)) → Ascends cmp (xs ++ m ∷ ys) → cmp k m.0 ≡ Equal → entry_edited cmp f (xs ++ m ∷ ys) k ≡ xs ++ (m.0, f m.1) ∷ ys
+    edited_here total k xs m ys up e = edited_past k xs (m ∷ ys) (all_greater_at total k xs m ys up e) ∙ rw e refl
+
+    pub edited_after : IsTotalOrder cmp → (k : K) (xs : List (K × V)) (m : K × V) (ys : List (K × V)) → Ascends cmp (xs ++ m ∷ ys) → cmp k m.0 ≡ Greater → entry_edited cmp f (xs ++ m ∷ ys) k ≡ xs ++ m ∷ entry_edited cmp f ys k
+    edited_after total k xs m ys up e = edited_past k xs (m ∷ ys) (all_greater total k xs m ys up e) ∙ rw e refl
 
   -- looking up
   value_at_test : (o : Ordering) (k : K) (x : K × V) (xs zs : List (K × V)) → value_of cmp (xs ++ zs) k ≡ value_of cmp xs k → match_ordering o None (Some x.1) (value_of cmp (xs ++ zs) k) ≡ match_ordering o None (Some x.1) (value_of cmp xs k)
@@ -162,3 +184,21 @@ module _ {K V : Type 0} (cmp : K → K → Ordering) where
   pub ascends_removed : (k : K) (es : List (K × V)) → Ascends cmp es → Ascends cmp (entry_removed cmp es k)
   ascends_removed k [] h = tt
   ascends_removed k (e ∷ es) h = ascends_removed_at e (entry_removed cmp es k) (not (is_at cmp k e)) (above_removed e.0 k es h.0) (ascends_removed k es h.1)
+
+  above_edited_at : (f : V → V) (j : K) (e : K × V) (es new : List (K × V)) (o : Ordering) → AllAbove cmp j (e ∷ es) → AllAbove cmp j new → AllAbove cmp j (match_ordering o (e ∷ es) ((e.0, f e.1) ∷ es) (e ∷ new))
+  above_edited_at f j e es new Less h go = h
+  above_edited_at f j e es new Equal h go = h
+  above_edited_at f j e es new Greater h go = (h.0, go)
+
+  above_edited : (f : V → V) (j k : K) (es : List (K × V)) → AllAbove cmp j es → AllAbove cmp j (entry_edited cmp f es k)
+  above_edited f j k [] h = tt
+  above_edited f j k (e ∷ es) h = above_edited_at f j e es (entry_edited cmp f es k) (cmp k e.0) h (above_edited f j k es h.1)
+
+  ascends_edited_at : (f : V → V) (e : K × V) (es new : List (K × V)) (o : Ordering) → Ascends cmp (e ∷ es) → AllAbove cmp e.0 new → Ascends cmp new → Ascends cmp (match_ordering o (e ∷ es) ((e.0, f e.1) ∷ es) (e ∷ new))
+  ascends_edited_at f e es new Less h above go = h
+  ascends_edited_at f e es new Equal h above go = h
+  ascends_edited_at f e es new Greater h above go = (above, go)
+
+  pub ascends_edited : (f : V → V) (k : K) (es : List (K × V)) → Ascends cmp es → Ascends cmp (entry_edited cmp f es k)
+  ascends_edited f k [] h = tt
+  ascends_edited f k (e ∷ es) h = ascends_edited_at f e es (entry_edited cmp f es k) (cmp k e.0) h (above_edited f e.0 k es h.0) (ascends_edited f k es h.1)

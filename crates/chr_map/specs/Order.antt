@@ -1,4 +1,4 @@
--- Entries in the order of their keys, one more of them, one less, and the one at a key.
+-- Entries in the order of their keys, one more of them, one less, one changed, and the one at a key.
 use Rattle.std.specs.Prelude.{◌≡◌, Bool, not, List, [], ◌∷◌, Option, Some, None, filter}
 use Rattle.std.specs.declared.cmp.Ordering.{Ordering}
 use Rattle.std.specs.declared.cmp.Ordering.TheVariants.{Less}
@@ -19,6 +19,11 @@ module _ {K V : Type 0} (cmp : K → K → Ordering) where
   abbrev pub entry_put : List (K × V) → K → V → List (K × V)
   entry_put [] k v = (k, v) ∷ []
   entry_put (e ∷ es) k v = match_ordering (cmp k e.0) ((k, v) ∷ e ∷ es) ((e.0, v) ∷ es) (e ∷ entry_put es k v)
+
+  -- with f applied to the value at the key k
+  abbrev pub entry_edited : (V → V) → List (K × V) → K → List (K × V)
+  entry_edited f [] k = []
+  entry_edited f (e ∷ es) k = match_ordering (cmp k e.0) (e ∷ es) ((e.0, f e.1) ∷ es) (e ∷ entry_edited f es k)
 
   abbrev pub is_at : K → K × V → Bool
   is_at k e = is_eq (cmp k e.0)

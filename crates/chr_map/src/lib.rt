@@ -1,12 +1,14 @@
 //! Ordered maps that are shared for a pointer: a change copies what two maps have in common, and that alone.
 #![tactic(auto)]
 
+mod edit;
 mod map;
 mod node;
 mod part;
 mod pointer;
 mod share;
 
+pub use edit::Edit;
 pub use map::Map;
 pub use part::{Middle, Part};
 pub use pointer::Pointer;

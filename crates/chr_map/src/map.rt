@@ -1,11 +1,11 @@
 //! Ordered maps.
 ghost use Rattle.std.specs.Prelude.{◌≡◌, [], OnErr, OnOk};
 ghost use Rattle.std.specs.Option.{option_copied};
-ghost use Rattle.chr_map.specs.Order.{Ascends, entry_put, entry_removed, value_of};
+ghost use Rattle.chr_map.specs.Order.{Ascends, entry_edited, entry_put, entry_removed, value_of};
 
-use crate::node::{Link, found, put, share_link, take_out};
+use crate::node::{Link, edit_at, found, put, share_link, take_out};
 use crate::part::Part;
-use crate::{Memory, Share};
+use crate::{Edit, Memory, Share};
 use std::alloc::{Allocator, Global};
 use std::marker::Model;
 
@@ -52,6 +52,15 @@ impl<K: Ord + Copy, V: Share, A: Allocator + Copy> Map<K, V, A> {
         ensures err { OnErr result (self.new ≡ self.old) }
     {
         put(&mut self.root, self.alloc, key, value)
+    }
+
+    /// Changes the value at a key, if there is one. What other maps have in common with this one is copied first. A refused call leaves the
+    /// map as it was.
+    pub fn edit<E: Edit<V>>(&mut self, key: &K, edit: &E) -> Result<(), Memory>
+        ensures ok { OnOk result (self.new ≡ entry_edited K.cmp (E.edited edit.now) self.old key.now) }
+        ensures err { OnErr result (self.new ≡ self.old) }
+    {
+        edit_at(&mut self.root, key, edit)
     }
 
     /// Takes out a key and its value, if it is there. A refused call leaves the map as it was.

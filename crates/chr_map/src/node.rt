@@ -2,10 +2,10 @@
 ghost use Rattle.std.specs.Prelude.{◌≡◌, ◌++◌, ◌∷◌, [], IfOk, OnErr, OnOk};
 ghost use Rattle.std.specs.Option.{option_copied};
 ghost use Rattle.chr_map.specs.Entries.{link_entries, node_entries};
-ghost use Rattle.chr_map.specs.Order.{Ascends, entry_put, entry_removed, value_of};
+ghost use Rattle.chr_map.specs.Order.{Ascends, entry_edited, entry_put, entry_removed, value_of};
 ghost use Rattle.chr_map.specs.Taking.{HasFirst, entries_around, entries_below, left_entries};
 
-use crate::{Memory, Share};
+use crate::{Edit, Memory, Share};
 use std::alloc::Allocator;
 use std::cmp::Ordering;
 use std::mem;
@@ -200,6 +200,40 @@ fn put_below<K: Ord + Copy, V: Share, A: Allocator + Copy>(
     };
     node.balance();
     answer
+}
+
+/// Changes the value at a key. A refused call leaves the entries as they were.
+#[cycle(edit_at)]
+pub(crate) fn edit_at<K: Ord + Copy, V: Share, A: Allocator + Copy, E: Edit<V>>(
+    link: &mut Link<K, V, A>,
+    key: &K,
+    edit: &E,
+) -> Result<(), Memory>
+    ensures ok { OnOk result (Ascends K.cmp (link_entries link.old) → link_entries link.new
+        ≡ entry_edited K.cmp (E.edited edit.now) (link_entries link.old) key.now) }
+    ensures err { OnErr result (link_entries link.new ≡ link_entries link.old) }
+{
+    match link {
+        None => Ok(()),
+        Some(node) => edit_below(Arc::make_mut(node)?, key, edit),
+    }
+}
+
+#[cycle(edit_at)]
+fn edit_below<K: Ord + Copy, V: Share, A: Allocator + Copy, E: Edit<V>>(
+    node: &mut Node<K, V, A>,
+    key: &K,
+    edit: &E,
+) -> Result<(), Memory>
+    ensures ok { OnOk result (Ascends K.cmp (node_entries node.old) → node_entries node.new
+        ≡ entry_edited K.cmp (E.edited edit.now) (node_entries node.old) key.now) }
+    ensures err { OnErr result (node_entries node.new ≡ node_entries node.old) }
+{
+    match key.cmp(&node.key) {
+        Ordering::Less => edit_at(&mut node.left, key, edit),
+        Ordering::Equal => edit.edit(&mut node.value),
+        Ordering::Greater => edit_at(&mut node.right, key, edit),
+    }
 }
 
 /// What stands in the place of a node out of which an entry was taken.

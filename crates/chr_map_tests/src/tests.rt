@@ -1,3 +1,5 @@
+ghost use Rattle.std.specs.Prelude.{◌+◌, ◌%◌, ◌^◌};
+
 use chr_map::*;
 use refusing_alloc::{Refusing, refused_in_turn};
 use std::alloc::{Allocator, Global};
@@ -117,6 +119,51 @@ fn are_changed(meter: &Refusing<Global>, rt: &impl Abort, left: u64) -> Result<b
 fn refused(rt: HostRuntime) -> Result<(), Fail> {
     let meter = Refusing::new(rt.alloc(), 0);
     let refused = refused_in_turn(60, |left| are_changed(&meter, &rt, left))?;
+    assert!(&rt; refused > 0 && refused < 60, "{refused}");
+    Ok(())
+}
+
+/// Adds to the number behind a pointer, by a pointer to the sum.
+#[derive(Drop)]
+struct Adds<A: Allocator> {
+    alloc: A,
+    number: u64,
+}
+
+impl<A: Allocator + Copy> Edit<Pointer<u64, A>> for Adds<A> {
+    ghost edited = { λ adds old. (old + adds.number) % 2 ^ 64 };
+
+    fn edit(&self, value: &mut Pointer<u64, A>) -> Result<(), Memory> {
+        *value = Pointer::new(self.alloc, value.value().wrapping_add(self.number))?;
+        Ok(())
+    }
+}
+
+/// Whether an edit goes through with so many growths, behind a map that is kept. A refused one leaves the map as it was, and the kept one
+/// does not see it.
+fn is_edited(meter: &Refusing<Global>, rt: &impl Abort, left: u64) -> Result<bool, Memory> {
+    meter.allow(1_000_000);
+    let kept = numbers(meter, 20, 7)?;
+    let mut map = kept.share()?;
+    let adds = Adds {
+        alloc: meter,
+        number: 5,
+    };
+    meter.allow(left);
+    let is_edited = map.edit(&11, &adds).is_ok();
+    assert!(rt; is_edited || meter.asked() > left, "{left}");
+    assert_eq!(rt; value(&map, 11), Some(if is_edited { 115 } else { 110 }));
+    assert_eq!(rt; (value(&map, 10), value(&kept, 11)), (Some(100), Some(110)));
+    meter.allow(1_000_000);
+    map.edit(&30, &adds)?;
+    assert_eq!(rt; value(&map, 30), None);
+    Ok(is_edited)
+}
+
+#[test]
+fn edited(rt: HostRuntime) -> Result<(), Fail> {
+    let meter = Refusing::new(rt.alloc(), 0);
+    let refused = refused_in_turn(60, |left| is_edited(&meter, &rt, left))?;
     assert!(&rt; refused > 0 && refused < 60, "{refused}");
     Ok(())
 }

@@ -16,7 +16,7 @@ use Rattle.chr_semantics.specs.Match.{Row, fit_atom, fits}
 use Rattle.chr_semantics.specs.Guard.{all_entailed}
 use Rattle.chr_semantics.specs.Search.{History, ids_of, fired_before, passes_guard, can_fire, first_tuple, tuples, IsTuple}
 use Rattle.chr_semantics.proofs.TriesLaw.{tried_kept}
-use Rattle.chr_semantics.proofs.Lists.{got_below, AllPairs-head, AllPairs-tail}
+use Rattle.chr_semantics.proofs.Lists.{contains_cases, got_below, AllPairs-head, AllPairs-tail}
 use Rattle.chr_semantics.proofs.TuplesLaw.{tuples_law}
 use Rattle.chr_semantics.specs.Tries.{tried, fits_some}
 use Rattle.chr_semantics.specs.Cursor.{lex_lt, is_new, lies_ahead, IsSpent, IsGrown, CursorLaw, admitted, GatedLaw}
@@ -45,10 +45,6 @@ lex_less (x ∷ xs) [] e = cc
 lex_less (x ∷ xs) (y ∷ ys) e = lex_at x y xs ys (lex_less xs ys) (order x y) e
 
 -- the first that passes stands before each other that does
-contains_cases : {X : Type 0} (x z : X) (xs : List X) → Contains (x ∷ xs) z → (x ≡ z) ⊎ Contains xs z
-contains_cases x z xs (zero, lt, e) = inl e
-contains_cases x z xs (suc k, lt, e) = inr (k, omega (arith, lt), e)
-
 found_first : {X : Type 0} (R : X → X → Type 0) (p : X → Bool) (xs : List X) (x z : X) → find p xs ≡ Some x → AllPairs R xs → Contains xs z → p z ≡ true → (x ≡ z) ⊎ R x z
 found_first R p [] x z e r c t = cc
 found_first {X = X} R p (y ∷ xs) x z e r c t = first_at (p y) refl e (contains_cases y z xs c) (λ f d. found_first R p xs x z f (AllPairs-tail R y xs r) d t)

@@ -45,7 +45,8 @@ tuples_all test rows a place (suc n) used k h l =
 same_find_at : (b c : Bool) (t : List Row) (m n : Option (List Row)) → b ≡ c → m ≡ n → cond b (Some t) m ≡ cond c (Some t) n
 same_find_at b c t m n e f = cc
 
-find_agree : (test : Row → Bool) (f g : List Row → Bool) (ts : List (List Row)) → ((t : List Row) → list_all test t ≡ true → f t ≡ g t) → AllRows test ts → find f ts ≡ find g ts
+-- searches with tests that agree on such tuples find the same
+pub find_agree : (test : Row → Bool) (f g : List Row → Bool) (ts : List (List Row)) → ((t : List Row) → list_all test t ≡ true → f t ≡ g t) → AllRows test ts → find f ts ≡ find g ts
 find_agree test f g [] h k = refl
 find_agree test f g (t ∷ ts) h k = same_find_at (f t) (g t) t _ _ (h t k.0) (find_agree test f g ts h k.1)
 

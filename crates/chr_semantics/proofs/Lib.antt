@@ -16,6 +16,7 @@ pub mod TuplesLaw
 pub mod FirstTuple
 pub mod DeadEntriesLaw
 pub mod Occurrences
+pub mod OccurrenceRule
 pub mod Soundness
 pub mod KeptRows
 pub mod KeptEntries

@@ -1,8 +1,8 @@
 //! The identities of constraints.
 use chr_term::Numbered;
 
-/// The identity of a constraint, counted from 1 in the order in which constraints enter the store.
-#[derive(Clone, Copy, PartialEq, Eq, PartialOrd, Ord, Hash, Debug, Drop)]
+/// The identity of a constraint, counted from 1 in the order in which constraints enter the store. 0 is none.
+#[derive(Clone, Copy, PartialEq, Eq, PartialOrd, Ord, Hash, Debug, Default, Drop)]
 pub struct Id(pub u64);
 
 impl Numbered for Id {

@@ -1,6 +1,6 @@
 //! A plain search, written from the definition: it looks at all lists of rows in lexicographic order, and takes the first that can fire.
 use chr_bind::{Match, are_below, fit, guard_holds};
-use chr_find::{Memory, Past};
+use chr_find::Memory;
 use chr_rules::Rule;
 use chr_semantics::limits::MAX_RULE_VARIABLES;
 use chr_store::Row;
@@ -9,13 +9,26 @@ use std::alloc::Allocator;
 /// The constraints that live, by ascending identity.
 pub(crate) type Rows<A> = Vec<(u64, Row<A>), A>;
 
+/// What has fired: the number of a rule, and identities.
+pub type Firings<A> = Vec<(u64, Vec<u64, A>), A>;
+
+/// Whether the rule has fired with these identities.
+fn was_fired<A: Allocator>(fired: &Firings<A>, number: u64, ids: &[u64]) -> bool {
+    for (rule, others) in fired {
+        if *rule == number && others.as_slice() == ids {
+            return true;
+        }
+    }
+    false
+}
+
 /// Whether the list of rows, given by their places among the rows, can fire the rule.
 fn can_fire<A: Allocator + Copy>(
     alloc: A,
     rows: &Rows<A>,
     rule: &Rule<A>,
     number: u64,
-    past: &impl Past,
+    fired: &Firings<A>,
     list: &[usize],
 ) -> Result<bool, Memory> {
     let mut matching = Match::new();
@@ -37,7 +50,7 @@ fn can_fire<A: Allocator + Copy>(
     }
     Ok(
         guard_holds(alloc, rule.guard.as_slice(), &matching)?
-            && !past.was_fired(number, ids.as_slice()),
+            && !was_fired(fired, number, ids.as_slice()),
     )
 }
 
@@ -61,7 +74,7 @@ pub(crate) fn plain_first<A: Allocator + Copy>(
     number: u64,
     place: usize,
     own: u64,
-    past: &impl Past,
+    fired: &Firings<A>,
 ) -> Result<Option<Vec<u64, A>>, Memory> {
     let mut list = Vec::new(alloc);
     for _ in 0..rule.heads.len() {
@@ -69,7 +82,7 @@ pub(crate) fn plain_first<A: Allocator + Copy>(
     }
     for _ in 0..1_000_000u64 {
         if stands_at(rows, list.as_slice(), place, own)
-            && can_fire(alloc, rows, rule, number, past, list.as_slice())?
+            && can_fire(alloc, rows, rule, number, fired, list.as_slice())?
         {
             return Ok(Some(ids_at(alloc, rows, list.as_slice())?));
         }

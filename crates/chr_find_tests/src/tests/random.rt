@@ -1,6 +1,6 @@
 //! The search of a table against a plain search, on random small stores.
-use super::plain::{Rows, plain_first};
-use super::{Nothing, first, remove, table_of};
+use super::plain::{Firings, Rows, plain_first};
+use super::{fire, first, remove, table_of};
 use chr_find::*;
 use chr_rules::{Goal, Program, Query};
 use chr_store::Row;
@@ -83,13 +83,14 @@ fn rows_of<A: Allocator + Copy>(alloc: A, query: &Query<A>) -> Result<Rows<A>, M
     Ok(rows)
 }
 
-/// Whether each search of each constraint finds the same.
+/// Whether each search of each constraint finds the same. What is found is noted as fired.
 fn assert_same(
     rt: &impl Abort,
     alloc: Global,
     program: &Program,
     table: &mut Table,
     rows: &Rows<Global>,
+    fired: &mut Firings<Global>,
     case: u64,
 ) -> Result<(), Fail> {
     for (id, row) in rows {
@@ -98,24 +99,28 @@ fn assert_same(
                 None => break,
                 Some(occurrence) => occurrence,
             };
-            let (found, _) = first(alloc, table, &Nothing {}, program, *id, number)?;
-            let rule = program.rule(occurrence.rule);
+            let rule = occurrence.rule as u64;
+            let (found, _) = first(alloc, table, program, *id, number)?;
             let wanted = plain_first(
                 alloc,
                 rows,
+                program.rule(occurrence.rule),
                 rule,
-                occurrence.rule as u64,
                 occurrence.place,
                 *id,
-                &Nothing {},
+                fired,
             )?;
             assert!(rt; found == wanted, "case {case}, {id} at {number}");
+            if let Some(ids) = found {
+                fire(table, rule, ids.as_slice())?;
+                fired.push((rule, ids))?;
+            }
         }
     }
     Ok(())
 }
 
-/// Random stores, as they are and after a removal.
+/// Random stores, as they are, with firings, and after a removal.
 #[test]
 fn as_a_plain_search(rt: HostRuntime) -> Result<(), Fail> {
     let alloc = rt.alloc();
@@ -126,13 +131,14 @@ fn as_a_plain_search(rt: HostRuntime) -> Result<(), Fail> {
             let (program, query) = both_of(alloc, program, text.as_str())?;
             let mut rows = rows_of(alloc, &query)?;
             let mut table = table_of(alloc, &program, query)?;
-            assert_same(&rt, alloc, &program, &mut table, &rows, case)?;
+            let mut fired = Vec::new(alloc);
+            assert_same(&rt, alloc, &program, &mut table, &rows, &mut fired, case)?;
             let place = dice.below(7) as usize;
             if place < rows.len() {
                 let (id, _) = rows.remove(place);
                 remove(&mut table, id)?;
             }
-            assert_same(&rt, alloc, &program, &mut table, &rows, case)?;
+            assert_same(&rt, alloc, &program, &mut table, &rows, &mut fired, case)?;
         }
     }
     Ok(())

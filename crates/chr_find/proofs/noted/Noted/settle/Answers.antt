@@ -1,28 +1,53 @@
-use Rattle.std.proofs.Common.{◌∙◌, ◌≤◌, List, ap, subst, sym}
+use Rattle.std.proofs.Common.{◌≡◌, ◌∙◌, ◌≤◌, List, subst, sym}
 use Rattle.std.specs.Prelude.{length}
-use Rattle.chr_find.proofs.Changes.{all_made, made_next, none_left, unmade_next}
+use Rattle.chr_find.specs.Firings.{is_in}
+use Rattle.chr_find.specs.NoteView.{fired_after, rows_after}
 use Rattle.chr_find.specs.Places.{held}
-use Rattle.chr_find.specs.PlanView.{positions_of}
+use Rattle.chr_find.specs.declared.note.Note.{Note}
 use Rattle.chr_find.specs.declared.plan.Plan.{Plan}
-use Rattle.chr_find.specs.declared.lists.Change.{Change}
+use Rattle.chr_find.proofs.NoteSteps.{fired_alike, rows_alike}
+use Rattle.chr_find.proofs.Notes.{all_made, made_next, none_left, unmade_next}
 use Rattle.chr_find.proofs.noted.Noted.settle.Goals as goal
 
-pub returns-in_err-make-clause-same : goal.returns-in_err-make-clause-same
-returns-in_err-make-clause-same g c = λ q.
-    unmade_next c.loop-change.self.plan c.loop-change.self.made c.loop-change.self.changes.items c.deref.result.now c.in-Some.change.now c.value-in-Some.result.now c.positions-positions.result.now c.loop-change.self.rows c.make.new.rows
-    c.deref.ensures.value c.value-in-Some.ensures (c.positions-positions.ensures ∙ ap (λ (p : Plan g.row.A.Denot). positions_of p c.value-in-Some.result.now.sym.0) c.value.ensures) c.in-Some.ensures.lookup.3.0 c.in-Some.ensures.lookup.1 c.in_err-make.ensures.err q
-    ∙ c.loop-change.invariant.0 q
+pub returns-in_err-make-clause-rows : goal.returns-in_err-make-clause-rows
+returns-in_err-make-clause-rows g c = λ q.
+    let s = c.loop-note.self in
+    let n = c.in-Some.note.now in
+    unmade_next (rows_after s.plan) (rows_alike s.plan) s.made s.notes.items c.deref.result.now n c.deref.ensures.value c.in-Some.ensures.lookup.3.0 c.in-Some.ensures.lookup.1 (held s.rows) (held c.make.new.rows) q
+    (subst (λ (p : Plan g.row.A.Denot). rows_after p n (held c.make.new.rows) q ≡ rows_after p n (held s.rows) q) c.value.ensures (c.in_err-make.ensures.rows_again q))
+    ∙ c.loop-note.invariant.0 q
 
-pub loop-change-preserved : goal.loop-change-preserved
-loop-change-preserved g c = (
-  (λ q.
-      made_next c.loop-change.self.plan c.loop-change.self.made c.loop-change.self.changes.items c.deref.result.now c.in-Some.change.now c.value-in-Some.result.now c.positions-positions.result.now c.loop-change.self.rows c.make.new.rows
-      c.deref.ensures.value c.value-in-Some.ensures (c.positions-positions.ensures ∙ ap (λ (p : Plan g.row.A.Denot). positions_of p c.value-in-Some.result.now.sym.0) c.value.ensures) c.in-Some.ensures.lookup.3.0 c.in-Some.ensures.lookup.1 c.in_ok-make.ensures.ok q
-      ∙ c.loop-change.invariant.0 q),
-  c.loop-change.invariant.1,
-)
+pub returns-in_err-make-clause-fired : goal.returns-in_err-make-clause-fired
+returns-in_err-make-clause-fired g c = λ x.
+    let s = c.loop-note.self in
+    let n = c.in-Some.note.now in
+    unmade_next fired_after fired_alike s.made s.notes.items c.deref.result.now n c.deref.ensures.value c.in-Some.ensures.lookup.3.0 c.in-Some.ensures.lookup.1 (is_in s.fired.all) (is_in c.make.new.fired.all) x (c.in_err-make.ensures.fired_again x)
+    ∙ c.loop-note.invariant.1.0 x
 
-pub returns-clause-same : goal.returns-clause-same
-returns-clause-same g c = λ q.
-    none_left c.loop-change.self.plan c.clear.new.self.items (held c.loop-change.self.rows) q c.clear.ensures.items
-    ∙ (sym (all_made c.loop-change.self.plan c.loop-change.self.made c.loop-change.self.changes.items (held c.loop-change.self.rows) q (subst (λ (l : List (Change g.row.A.Denot)). length l ≤ c.loop-change.self.made) c.deref.ensures.value c.in_default.ensures.lookup.3)) ∙ c.loop-change.invariant.0 q)
+pub loop-note-preserved : goal.loop-note-preserved
+loop-note-preserved g c =
+    let s = c.loop-note.self in
+    let n = c.in-Some.note.now in (
+      (λ q.
+          made_next (rows_after s.plan) (rows_alike s.plan) s.made s.notes.items c.deref.result.now n c.deref.ensures.value c.in-Some.ensures.lookup.3.0 c.in-Some.ensures.lookup.1 (held s.rows) (held c.make.new.rows) q
+          (subst (λ (p : Plan g.row.A.Denot). held c.make.new.rows q ≡ rows_after p n (held s.rows) q) c.value.ensures (c.in_ok-make.ensures.rows q))
+          ∙ c.loop-note.invariant.0 q),
+      (
+        (λ x.
+            made_next fired_after fired_alike s.made s.notes.items c.deref.result.now n c.deref.ensures.value c.in-Some.ensures.lookup.3.0 c.in-Some.ensures.lookup.1 (is_in s.fired.all) (is_in c.make.new.fired.all) x (c.in_ok-make.ensures.fired x)
+            ∙ c.loop-note.invariant.1.0 x),
+        c.loop-note.invariant.1.1,
+      ),
+    )
+
+pub returns-clause-rows : goal.returns-clause-rows
+returns-clause-rows g c = λ q.
+    let s = c.loop-note.self in
+    none_left (rows_after s.plan) (rows_alike s.plan) c.clear.new.self.items (held s.rows) q c.clear.ensures.items
+    ∙ (sym (all_made (rows_after s.plan) (rows_alike s.plan) s.made s.notes.items (held s.rows) q (subst (λ (l : List (Note g.row.A.Denot)). length l ≤ s.made) c.deref.ensures.value c.in_default.ensures.lookup.3)) ∙ c.loop-note.invariant.0 q)
+
+pub returns-clause-fired : goal.returns-clause-fired
+returns-clause-fired g c = λ x.
+    let s = c.loop-note.self in
+    none_left fired_after fired_alike c.clear.new.self.items (is_in s.fired.all) x c.clear.ensures.items
+    ∙ (sym (all_made fired_after fired_alike s.made s.notes.items (is_in s.fired.all) x (subst (λ (l : List (Note g.row.A.Denot)). length l ≤ s.made) c.deref.ensures.value c.in_default.ensures.lookup.3)) ∙ c.loop-note.invariant.1.0 x)

@@ -18,7 +18,7 @@ module _ {A : Type 0} where
   pub has_shown : (t : Table A) (rows : List semantics.Row) → IsSettled t.noted → HasRows t rows → IsShown (positions_of t.noted.plan) t.noted.rows rows
   has_shown t rows settled has = record {
     rises = has.rises;
-    shows = λ q. ap (option_map row_atom) (sym (settled q)) ∙ (t.shown q ∙ ap (atom_in q.list (positions_of t.noted.plan)) (sym (has.same q.id.0)));
+    shows = λ q. ap (option_map row_atom) (sym (settled.rows q)) ∙ (t.shown q ∙ ap (atom_in q.list (positions_of t.noted.plan)) (sym (has.same q.id.0)));
   }
 
   -- the row that stands for an identity is its constraint

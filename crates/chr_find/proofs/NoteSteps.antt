@@ -1,0 +1,40 @@
+-- What is noted of a table: rows and firings that are alike stay so.
+use Rattle.std.proofs.Common.{◌≡◌, ◌∙◌, ℕ, Bool, true, false, cond, not, ◌&&◌, List, ap, refl}
+use Rattle.std.specs.Prelude.{Option}
+use Rattle.chr_semantics.specs.Search.{has_number}
+use Rattle.chr_store.specs.declared.row.Row.{Row}
+use Rattle.chr_find.specs.Firings.{ids_in, same_firing}
+use Rattle.chr_find.specs.NoteView.{changed_at, fired_after, rows_after}
+use Rattle.chr_find.specs.Places.{AreKept, held, is_place, row_if}
+use Rattle.chr_find.specs.PlanView.{positions_of}
+use Rattle.chr_find.specs.declared.firings.Firing.{Firing}
+use Rattle.chr_find.specs.declared.list.Place.{Place}
+use Rattle.chr_find.specs.declared.lists.Change.{Change}
+use Rattle.chr_find.specs.declared.note.Note.{Note}
+use Rattle.chr_find.specs.declared.note.Note.TheVariants.{Changed, Entered, Replaced}
+use Rattle.chr_find.specs.declared.plan.Plan.{Plan}
+
+module _ {A : Type 0} where
+  change_alike : (p : Plan A) (c : Change A) (f g : Place → Option (Row A)) (q : Place) → f q ≡ g q → changed_at p c f q ≡ changed_at p c g q
+  change_alike p c f g q e = ap (λ (x : Option (Row A)). cond (is_place (positions_of p c.row.sym.0) c.id.0 c.row q) (row_if c.is_there c.row) x) e
+
+  pub rows_alike : (p : Plan A) (n : Note A) (f g : Place → Option (Row A)) (q : Place) → f q ≡ g q → rows_after p n f q ≡ rows_after p n g q
+  rows_alike p (Changed c) f g q e = change_alike p c f g q e
+  rows_alike p (Replaced c d) f g q e = change_alike p d (changed_at p c f) (changed_at p c g) q (change_alike p c f g q e)
+  rows_alike p (Entered x) f g q e = e
+
+  pub fired_alike : (n : Note A) (f g : Firing → Bool) (x : Firing) → f x ≡ g x → fired_after n f x ≡ fired_after n g x
+  fired_alike (Changed c) f g x e = ap (λ (b : Bool). cond c.is_there b (b && not (has_number (ids_in x) c.id.0))) e
+  fired_alike (Replaced c d) f g x e = e
+  fired_alike (Entered y) f g x e = ap (λ (b : Bool). cond (same_firing x y) true b) e
+
+replaced_at : {X : Type 0} (d c : Bool) (x r new mid old : X) → mid ≡ cond c r old → (d ≡ false → new ≡ mid) → cond d x (cond c r new) ≡ cond d x (cond c r old)
+replaced_at true c x r new mid old e h = refl
+replaced_at false true x r new mid old e h = refl
+replaced_at false false x r new mid old e h = h refl ∙ e
+
+-- a row that was taken out, and another not wholly put there
+pub replaced_again : {A : Type 0} (p : Plan A) (c d : Change A) (new mid old : List (Place × Row A)) → ((q : Place) → held mid q ≡ changed_at p c (held old) q) → AreKept (positions_of p d.row.sym.0) d.id.0 d.row new mid
+    → (q : Place) → changed_at p d (changed_at p c (held new)) q ≡ changed_at p d (changed_at p c (held old)) q
+replaced_again p c d new mid old e kept q =
+    replaced_at (is_place (positions_of p d.row.sym.0) d.id.0 d.row q) (is_place (positions_of p c.row.sym.0) c.id.0 c.row q) (row_if d.is_there d.row) (row_if c.is_there c.row) (held new q) (held mid q) (held old q) (e q) (λ out. kept q out)

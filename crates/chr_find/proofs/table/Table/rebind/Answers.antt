@@ -1,0 +1,30 @@
+use Rattle.std.proofs.Common.{◌≡◌, ◌∙◌, ◌+◌, ◌≤◌, arith, length}
+use Rattle.chr_find.specs.TableView.{HasRoom, atom_at}
+use Rattle.chr_find.proofs.Rebinds.{last_there, next_on, none_left, one_less}
+use Rattle.chr_find.proofs.table.Table.rebind.Goals as goal
+
+pub replace-requires-clause-there : goal.replace-requires-clause-there
+replace-requires-clause-there g c = last_there (atom_at c.args.self.now) (atom_at c.loop-replaced.self) c.loop-replaced.left.items c.args.rebound.replaced.items c.pop.new.self.items c.in-Some.replaced c.loop-replaced.invariant.0 c.in-Some.ensures.items
+
+pub loop-replaced-preserved : goal.loop-replaced-preserved
+loop-replaced-preserved g c =
+    let rs = c.pop.new.self.items in
+    let less = one_less c.loop-replaced.left.items rs c.in-Some.replaced c.in-Some.ensures.items in (
+      next_on (atom_at c.args.self.now) (atom_at c.loop-replaced.self) c.loop-replaced.left.items c.args.rebound.replaced.items rs c.in-Some.replaced c.loop-replaced.invariant.0 c.in-Some.ensures.items (atom_at c.replace.new.self) c.replace.ensures.atoms,
+      (
+        (λ r ids. c.replace.ensures.fired r ids ∙ c.loop-replaced.invariant.1.0 r ids),
+        λ n h.
+            let room : HasRoom (n + length rs + 1) c.loop-replaced.self = omega (arith, less, c.loop-replaced.invariant.1.1 n h) in
+            c.replace.ensures.room (n + length rs) room,
+      ),
+    )
+
+pub returns-clause-atoms : goal.returns-clause-atoms
+returns-clause-atoms g c = none_left (atom_at c.args.self.now) (atom_at c.loop-replaced.self) c.loop-replaced.left.items c.args.rebound.replaced.items c.loop-replaced.invariant.0 (omega (arith, c.in_default.ensures.cases.0))
+
+pub returns-clause-room : goal.returns-clause-room
+returns-clause-room g c n h =
+    let none : length c.loop-replaced.left.items ≡ 0 = omega (arith, c.in_default.ensures.cases.0) in
+    let all : HasRoom (n + length c.args.rebound.replaced.items) c.args.self.now = omega (arith, h, c.args.rebound.replaced.ok.0) in
+    let room : HasRoom (n + 0) c.loop-replaced.self = omega (arith, none, c.loop-replaced.invariant.1.1 n all) in
+    omega (arith, room)

@@ -1,0 +1,129 @@
+//! Bindings, and the rows that they change.
+ghost use Rattle.std.specs.Prelude.{◌≡◌, ◌+◌, IfOk, List, OnOk, Some, ℕ, vec_len};
+ghost use Rattle.chr_store.specs.Rows.{row_atom};
+
+use crate::Memory;
+use crate::list::List as Listing;
+use crate::lists::Change;
+use crate::note::Note;
+use crate::resolving::resolved;
+use crate::standing::{Standing, collect};
+use crate::table::Table;
+use chr_bind::Bindings;
+use chr_map::{Pointer, Share};
+use chr_store::{Id, Row};
+use chr_term::are_ground;
+use std::alloc::{Allocator, Global};
+
+/// A row in the place of another.
+#[derive(Drop)]
+pub(crate) struct Replaced<A: Allocator> {
+    pub(crate) id: Id,
+    pub(crate) old: Pointer<Row<A>, A>,
+    pub(crate) new: Pointer<Row<A>, A>,
+}
+
+/// What bindings change in a table.
+#[derive(Drop)]
+pub struct Rebound<A: Allocator = Global> {
+    /// By ascending identity.
+    replaced: Vec<Replaced<A>, A>,
+    /// The constraints that have variables still, by ascending identity.
+    pub woken: Vec<Id, A>,
+}
+
+impl<A: Allocator + Copy> Rebound<A> {
+    ghost use Rattle.chr_find.specs.Rebinding.{Adds};
+
+    /// Adds what bindings make of a row that has variables.
+    fn add(
+        &mut self,
+        alloc: A,
+        bindings: &Bindings<A>,
+        standing: &Standing<A>,
+    ) -> Result<(), Memory>
+        ensures { OnOk result (Adds bindings.now.subst standing.now self.old.replaced.items
+            self.old.woken.items self.new.replaced.items self.new.woken.items) }
+    {
+        let new = match resolved(alloc, bindings, standing.row.value())? {
+            None => {
+                self.woken.push(standing.id)?;
+                return Ok(());
+            }
+            Some(new) => new,
+        };
+        if !are_ground(new.value().args.as_slice()) {
+            self.woken.push(standing.id)?;
+        }
+        self.replaced.push(Replaced {
+            id: standing.id,
+            old: standing.row.share()?,
+            new,
+        })?;
+        Ok(())
+    }
+}
+
+impl<A: Allocator + Copy> Table<A> {
+    ghost use Rattle.chr_find.specs.Rebinding.{Replaces, new_rows, over};
+    ghost use Rattle.chr_find.specs.Rebound.{IsRebound};
+    ghost use Rattle.chr_find.specs.TableView.{HasRoom, IsSettled, atom_at, atoms_with, fired_at};
+
+    /// What bindings change: the constraints that have variables, with the bindings applied. Makes the room to note it.
+    pub fn rebound(&mut self, bindings: &Bindings<A>) -> Result<Rebound<A>, Memory>
+        requires { IsSettled self.old }
+        ensures same { (i : ℕ) → atom_at self.new i ≡ atom_at self.old i }
+        ensures fired { (r : ℕ) (ids : List ℕ) → fired_at self.new r ids ≡ fired_at self.old r ids }
+        ensures ok { IfOk result (IsRebound bindings.now.subst self.new) }
+    {
+        let mut rows = Vec::new(self.alloc);
+        collect(&self.noted.rows.entries(), Listing::Open, &mut rows)?;
+        let mut rebound = Rebound {
+            replaced: Vec::new(self.alloc),
+            woken: Vec::new(self.alloc),
+        };
+        for standing in &rows {
+            rebound.add(self.alloc, bindings, standing)?;
+        }
+        self.room(rebound.replaced.len())?;
+        Ok(rebound)
+    }
+
+    /// Notes a row in the place of another.
+    fn replace(&mut self, replaced: Replaced<A>)
+        requires room { HasRoom 1 self.old }
+        requires there { atom_at self.old replaced.id.0 ≡ Some (row_atom replaced.old) }
+        ensures atoms { (i : ℕ) → atom_at self.new i
+            ≡ atoms_with (atom_at self.old) replaced.id.0 (Some (row_atom replaced.new)) i }
+        ensures fired { (r : ℕ) (ids : List ℕ) → fired_at self.new r ids ≡ fired_at self.old r ids }
+        ensures room { (n : ℕ) → HasRoom (n + 1) self.old → HasRoom n self.new }
+    {
+        let Replaced { id, old, new } = replaced;
+        let out = Change {
+            id,
+            row: old,
+            is_there: false,
+        };
+        let into = Change {
+            id,
+            row: new,
+            is_there: true,
+        };
+        self.noted.note(Note::Replaced(out, into));
+    }
+
+    /// Notes what bindings change, as `rebound` answered it.
+    pub fn rebind(&mut self, rebound: Rebound<A>)
+        requires room { HasRoom (vec_len rebound.replaced) self.old }
+        requires there { Replaces (atom_at self.old) rebound.replaced.items }
+        ensures atoms { (i : ℕ) → atom_at self.new i
+            ≡ over (new_rows rebound.replaced.items) (atom_at self.old) i }
+        ensures fired { (r : ℕ) (ids : List ℕ) → fired_at self.new r ids ≡ fired_at self.old r ids }
+        ensures room { (n : ℕ) → HasRoom (n + vec_len rebound.replaced) self.old → HasRoom n self.new }
+    {
+        let mut left = rebound.replaced;
+        while let Some(replaced) = left.pop() {
+            self.replace(replaced);
+        }
+    }
+}

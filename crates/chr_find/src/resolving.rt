@@ -1,0 +1,27 @@
+//! What bindings make of a row.
+ghost use Rattle.std.specs.Prelude.{IfOk};
+ghost use Rattle.chr_store.specs.Rows.{row_atom};
+ghost use Rattle.chr_find.specs.Rebinding.{IsResolved};
+
+use crate::Memory;
+use chr_bind::Bindings;
+use chr_map::Pointer;
+use chr_store::Row;
+use std::alloc::Allocator;
+
+/// The row with bindings applied, where they change it.
+pub(crate) fn resolved<A: Allocator + Copy>(
+    alloc: A,
+    bindings: &Bindings<A>,
+    row: &Row<A>,
+) -> Result<Option<Pointer<Row<A>, A>>, Memory>
+    ensures { IfOk result (IsResolved bindings.now.subst (row_atom row.now)) }
+{
+    let args = row.args.as_slice();
+    if bindings.resolve_to(args, args) {
+        return Ok(None);
+    }
+    let args = bindings.resolve_all(args)?;
+    let row = Row { sym: row.sym, args };
+    Ok(Some(Pointer::new(alloc, row)?))
+}
