@@ -30,6 +30,8 @@ pub mod SearchParts
 pub mod Searchable
 pub mod ShownRows
 pub mod TableFired
+pub mod TakenFirings
+pub mod TakenRows
 pub mod TableRows
 pub mod TableShown
 pub mod SnapshotGuest
