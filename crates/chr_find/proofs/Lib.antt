@@ -30,8 +30,6 @@ pub mod SearchParts
 pub mod Searchable
 pub mod ShownRows
 pub mod TableFired
-pub mod TakenFirings
-pub mod TakenRows
 pub mod TableRows
 pub mod TableShown
 pub mod SnapshotGuest

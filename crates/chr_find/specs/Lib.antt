@@ -21,5 +21,3 @@ pub mod SearchedView
 pub mod Shown
 pub mod SnapshotView
 pub mod TableView
-pub mod ScopeView
-pub mod Taking

@@ -51,4 +51,4 @@ returns g c =
     in
     let has : HasRows t rows = record { rises = rises_guest q.next_id a q.rows is.rows.rises free; same = same } in
     subst (λ (l : List semantics.Row). IsSearched (first p l q.history i j) (tries_bounds p l q.history i j) found) (sym (seen_guest q i a here has_guest))
-    (f rows has q.history (λ r ids short live. is.history r ids short ∙ sym (c.in_ok-settle.ensures.fired r ids ∙ (c.add.ensures.fired r ids ∙ (c.in_ok-room.ensures.fired r ids ∙ c.in_ok-table.ensures.fired r ids))))))
+    (f rows has q.history (λ r ids live. is.history r ids ∙ sym (c.in_ok-settle.ensures.fired r ids ∙ (c.add.ensures.fired r ids ∙ (c.in_ok-room.ensures.fired r ids ∙ c.in_ok-table.ensures.fired r ids))))))

@@ -38,10 +38,9 @@ returns-clause-found g c =
     let l = take (length rule.heads) c.args.cursor.now.after in
     let own = own_live t rows c.requires.settled has s.id.0 a lives in
     let alike = agree t rows c.requires.settled has h firings s.number in
-    let few : length rule.heads ≤ 8 = c.requires.searchable.small.few in
-    first_too rows h k s.number rule s.place (s.id.0, a) (live_in rows) few own (all_live rows) alike (length rule.heads) found
+    first_too rows h k s.number rule s.place (s.id.0, a) (live_in rows) own (all_live rows) alike (length rule.heads) found
     (next_first rows k s.number rule s.place x.0 (s.id.0, a) (length rule.heads) from l found c.args.tries.now c.first.new.tries x.1
-    (spent_alike rows h k s.number rule s.place (s.id.0, a) (live_in rows) few own (all_live rows) alike l from spent)
+    (spent_alike rows h k s.number rule s.place (s.id.0, a) (live_in rows) own (all_live rows) alike l from spent)
     (subst (λ (b : Atom). Finds k s.number rule.guard [] (length rule.heads) (passed from (on l) (own_joined rows rule s.place x.0 (s.id.0, b))) found c.args.tries.now c.first.new.tries) same
     (subst (λ (n : ℕ). Finds k s.number rule.guard [] (length rule.heads) (passed from (on (take n c.args.cursor.now.after)) (own_joined rows rule s.place x.0 (s.id.0, row_atom c.value-row.result.now))) found c.args.tries.now c.first.new.tries) all
     (f x.0 x.1 rows planned (c.quiet_from-quiet.ensures (positions_of t.noted.plan) rows shown))))))

@@ -1,2 +1,0 @@
-pub mod IdLists
-pub mod KeyedLists
