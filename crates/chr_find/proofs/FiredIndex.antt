@@ -1,5 +1,5 @@
 -- Firings that stand under each of their identities, after a change.
-use Rattle.std.proofs.Common.{◌≡◌, ◌∙◌, ◌==◌, ◌&&◌, ◌⊎◌, inl, inr, ℕ, Bool, true, false, cond, List, [], ◌∷◌, ◌++◌, ap, refl, sym, subst, take, true≢false, get_or, length, ◌<◌, ◌≤◌, ◌+◌, arith}
+use Rattle.std.proofs.Common.{◌≡◌, ◌∙◌, ◌==◌, ◌&&◌, ◌⊎◌, inl, inr, ℕ, Bool, true, false, cond, List, ap, refl, sym, subst, take, true≢false, get_or, length, ◌<◌, ◌≤◌, ◌+◌, arith}
 use Rattle.std.proofs.lemmas.Bool.{and_from, and_parts, eq-eqb}
 use Rattle.std.proofs.lemmas.Bool.Decides.{Decides-eqb}
 use Rattle.chr_map.specs.Order.{Ascends, entry_put, entry_removed}

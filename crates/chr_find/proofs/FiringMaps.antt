@@ -1,21 +1,20 @@
 -- Firings in maps.
-use Rattle.std.proofs.Common.{◌≡◌, ◌∙◌, ◌≤◌, ◌<◌, ◌==◌, ℕ, Bool, true, false, not, cond, List, [], ◌∷◌, ◌++◌, ap, length, refl, sym, subst, arith}
-use Rattle.std.specs.Prelude.{Option, Some, None, Result, Ok, Err, OnOk, is_some}
-use Rattle.std.specs.Ordering.{is_eq, nat_cmp, ordering_reverse, ordering_then}
+use Rattle.std.proofs.Common.{◌≡◌, ◌∙◌, ◌==◌, ℕ, Bool, true, false, cond, List, ◌∷◌, ◌++◌, ap, refl, sym, subst}
+use Rattle.std.specs.Prelude.{Option, Some, None, is_some}
+use Rattle.std.specs.Ordering.{nat_cmp, ordering_reverse, ordering_then}
 use Rattle.std.specs.Bool.{Decides}
-use Rattle.std.specs.Cmp.Lexicographic.{pointwise}
 use Rattle.std.specs.declared.cmp.Ordering.{Ordering}
 use Rattle.std.specs.declared.cmp.Ordering.TheVariants.{Less, Equal, Greater}
 use Rattle.std.proofs.lemmas.Bool.Decides.{Decides-and, Decides-eqb, Decides-like}
 use Rattle.std.proofs.lemmas.Slice.Eq.{slice_eq-Decides}
-use Rattle.chr_map.specs.Order.{Ascends, entry_put, entry_removed, value_of}
+use Rattle.chr_map.specs.Order.{Ascends, entry_put, entry_removed}
 use Rattle.chr_map.proofs.Ordered.{value_after, value_before, value_here}
 use Rattle.chr_find.specs.contracts.firings.FiringOrd.TheImpl.Laws.{matches_eq-law, total-law}
 use Rattle.chr_find.specs.contracts.firings.EntryOrd.TheImpl.Laws.{matches_eq-law as entry_matches, total-law as entry_total}
-use Rattle.chr_find.specs.Firings.{OneUnder, entry_cmp, firing_cmp, ids_in, is_in, is_under, same_entry, same_firing}
+use Rattle.chr_find.specs.Firings.{OneUnder, entry_cmp, firing_cmp, is_in, is_under, same_entry, same_firing}
 use Rattle.chr_find.specs.declared.firings.Firing.{Firing}
 use Rattle.chr_find.specs.declared.firings.Entry.{Entry}
-use Rattle.chr_find.proofs.KeyedMaps.{has_put, has_removed, removed_length, removed_shorter}
+use Rattle.chr_find.proofs.KeyedMaps.{has_put, has_removed}
 
 -- firings that are the same are equal
 pub same_Decides : (f g : Firing) → Decides (same_firing f g) (f ≡ g)

@@ -1,5 +1,5 @@
 -- What a search of a table answers, in the definitions.
-use Rattle.std.proofs.Common.{◌≡◌, ◌∙◌, ◌≤◌, ◌<◌, ◌+◌, ℕ, List, ap, arith, length, refl, sym, subst, take}
+use Rattle.std.proofs.Common.{◌≡◌, ◌∙◌, ◌≤◌, ◌+◌, ℕ, List, ap, arith, length, refl, sym, subst, take}
 use Rattle.std.specs.Prelude.{Option, Some, None, option_map, slice_get}
 use Rattle.chr_rules.specs.Index.{pair_of, pair_view}
 use Rattle.chr_rules.specs.declared.index.Occurrence.{Occurrence}
@@ -9,10 +9,9 @@ use Rattle.chr_semantics.proofs.TriesLaw.{tries_law}
 use Rattle.chr_semantics.specs.Match as semantics
 use Rattle.chr_semantics.specs.Program as program
 use Rattle.chr_semantics.specs.Program.{Atom, Head, Program, Rule, occurrence}
-use Rattle.chr_semantics.specs.Search.{History, atom_of, first, first_tuple}
+use Rattle.chr_semantics.specs.Search.{History, atom_of, first}
 use Rattle.chr_semantics.specs.Tries.{bounds_for, bounds_of, capped, product_from, tried_tuples, tries_bounds}
 use Rattle.chr_find.specs.First.{IsFirst}
-use Rattle.chr_semantics.proofs.OccurrenceRule.{occurrence_rule}
 use Rattle.chr_find.proofs.SearchParts.{head_there}
 
 -- the occurrence of the definitions that the program's index answered

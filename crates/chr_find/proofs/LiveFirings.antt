@@ -1,14 +1,14 @@
 -- What a table has fired with living constraints.
 use Rattle.std.proofs.Common.{◌≡◌, ◌∙◌, ◌==◌, ◌&&◌, ℕ, Bool, true, false, cond, List, [], ◌∷◌, ap, refl, sym}
 use Rattle.std.specs.List.{list_all}
-use Rattle.std.specs.Prelude.{Option, Some, None, is_some}
+use Rattle.std.specs.Prelude.{Option, Some, is_some}
 use Rattle.std.proofs.lemmas.Bool.{and_from, eq-eqb}
 use Rattle.chr_semantics.proofs.Lists.{list_all-more}
 use Rattle.chr_semantics.specs.Match as semantics
 use Rattle.chr_semantics.specs.Program.{Atom}
 use Rattle.chr_semantics.specs.Search.{History, atom_of, fired_before}
-use Rattle.chr_find.specs.Firings.{firing_of, fits, history_of, is_in}
-use Rattle.chr_find.specs.TableView.{HasHistory, HasRows, IsSettled, atom_at, fired_at, lives}
+use Rattle.chr_find.specs.Firings.{firing_of, fits, history_of}
+use Rattle.chr_find.specs.TableView.{HasHistory, HasRows, IsSettled, atom_at, lives}
 use Rattle.chr_find.specs.declared.table.Table.{Table}
 use Rattle.chr_find.proofs.FiredHistory.{history_stands}
 
@@ -33,7 +33,7 @@ module _ {A : Type 0} (t : Table A) (rows : List semantics.Row) (settled : IsSet
   own_live i a e = ap is_some (has.same i ∙ e)
 
   -- a history that has the table's firings agrees with them
-  pub agree : (h : History) → HasHistory t h → (r : ℕ) (ids : List ℕ) → list_all (live_in rows) ids ≡ true → fired_before h r ids ≡ fired_before (history_of t.noted.fired.all) r ids
-  agree h firings r ids live =
-      firings r ids (list_all-more (live_in rows) (lives t) ids (λ i e. sym (ap is_some (has.same i)) ∙ e) live)
+  pub agree : (h : History) → HasHistory t h → (r : ℕ) (ids : List ℕ) → fits ids ≡ true → list_all (live_in rows) ids ≡ true → fired_before h r ids ≡ fired_before (history_of t.noted.fired.all) r ids
+  agree h firings r ids short live =
+      firings r ids short (list_all-more (live_in rows) (lives t) ids (λ i e. sym (ap is_some (has.same i)) ∙ e) live)
       ∙ (ap (λ (b : Bool). fits ids && b) (settled.fired (firing_of r ids)) ∙ sym (history_stands t.noted.fired.all r ids))

@@ -8,8 +8,8 @@ use Rattle.chr_semantics.specs.Match as semantics
 use Rattle.chr_semantics.specs.Program.{Atom}
 use Rattle.chr_semantics.specs.Search.{atom_of, ids_of}
 use Rattle.chr_semantics.specs.State.{resolved_atom}
-use Rattle.chr_semantics.specs.Subst.{Subst, instances, value_at}
-use Rattle.chr_semantics.specs.Tree.{Trees, is_ground_trees}
+use Rattle.chr_semantics.specs.Subst.{Subst}
+use Rattle.chr_semantics.specs.Tree.{is_ground_trees}
 use Rattle.chr_store.specs.Numbers.{numbers}
 use Rattle.chr_store.specs.Rows.{row_atom}
 use Rattle.chr_store.specs.declared.id.Id.{Id}

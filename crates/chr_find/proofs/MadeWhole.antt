@@ -1,5 +1,5 @@
 -- What a substitution makes of all rows with variables.
-use Rattle.std.proofs.Common.{◌≡◌, ◌∙◌, ◌==◌, ◌<◌, ◌+◌, ◌⊎◌, inl, inr, ℕ, zero, suc, Bool, true, false, not, cond, List, [], ◌∷◌, ◌++◌, ap, arith, drop, get_or, length, refl, sym, subst, take, true≢false}
+use Rattle.std.proofs.Common.{◌≡◌, ◌∙◌, ◌==◌, ◌<◌, ◌+◌, ◌⊎◌, inl, inr, ℕ, zero, suc, Bool, true, false, not, cond, List, [], ◌∷◌, ◌++◌, ap, arith, drop, get_or, length, refl, sym, subst, take}
 use Rattle.std.specs.Prelude.{Option, Some, None, filter, option_map}
 use Rattle.std.proofs.lemmas.Bool.{eq-eqb, ne_eqb}
 use Rattle.chr_map.specs.Order.{Ascends}
@@ -8,7 +8,7 @@ use Rattle.chr_semantics.specs.Match as semantics
 use Rattle.chr_semantics.specs.Program.{Atom}
 use Rattle.chr_semantics.specs.Search.{atom_of, ids_of}
 use Rattle.chr_semantics.specs.State.{resolved_atom}
-use Rattle.chr_semantics.specs.Subst.{Subst, instances, value_at}
+use Rattle.chr_semantics.specs.Subst.{Subst, value_at}
 use Rattle.chr_semantics.specs.Tree.{is_ground_trees}
 use Rattle.chr_store.specs.Rows.{row_atom}
 use Rattle.chr_store.specs.declared.id.Id.{Id}

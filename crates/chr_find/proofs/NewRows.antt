@@ -1,14 +1,11 @@
 -- Where rows are new, and where none is.
-use Rattle.std.proofs.Common.{◌≡◌, ◌∙◌, ℕ, zero, suc, ◌+◌, ◌-◌, ◌<◌, Bool, true, false, cond, ◌||◌, ◌==◌, nat_lt, List, [], ◌∷◌, ◌++◌, Some, length, drop, ap, refl, sym, subst, arith, add-one}
-use Rattle.std.specs.List.{list_any}
+use Rattle.std.proofs.Common.{◌≡◌, ◌∙◌, ℕ, zero, suc, ◌+◌, ◌-◌, ◌<◌, Bool, true, false, cond, ◌||◌, ◌==◌, List, [], ◌∷◌, ◌++◌, Some, drop, ap, refl, sym, subst, arith}
 use Rattle.std.specs.Prelude.{filter, slice_get}
 use Rattle.std.specs.declared.cmp.Ordering.TheVariants.{Equal}
-use Rattle.std.proofs.lemmas.Bool.Decides.{nat_tests}
 use Rattle.std.proofs.lemmas.List.Folds.{list_any-append}
 use Rattle.chr_map.specs.Order.{Ascends}
 use Rattle.chr_semantics.proofs.Tests.{eqb_sym}
 use Rattle.chr_semantics.specs.Cursor.{is_new}
-use Rattle.chr_semantics.specs.Keys.{is_of}
 use Rattle.chr_semantics.specs.Match as semantics
 use Rattle.chr_semantics.specs.Program.{Head}
 use Rattle.chr_store.specs.Rows.{row_atom}

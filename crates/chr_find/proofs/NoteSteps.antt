@@ -1,5 +1,5 @@
 -- What is noted of a table: rows and firings that are alike stay so.
-use Rattle.std.proofs.Common.{◌≡◌, ◌∙◌, ℕ, Bool, true, false, cond, not, ◌&&◌, List, ap, refl}
+use Rattle.std.proofs.Common.{◌≡◌, ◌∙◌, Bool, true, false, cond, not, ◌&&◌, List, ap, refl}
 use Rattle.std.specs.Prelude.{Option}
 use Rattle.chr_semantics.specs.Search.{has_number}
 use Rattle.chr_store.specs.declared.row.Row.{Row}

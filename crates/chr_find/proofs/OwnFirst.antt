@@ -1,5 +1,5 @@
 -- The whole search, and what it is in the definitions.
-use Rattle.std.proofs.Common.{◌≡◌, ◌^◌, ◌<◌, ◌∙◌, ℕ, ◌+◌, Bool, true, false, cond, ◌&&◌, List, [], ◌∷◌, Option, Some, None, option_map, take, ap, refl, sym}
+use Rattle.std.proofs.Common.{◌≡◌, ◌^◌, ◌<◌, ◌∙◌, ℕ, ◌+◌, List, [], ◌∷◌, Option, Some, None, option_map, ap, refl, sym}
 use Rattle.std.specs.Prelude.{find, slice_get}
 use Rattle.chr_semantics.proofs.CursorLaw.{cursor_law, gated_law}
 use Rattle.chr_semantics.proofs.JoinLaw.{join_law}
@@ -8,7 +8,7 @@ use Rattle.chr_semantics.specs.Cursor.{IsSpent, lies_ahead}
 use Rattle.chr_semantics.specs.Join.{Joined, after_own, enters, joined, own_joined, rows_in}
 use Rattle.chr_semantics.specs.Match.{Row, fit_atom}
 use Rattle.chr_semantics.specs.Program.{Head, Rule}
-use Rattle.chr_semantics.specs.Search.{History, can_fire, first_tuple, ids_of, tuples}
+use Rattle.chr_semantics.specs.Search.{History, ids_of}
 use Rattle.chr_semantics.specs.Subst.{Subst}
 use Rattle.chr_semantics.specs.Tries.{capped, tried, tried_tuples}
 use Rattle.chr_find.specs.Finds.{Finds}

@@ -1,6 +1,6 @@
 -- The guest of a snapshot among its constraints.
 use Rattle.std.proofs.Common.{◌≡◌, ◌∙◌, ◌==◌, ◌<◌, ◌≤◌, ℕ, Bool, true, false, cond, List, [], ◌∷◌, ◌++◌, ap, arith, refl, sym, true≢false, ◌⊎◌, inl, inr}
-use Rattle.std.specs.Prelude.{Option, Some, None, option_map}
+use Rattle.std.specs.Prelude.{Option, Some, None}
 use Rattle.std.proofs.lemmas.Bool.{cases_order, eq-eqb}
 use Rattle.std.proofs.lemmas.Bool.Decides.{Decides-eqb}
 use Rattle.chr_semantics.proofs.Tests.{eqb_sym}
@@ -9,7 +9,7 @@ use Rattle.chr_semantics.specs.Program.{Atom}
 use Rattle.chr_semantics.specs.Search.{atom_of}
 use Rattle.chr_semantics.specs.Snapshot.{rows_seen, with_last}
 use Rattle.chr_semantics.specs.Snapshot as snapshots
-use Rattle.chr_find.specs.Shown.{AllOver, AllUnder, Rises}
+use Rattle.chr_find.specs.Shown.{AllUnder, Rises}
 use Rattle.chr_find.proofs.Made.{rises_last}
 
 -- each row is one of those that are looked up, or an earlier one has its identity

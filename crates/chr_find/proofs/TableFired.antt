@@ -3,7 +3,7 @@ use Rattle.std.proofs.Common.{◌≡◌, ◌∙◌, ◌==◌, ◌&&◌, ◌||◌
 use Rattle.std.proofs.lemmas.Bool.{and_parts}
 use Rattle.std.proofs.lemmas.Bool.Decides.{Decides-and, Decides-eqb, Decides-like, Decides-ltb, same_from_decides}
 use Rattle.chr_semantics.specs.Search.{has_number, same_ids}
-use Rattle.chr_find.specs.Firings.{firing_of, fits, ids_in, is_in, same_firing}
+use Rattle.chr_find.specs.Firings.{firing_of, fits, ids_in, same_firing}
 use Rattle.chr_find.specs.NotedView.{fired_in}
 use Rattle.chr_find.specs.declared.firings.Firing.{Firing}
 use Rattle.chr_find.specs.declared.noted.Noted.{Noted}

@@ -1,13 +1,13 @@
 -- What the search of a table finds, in the definitions.
-use Rattle.std.proofs.Common.{◌≡◌, ◌∙◌, ◌<◌, ◌+◌, ◌≤◌, ℕ, List, [], ap, arith, drop, length, subst, sym}
-use Rattle.std.specs.Prelude.{Option, Some, None, option_map}
+use Rattle.std.proofs.Common.{◌≡◌, ◌∙◌, ◌≤◌, ℕ, List, ap, arith, length, subst, sym}
+use Rattle.std.specs.Prelude.{Option, Some, option_map}
 use Rattle.std.proofs.lemmas.List.{drop_all}
 use Rattle.chr_semantics.specs.Match as semantics
 use Rattle.chr_semantics.specs.Program.{Atom, Head}
 use Rattle.chr_store.specs.Rows.{row_atom}
 use Rattle.chr_store.specs.declared.row.Row.{Row}
 use Rattle.chr_find.specs.Joins.{IsQuiet, QuietFrom}
-use Rattle.chr_find.specs.NotedView.{AreShown, IsSettled}
+use Rattle.chr_find.specs.NotedView.{IsSettled}
 use Rattle.chr_find.specs.PlanView.{positions_of}
 use Rattle.chr_find.specs.Shown.{IsShown, atom_in}
 use Rattle.chr_find.specs.TableView.{HasRows}

@@ -4,7 +4,7 @@ use Rattle.std.specs.Coded.{Coded, code_by, codes}
 use Rattle.std.proofs.Props.{props}
 use Rattle.chr_bind.specs.Code.{tree_code}
 use Rattle.chr_semantics.specs.Program.{Atom}
-use Rattle.chr_semantics.specs.Tree.{Tree, var, int, node, none}
+use Rattle.chr_semantics.specs.Tree.{Tree, node, none}
 
 abbrev pub tree_of : Atom → Tree
 tree_of a = node a.sym a.args

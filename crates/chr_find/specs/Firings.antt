@@ -1,5 +1,5 @@
 -- Firings that a table keeps.
-use Rattle.std.specs.Prelude.{◌≡◌, ◌≤◌, ◌<◌, ℕ, Bool, true, false, cond, ◌&&◌, nat_lt, List, [], ◌∷◌, ◌++◌, Option, Some, None, is_some, drop, take, length}
+use Rattle.std.specs.Prelude.{◌≡◌, ℕ, Bool, true, false, cond, ◌&&◌, nat_lt, List, [], ◌∷◌, ◌++◌, Option, Some, None, is_some, drop, take, length}
 use Rattle.std.specs.declared.cmp.Ordering.{Ordering}
 use Rattle.chr_map.specs.Order.{value_of}
 use Rattle.chr_semantics.specs.Search.{History, has_number}

@@ -21,3 +21,5 @@ pub mod SearchedView
 pub mod Shown
 pub mod SnapshotView
 pub mod TableView
+pub mod ScopeView
+pub mod Taking

@@ -1,14 +1,38 @@
 -- A snapshot as the definitions have it.
-use Rattle.std.specs.Prelude.{◌≡◌, ℕ, List, option_map}
+use Rattle.std.specs.Prelude.{◌≡◌, ℕ, true, List, Option, map, option_map}
+use Rattle.std.specs.Borrow.{Bor}
+use Rattle.chr_semantics.specs.Program.{Atom}
 use Rattle.chr_semantics.specs.Search.{fired_before}
 use Rattle.chr_semantics.specs.Snapshot as semantics
+use Rattle.chr_semantics.specs.Tasks as tasks
 use Rattle.chr_store.specs.Rows.{row_atom}
+use Rattle.chr_term.specs.TermView.{atom_view}
+use Rattle.chr_term.specs.declared.term.Sym.{Sym}
+use Rattle.chr_term.specs.declared.term.Term.{Term}
+use Rattle.chr_find.specs.Firings.{fits}
 use Rattle.chr_find.specs.TableView.{HasRows, fired_at}
 use Rattle.chr_find.specs.declared.snapshot.Snapshot.{Snapshot}
+use Rattle.chr_find.specs.declared.snapshot.Task.{Task}
+use Rattle.chr_find.specs.declared.table.Table.{Table}
 
--- these rows, entries, next identity and guest
-pub record IsSnapshot {A : Type 0} (s : Snapshot A) (q : semantics.Snapshot) : Type 0 where
-  pub rows : HasRows s.table q.rows
-  pub history : (r : ℕ) (ids : List ℕ) → fired_before q.history r ids ≡ fired_at s.table r ids
-  pub next : q.next_id ≡ s.next.0
-  pub guest : q.guest ≡ option_map row_atom s.guest
+abbrev pub task_view : Task → tasks.Task
+task_view t = (t.goal.0, t.occurrence)
+
+abbrev pub tasks_view : List Task → List tasks.Task
+tasks_view ts = map task_view ts
+
+-- a guest as it is handed in and read: its symbol and its arguments
+abbrev pub guest_view : {A : Type 0} → Option (Sym × Bor (List (Term A))) → Option Atom
+guest_view g = option_map (λ p. atom_view p.0 p.1.now) g
+
+-- these constraints and firings, as far as rules have heads, with the next identity, tasks and guest
+pub record IsTaken {A : Type 0} (t : Table A) (n : ℕ) (ts : List tasks.Task) (g : Option Atom) (q : semantics.Snapshot) : Type 0 where
+  pub rows : HasRows t q.rows
+  pub history : (r : ℕ) (ids : List ℕ) → fits ids ≡ true → fired_before q.history r ids ≡ fired_at t r ids
+  pub next : q.next_id ≡ n
+  pub tasks : q.tasks ≡ ts
+  pub guest : q.guest ≡ g
+
+-- what the snapshot shows
+abbrev pub IsSnapshot : {A : Type 0} → Snapshot A → semantics.Snapshot → Type 0
+IsSnapshot s q = IsTaken s.table s.next.0 (tasks_view s.tasks.items) (option_map row_atom s.guest) q

@@ -39,6 +39,6 @@ module _ {A : Type 0} where
     pub rises : Rises rows
     pub same : (i : ℕ) → atom_of rows i ≡ atom_at t i
 
-  -- the history has for living constraints what the table has
+  -- the history has for living constraints what the table has, as far as rules have heads
   abbrev pub HasHistory : Table A → History → Type 0
-  HasHistory t h = (r : ℕ) (ids : List ℕ) → list_all (lives t) ids ≡ true → fired_before h r ids ≡ fired_at t r ids
+  HasHistory t h = (r : ℕ) (ids : List ℕ) → fits ids ≡ true → list_all (lives t) ids ≡ true → fired_before h r ids ≡ fired_at t r ids

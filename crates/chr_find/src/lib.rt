@@ -21,11 +21,13 @@ mod quiet;
 mod rebinding;
 mod resolving;
 mod root;
+mod scope;
 mod search;
 mod searched;
 mod snapshot;
 mod standing;
 mod table;
+mod taking;
 
 pub use active::{Active, Cursor};
 pub use answer::{Found, find};

@@ -2,6 +2,7 @@
 ghost use Rattle.std.specs.Prelude.{◌≡◌};
 ghost use Rattle.chr_find.specs.PlanView.{positions_of};
 
+use crate::Memory;
 use chr_term::Sym;
 use std::alloc::{Allocator, Global};
 
@@ -12,6 +13,18 @@ pub struct Plan<A: Allocator = Global> {
     pub positions: Vec<Vec<u8, A>, A>,
     /// For the symbols behind these.
     pub others: Vec<u8, A>,
+}
+
+impl<A: Allocator + Copy> Plan<A> {
+    /// Rows are found by their first argument alone.
+    pub fn first(alloc: A) -> Result<Plan<A>, Memory> {
+        let mut others = Vec::new(alloc);
+        others.push(0)?;
+        Ok(Plan {
+            positions: Vec::new(alloc),
+            others,
+        })
+    }
 }
 
 impl<A: Allocator> Plan<A> {

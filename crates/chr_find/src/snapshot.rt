@@ -1,8 +1,9 @@
 //! What searches look at.
-ghost use Rattle.std.specs.Prelude.{◌≡◌, ◌≤◌, IfOk, None, ℕ};
+ghost use Rattle.std.specs.Prelude.{◌≡◌, ◌≤◌, IfOk, None, ℕ, option_map};
 ghost use Rattle.chr_semantics.specs.Snapshot as semantics;
 ghost use Rattle.chr_semantics.specs.Snapshot.{found_in, tries_in};
 ghost use Rattle.chr_rules.specs.ProgramView.{rules_of};
+ghost use Rattle.chr_store.specs.Rows.{row_atom};
 ghost use Rattle.chr_find.specs.AtomCode.{atoms};
 ghost use Rattle.chr_find.specs.TableView.{IsSettled, atom_at};
 
@@ -12,6 +13,7 @@ use crate::table::Table;
 use chr_map::{Pointer, Share};
 use chr_rules::Program;
 use chr_store::{Id, Row};
+use chr_term::{Sym, Term};
 use std::alloc::{Allocator, Global};
 
 /// An occurrence of a constraint, to be searched.
@@ -35,17 +37,51 @@ pub struct Snapshot<A: Allocator = Global> {
 }
 
 impl<A: Allocator> Snapshot<A> {
+    ghost use Rattle.chr_find.specs.SnapshotView.{IsSnapshot, guest_view, tasks_view};
+
     /// The tasks.
     pub fn tasks(&self) -> &[Task]
-        ensures { result.now ≡ self.now.tasks.items }
+        ensures { (q : semantics.Snapshot) → IsSnapshot self.now q → q.tasks ≡ tasks_view result.now }
     {
         self.tasks.as_slice()
+    }
+
+    /// The guest: its symbol, and its arguments with bindings applied.
+    pub fn guest(&self) -> Option<(Sym, &[Term<A>])>
+        ensures { (q : semantics.Snapshot) → IsSnapshot self.now q → q.guest ≡ guest_view result }
+    {
+        match &self.guest {
+            None => None,
+            Some(row) => Some((row.value().sym, row.value().args.as_slice())),
+        }
     }
 }
 
 impl<A: Allocator + Copy> Snapshot<A> {
     ghost use Rattle.chr_find.specs.SearchedView.{IsSearched};
-    ghost use Rattle.chr_find.specs.SnapshotView.{IsSnapshot};
+    ghost use Rattle.chr_find.specs.SnapshotView.{IsSnapshot, IsTaken, tasks_view};
+
+    /// A table as it stands now, at the price of some pointers. The guest's arguments have the bindings applied.
+    pub fn of(
+        table: &Table<A>,
+        next: Id,
+        tasks: Vec<Task, A>,
+        guest: Option<Pointer<Row<A>, A>>,
+    ) -> Result<Snapshot<A>, Memory>
+        requires settled { IsSettled table.now }
+        requires free { (i : ℕ) → next.0 ≤ i → atom_at table.now i ≡ None }
+        ensures { IfOk result (λ shared. (q : semantics.Snapshot) →
+            IsTaken table.now next.0 (tasks_view tasks.items) (option_map row_atom guest) q →
+            IsSnapshot shared q) }
+    {
+        let table = table.share()?;
+        Ok(Snapshot {
+            table,
+            next,
+            tasks,
+            guest,
+        })
+    }
 
     /// What a search for a task finds. For the next identity the guest is added to the constraints.
     pub(crate) fn search(&self, program: &Program<A>, task: Task) -> Result<Searched, Memory>

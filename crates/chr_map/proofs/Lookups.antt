@@ -49,7 +49,7 @@ module _ {K V : Type 0} (cmp : K → K → Ordering) (total : IsTotalOrder cmp) 
   value_of-put (e ∷ es) k v j = put_at j k v e es (cmp k e.0) refl (value_of-put es k v j)
 
   -- at keys that are equal stands the same
-  same_value : (j k : K) (es : List (K × V)) → cmp j k ≡ Equal → value_of cmp es j ≡ value_of cmp es k
+  pub same_value : (j k : K) (es : List (K × V)) → cmp j k ≡ Equal → value_of cmp es j ≡ value_of cmp es k
   same_value j k [] is = refl
   same_value j k (e ∷ es) is = rw (total.congr j k e.0 is, same_value j k es is) refl
 

@@ -42,7 +42,7 @@ without_at (suc i) x (y ∷ ys) up inside is =
     rw (test_other y x apart, sym rest) refl
 
 -- a binary search over identities is one over their numbers
-searched_numbers : (x : Id) (ids : List Id) (r : Result ℕ ℕ) → IsSearchInRange r (length ids) → IsBinarySearchResult (λ (y : Id). nat_cmp y.0 x.0) ids r → IsBinarySearchResult (λ y. nat_cmp y x.0) (numbers ids) r
+pub searched_numbers : (x : Id) (ids : List Id) (r : Result ℕ ℕ) → IsSearchInRange r (length ids) → IsBinarySearchResult (λ (y : Id). nat_cmp y.0 x.0) ids r → IsBinarySearchResult (λ y. nat_cmp y x.0) (numbers ids) r
 searched_numbers x ids (Ok i) within h = λ d. rw (get_or-map (λ (j : Id). j.0) ids i x d within) (h x)
 searched_numbers x ids (Err i) within h = λ up.
     let n : length (numbers ids) ≡ length ids = length-map ids (λ (j : Id). j.0) in
@@ -53,7 +53,7 @@ searched_numbers x ids (Err i) within h = λ up.
       λ k d low high. let inside : k < length ids = omega (arith, n) in rw (get_or-map (λ (j : Id). j.0) ids k x d inside) (parts.1 k x low inside),
     )
 
-ascends : (xs : List ℕ) → IsStrictlyIncreasing xs → (i j : ℕ) → i ≤ j → j < length xs → get_or xs i 0 ≤ get_or xs j 0
+pub ascends : (xs : List ℕ) → IsStrictlyIncreasing xs → (i j : ℕ) → i ≤ j → j < length xs → get_or xs i 0 ≤ get_or xs j 0
 ascends xs up i j le inside = ⊎_elim (λ same. omega (arith, ap (λ k. get_or xs k 0) same)) (λ apart. let less : get_or xs i 0 < get_or xs j 0 = AllPairs-from_increasing xs up i j 0 (omega arith) inside in omega arith) (cases_eq i j)
 
 -- the place of an identity, or there is nothing to take out

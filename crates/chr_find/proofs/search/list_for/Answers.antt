@@ -1,4 +1,4 @@
-use Rattle.std.proofs.Common.{arith, refl}
+use Rattle.std.proofs.Common.{refl}
 use Rattle.chr_find.specs.PlanView.{positions_of}
 use Rattle.chr_find.proofs.EnoughRows.{planned_at, symbol_enough}
 use Rattle.chr_find.proofs.search.list_for.Goals as goal

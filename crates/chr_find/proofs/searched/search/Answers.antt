@@ -1,6 +1,6 @@
-use Rattle.std.proofs.Common.{◌≡◌, ◌∙◌, Option, Some, ap, arith, length, sym, subst, ℕ}
+use Rattle.std.proofs.Common.{◌≡◌, ◌∙◌, Option, Some, ap, arith, length, sym}
 use Rattle.std.specs.Prelude.{option_map, slice_get}
-use Rattle.chr_rules.specs.Index.{pair_of, pair_view}
+use Rattle.chr_rules.specs.Index.{pair_of}
 use Rattle.chr_rules.specs.ProgramView.{rules_of}
 use Rattle.chr_rules.specs.RuleView.{rule_view}
 use Rattle.chr_semantics.specs.Program.{Atom, Rule, occurrence}

@@ -1,4 +1,4 @@
-use Rattle.std.proofs.Common.{◌≡◌, ◌∙◌, ◌++◌, List, ap, refl, sym}
+use Rattle.std.proofs.Common.{◌∙◌, ◌++◌, List, ap, refl, sym}
 use Rattle.chr_map.proofs.Clauses.{ok_more}
 use Rattle.chr_semantics.specs.Match as semantics
 use Rattle.chr_store.specs.declared.row.Row.{Row}

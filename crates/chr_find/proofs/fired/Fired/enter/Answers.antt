@@ -1,8 +1,8 @@
-use Rattle.std.proofs.Common.{◌≡◌, ◌∙◌, ◌<◌, ◌≤◌, List, ap, arith, cond, get_or, length, refl, subst, sym, take, true, ℕ}
+use Rattle.std.proofs.Common.{◌≡◌, ◌∙◌, ◌<◌, ◌≤◌, List, ap, arith, cond, get_or, length, refl, subst, sym, true, ℕ}
 use Rattle.std.proofs.lemmas.List.{take_all}
 use Rattle.chr_map.proofs.Clauses.{either, ok_more}
 use Rattle.chr_semantics.specs.Search.{has_number}
-use Rattle.chr_find.specs.Firings.{IsIndexed, ids_in, is_in, is_under, same_firing}
+use Rattle.chr_find.specs.Firings.{IsIndexed, ids_in, is_in, same_firing}
 use Rattle.chr_find.specs.declared.firings.Entry.{Entry}
 use Rattle.chr_find.specs.declared.firings.Firing.{Firing}
 use Rattle.chr_find.proofs.FiredIndex.{indexed_entered, indexed_put, under_more}

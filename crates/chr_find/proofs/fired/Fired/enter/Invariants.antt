@@ -1,6 +1,6 @@
 use Rattle.std.proofs.Common.{◌≡◌, ℕ, take, true}
 use Rattle.chr_semantics.specs.Search.{has_number}
-use Rattle.chr_find.specs.Firings.{ids_in, is_under}
+use Rattle.chr_find.specs.Firings.{is_under}
 use Rattle.chr_find.proofs.fired.Fired.enter.Given as goal
 
 abbrev pub invariant-loop-id : goal.invariant-loop-id

@@ -1,9 +1,7 @@
-use Rattle.std.proofs.Common.{◌≡◌, ◌∙◌, ◌<◌, ◌≤◌, List, ap, arith, cond, false, get_or, length, refl, subst, sym, take, true, ℕ}
+use Rattle.std.proofs.Common.{List, get_or, refl, subst, sym}
 use Rattle.std.proofs.lemmas.Bool.{ne_eqb}
-use Rattle.chr_map.specs.Order.{Ascends, entry_removed}
 use Rattle.chr_map.proofs.Clauses.{either, ok_more}
-use Rattle.chr_semantics.specs.Search.{has_number}
-use Rattle.chr_find.specs.Firings.{IsIndexed, entry_cmp, firing_cmp, ids_in, is_in, is_under, same_firing}
+use Rattle.chr_find.specs.Firings.{IsIndexed}
 use Rattle.chr_find.specs.declared.firings.Entry.{Entry}
 use Rattle.chr_find.specs.declared.firings.Firing.{Firing}
 use Rattle.chr_find.proofs.FiredIndex.{IsLeft, indexed_out, indexed_removed, left_first, left_last, left_next, left_out}

@@ -1,4 +1,4 @@
-use Rattle.std.proofs.Common.{◌≡◌, ◌∙◌, ◌+◌, ◌<◌, ◌∷◌, ◌++◌, [], Bool, List, Option, None, Some, ap, arith, drop, false, length, refl, rules, subst, sym, take, true, vec_len}
+use Rattle.std.proofs.Common.{◌≡◌, ◌∙◌, ◌<◌, ◌∷◌, ◌++◌, [], Bool, List, None, ap, arith, false, length, refl, subst, sym, take, true, vec_len}
 use Rattle.std.proofs.lemmas.Bool.{eq-eqb, ne_eqb}
 use Rattle.chr_bind.specs.Terms.{AreBelow}
 use Rattle.chr_rules.specs.RuleView.{rule_view}
@@ -15,7 +15,7 @@ use Rattle.chr_find.specs.Enough.{TakesAs}
 use Rattle.chr_find.specs.Joins.{WalkIs}
 use Rattle.chr_find.specs.PlanView.{positions_of}
 use Rattle.chr_find.specs.Places.{has_list}
-use Rattle.chr_find.specs.SearchIs.{JoinFinds, WalkFinds, gate_at}
+use Rattle.chr_find.specs.SearchIs.{WalkFinds, gate_at}
 use Rattle.chr_find.specs.Shown.{AllUnder, walk}
 use Rattle.chr_find.proofs.JoinEnds.{at_own, from_walk}
 use Rattle.chr_find.proofs.JoinSteps.{row_out, row_taken, walk_found, walk_on}

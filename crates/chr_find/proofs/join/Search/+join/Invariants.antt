@@ -1,4 +1,4 @@
-use Rattle.std.proofs.Common.{ℕ, ◌+◌, ◌*◌, ◌-◌, length, vec_len}
+use Rattle.std.proofs.Common.{◌+◌, ◌*◌, ◌-◌, length, vec_len}
 use Rattle.chr_find.proofs.join.Search.+join.Given as goal
 
 abbrev pub decreases-join : goal.decreases-join

@@ -1,8 +1,6 @@
-use Rattle.std.proofs.Common.{◌≡◌, ◌∙◌, [], Bool, List, Option, None, Some, arith, false, length, refl, subst, sym, true}
-use Rattle.std.specs.Prelude.{MatchBool, slice_get}
+use Rattle.std.proofs.Common.{◌≡◌, [], Bool, Some, arith, false, length, refl, subst, sym, true}
 use Rattle.chr_bind.specs.Matching.{AgreesWith}
 use Rattle.chr_bind.specs.Terms.{AreBelow}
-use Rattle.chr_bind.specs.declared.matching.Match.{Match}
 use Rattle.chr_rules.specs.RuleView.{rule_view}
 use Rattle.chr_semantics.proofs.Lists.{All-got}
 use Rattle.chr_semantics.specs.Match.{fit_atom}
@@ -12,7 +10,6 @@ use Rattle.chr_semantics.specs.declared.limits.TheConstants.{MAX_RULE_VARIABLES}
 use Rattle.chr_store.specs.Rows.{row_atom}
 use Rattle.chr_term.specs.TermView.{atom_view}
 use Rattle.chr_find.specs.Enough.{FitsHead}
-use Rattle.chr_find.specs.Gate.{Gate}
 use Rattle.chr_find.specs.ModeView.{gate_of}
 use Rattle.chr_find.proofs.OwnFirst.{own_apart, own_found}
 use Rattle.chr_find.proofs.RuleHeads.{head_at, head_is}

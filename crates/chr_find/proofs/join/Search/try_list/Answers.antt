@@ -1,4 +1,4 @@
-use Rattle.std.proofs.Common.{◌≡◌, ◌∙◌, ◌+◌, ◌≤◌, ap, arith, drop, length, map, rules, sym}
+use Rattle.std.proofs.Common.{◌≡◌, ◌∙◌, ◌+◌, ◌≤◌, ap, arith, drop, length, map, sym}
 use Rattle.chr_bind.specs.Guards.{test_view}
 use Rattle.chr_rules.specs.RuleView.{rule_view}
 use Rattle.chr_semantics.specs.Guard.{all_entailed}

@@ -1,4 +1,4 @@
-use Rattle.std.proofs.Common.{◌≡◌, ◌∙◌, ◌∷◌, ◌++◌, [], Bool, List, Option, None, Some, ap, cond, false, refl, subst, sym, true}
+use Rattle.std.proofs.Common.{◌≡◌, ◌∙◌, ◌∷◌, ◌++◌, [], Bool, List, Option, None, Some, ap, cond, refl, subst, sym}
 use Rattle.chr_semantics.specs.Tree.{is_ground_trees}
 use Rattle.chr_store.specs.Rows.{row_atom}
 use Rattle.chr_store.specs.declared.id.Id.{Id}

@@ -6,7 +6,6 @@ use Rattle.chr_rules.specs.ProgramView.{rules_of}
 use Rattle.chr_semantics.specs.Match as semantics
 use Rattle.chr_semantics.specs.Program.{Atom}
 use Rattle.chr_semantics.specs.Search.{atom_of, first}
-use Rattle.chr_semantics.specs.Snapshot.{rows_seen}
 use Rattle.chr_semantics.specs.Tries.{tries_bounds}
 use Rattle.chr_store.specs.Rows.{row_atom}
 use Rattle.chr_store.specs.declared.row.Row.{Row}
@@ -51,4 +50,4 @@ returns g c =
     in
     let has : HasRows t rows = record { rises = rises_guest q.next_id a q.rows is.rows.rises free; same = same } in
     subst (λ (l : List semantics.Row). IsSearched (first p l q.history i j) (tries_bounds p l q.history i j) found) (sym (seen_guest q i a here has_guest))
-    (f rows has q.history (λ r ids live. is.history r ids ∙ sym (c.in_ok-settle.ensures.fired r ids ∙ (c.add.ensures.fired r ids ∙ (c.in_ok-room.ensures.fired r ids ∙ c.in_ok-table.ensures.fired r ids))))))
+    (f rows has q.history (λ r ids short live. is.history r ids short ∙ sym (c.in_ok-settle.ensures.fired r ids ∙ (c.add.ensures.fired r ids ∙ (c.in_ok-room.ensures.fired r ids ∙ c.in_ok-table.ensures.fired r ids))))))

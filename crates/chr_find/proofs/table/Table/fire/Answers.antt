@@ -1,4 +1,4 @@
-use Rattle.std.proofs.Common.{◌≡◌, ◌∙◌, ap, cond, true}
+use Rattle.std.proofs.Common.{◌∙◌, ap, cond, true}
 use Rattle.chr_find.specs.Firings.{same_firing}
 use Rattle.chr_find.specs.NotedView.{fired_in}
 use Rattle.chr_find.specs.declared.firings.Firing.{Firing}

@@ -1,4 +1,4 @@
-use Rattle.std.proofs.Common.{◌≡◌, ◌∙◌, ◌<◌, ◌≤◌, [], List, Option, Some, ap, arith, length, subst, sym, take, ℕ}
+use Rattle.std.proofs.Common.{◌≡◌, ◌∙◌, ◌≤◌, [], Some, ap, arith, length, subst, sym, take, ℕ}
 use Rattle.std.specs.Prelude.{slice_get}
 use Rattle.chr_rules.specs.RuleView.{rule_view}
 use Rattle.chr_semantics.specs.Join.{own_joined}
@@ -7,12 +7,12 @@ use Rattle.chr_store.specs.Rows.{row_atom}
 use Rattle.chr_semantics.specs.Search.{History}
 use Rattle.chr_find.specs.Finds.{Finds}
 use Rattle.chr_find.specs.Firings.{history_of}
-use Rattle.chr_find.specs.Gate.{free, on, passed}
+use Rattle.chr_find.specs.Gate.{on, passed}
 use Rattle.chr_find.specs.PlanView.{positions_of}
 use Rattle.chr_find.specs.Shown.{IsShown}
 use Rattle.chr_find.specs.TableView.{atom_at}
 use Rattle.chr_find.specs.declared.plan.Plan.{Plan}
-use Rattle.chr_find.proofs.TableShown.{all_quiet, has_shown, row_is}
+use Rattle.chr_find.proofs.TableShown.{has_shown, row_is}
 use Rattle.chr_find.proofs.LiveFirings.{agree, all_live, live_in, own_live}
 use Rattle.chr_find.proofs.OwnFirst.{next_first}
 use Rattle.chr_find.proofs.RuleHeads.{heads_length}
@@ -38,9 +38,10 @@ returns-clause-found g c =
     let l = take (length rule.heads) c.args.cursor.now.after in
     let own = own_live t rows c.requires.settled has s.id.0 a lives in
     let alike = agree t rows c.requires.settled has h firings s.number in
-    first_too rows h k s.number rule s.place (s.id.0, a) (live_in rows) own (all_live rows) alike (length rule.heads) found
+    let few : length rule.heads ≤ 8 = c.requires.searchable.small.few in
+    first_too rows h k s.number rule s.place (s.id.0, a) (live_in rows) few own (all_live rows) alike (length rule.heads) found
     (next_first rows k s.number rule s.place x.0 (s.id.0, a) (length rule.heads) from l found c.args.tries.now c.first.new.tries x.1
-    (spent_alike rows h k s.number rule s.place (s.id.0, a) (live_in rows) own (all_live rows) alike l from spent)
+    (spent_alike rows h k s.number rule s.place (s.id.0, a) (live_in rows) few own (all_live rows) alike l from spent)
     (subst (λ (b : Atom). Finds k s.number rule.guard [] (length rule.heads) (passed from (on l) (own_joined rows rule s.place x.0 (s.id.0, b))) found c.args.tries.now c.first.new.tries) same
     (subst (λ (n : ℕ). Finds k s.number rule.guard [] (length rule.heads) (passed from (on (take n c.args.cursor.now.after)) (own_joined rows rule s.place x.0 (s.id.0, row_atom c.value-row.result.now))) found c.args.tries.now c.first.new.tries) all
     (f x.0 x.1 rows planned (c.quiet_from-quiet.ensures (positions_of t.noted.plan) rows shown))))))

@@ -1,4 +1,4 @@
-use Rattle.std.proofs.Common.{◌≡◌, ◌∙◌, ◌+◌, ◌≤◌, arith, length}
+use Rattle.std.proofs.Common.{◌≡◌, ◌∙◌, ◌+◌, arith, length}
 use Rattle.chr_find.specs.TableView.{HasRoom, atom_at}
 use Rattle.chr_find.proofs.Rebinds.{last_there, next_on, none_left, one_less}
 use Rattle.chr_find.proofs.table.Table.rebind.Goals as goal

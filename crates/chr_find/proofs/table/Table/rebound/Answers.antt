@@ -1,16 +1,14 @@
-use Rattle.std.proofs.Common.{◌≡◌, ◌∙◌, ◌++◌, ◌<◌, ◌≤◌, [], List, Option, ap, arith, get_or, length, subst, sym, take, ℕ}
+use Rattle.std.proofs.Common.{◌≡◌, ◌∙◌, ◌++◌, ◌<◌, ◌≤◌, List, Option, ap, arith, length, subst, sym, take, ℕ}
 use Rattle.std.proofs.lemmas.List.{take_all}
 use Rattle.chr_map.specs.Order.{Ascends}
 use Rattle.chr_semantics.specs.Match as semantics
 use Rattle.chr_semantics.specs.Program.{Atom}
-use Rattle.chr_store.specs.declared.row.Row.{Row}
 use Rattle.chr_find.specs.Places.{place_cmp}
 use Rattle.chr_find.specs.PlanView.{positions_of}
 use Rattle.chr_find.specs.Rebinding.{IsMade, open_ids, standing_rows}
 use Rattle.chr_find.specs.Shown.{atom_in, walk}
-use Rattle.chr_find.specs.TableView.{HasRows, atom_at}
+use Rattle.chr_find.specs.TableView.{atom_at}
 use Rattle.chr_find.specs.declared.list.List.TheVariants.{Open}
-use Rattle.chr_find.specs.declared.list.Place.{Place}
 use Rattle.chr_find.specs.declared.standing.Standing.{Standing}
 use Rattle.chr_find.proofs.MadeWhole.{before_all, made_atoms, open_all, open_looked, open_rows, standing_next, stands_open}
 use Rattle.chr_find.proofs.table.Table.rebound.Goals as goal

@@ -1,4 +1,4 @@
-use Rattle.std.proofs.Common.{◌∙◌, sym}
+use Rattle.std.proofs.Common.{◌∙◌}
 use Rattle.chr_find.proofs.TableRows.{atoms_same, rows_shared, shown_same}
 use Rattle.chr_find.proofs.table.Table.share.Goals as goal
 

@@ -1,0 +1,14 @@
+use Rattle.std.proofs.Common.{◌∙◌, sym}
+use Rattle.chr_find.proofs.snapshot.Snapshot.of.Goals as goal
+
+pub invariant_of-result : goal.invariant_of-result
+invariant_of-result g c = record { settled = c.in_ok-table.ensures.settled; free = λ i le. c.in_ok-table.ensures.atoms i ∙ c.requires.free i le }
+
+pub returns : goal.returns
+returns g c = λ q is. record {
+  rows = record { rises = is.rows.rises; same = λ i. is.rows.same i ∙ sym (c.in_ok-table.ensures.atoms i) };
+  history = λ r ids short. is.history r ids short ∙ sym (c.in_ok-table.ensures.fired r ids);
+  next = is.next;
+  tasks = is.tasks;
+  guest = is.guest;
+}

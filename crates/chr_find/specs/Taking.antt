@@ -1,0 +1,28 @@
+-- What is taken of a state.
+use Rattle.std.specs.Prelude.{◌≡◌, ℕ, List, true}
+use Rattle.chr_semantics.specs.Match as semantics
+use Rattle.chr_semantics.specs.Search.{History as Entries, atom_of, fired_before}
+use Rattle.chr_semantics.specs.State.{State}
+use Rattle.chr_semantics.specs.Subst.{Subst}
+use Rattle.chr_store.specs.HistoryView.{entries_view}
+use Rattle.chr_store.specs.StoreView.{store_view}
+use Rattle.chr_store.specs.declared.history.History.{History}
+use Rattle.chr_store.specs.declared.store.Store.{Store}
+use Rattle.chr_find.specs.Firings.{fits}
+use Rattle.chr_find.specs.ScopeView.{entries_kept, rows_kept}
+use Rattle.chr_find.specs.TableView.{IsSettled, atom_at, fired_at}
+use Rattle.chr_find.specs.declared.scope.Scope.{Scope}
+use Rattle.chr_find.specs.declared.table.Table.{Table}
+
+-- a state with this store, substitution and history
+pub record IsStateOf {A : Type 0} (c : Store A) (m : Subst) (h : History A) (s : State) : Type 0 where
+  pub store : s.store ≡ (store_view c).rows
+  pub subst : s.subst ≡ m
+  pub history : s.history ≡ (entries_view h).list
+  pub next : s.next_id ≡ (store_view c).next_id
+
+-- a table of the constraints and the firings that are in the scope
+pub record IsTakenOf {A : Type 0} (scope : Scope A) (m : Subst) (rows : List semantics.Row) (h : Entries) (t : Table A) : Type 0 where
+  pub settled : IsSettled t
+  pub atoms : (i : ℕ) → atom_at t i ≡ atom_of (rows_kept scope m rows) i
+  pub fired : (r : ℕ) (ids : List ℕ) → fits ids ≡ true → fired_at t r ids ≡ fired_before (entries_kept scope rows h) r ids

@@ -1,0 +1,242 @@
+//! Snapshots that are taken of a store, bindings and a history.
+ghost use Rattle.std.specs.Prelude.{◌≡◌, ◌||◌, ◌&&◌, ◌==◌, ◌≤◌, IfOk, List, None, OnOk, ℕ, cond, is_some, length, option_and_then, option_map, take, true};
+ghost use Rattle.std.specs.List.{list_all};
+ghost use Rattle.chr_semantics.specs.Program.{occurrence};
+ghost use Rattle.chr_semantics.specs.Search.{atom_of, fired_before, has_number, same_ids};
+ghost use Rattle.chr_semantics.specs.Snapshot.{snapshot_for, snapshot_for_task};
+ghost use Rattle.chr_semantics.specs.State.{State, resolved_atom};
+ghost use Rattle.chr_rules.specs.ProgramView.{rules_of};
+ghost use Rattle.chr_store.specs.HistoryView.{entries_view, fired_view};
+ghost use Rattle.chr_store.specs.Numbers.{numbers};
+ghost use Rattle.chr_store.specs.Rows.{row_atom};
+ghost use Rattle.chr_store.specs.StoreView.{store_view};
+ghost use Rattle.chr_find.specs.Firings.{fits};
+ghost use Rattle.chr_find.specs.ScopeView.{IsScope, entries_kept, keeps_row, rows_kept, takes};
+ghost use Rattle.chr_find.specs.SnapshotView.{guest_view, tasks_view};
+ghost use Rattle.chr_find.specs.TableView.{atom_at, atoms_with, fired_at};
+ghost use Rattle.chr_find.specs.Taking.{IsStateOf, IsTakenOf};
+
+use crate::Memory;
+use crate::plan::Plan;
+use crate::scope::Scope;
+use crate::snapshot::{Snapshot, Task};
+use crate::table::Table;
+use chr_bind::Bindings;
+use chr_map::Pointer;
+use chr_rules::Program;
+use chr_store::{Fired, History, Id, Row, Store};
+use chr_term::{Sym, Term};
+use std::alloc::Allocator;
+
+/// Adds a constraint with bindings applied, if it is in the scope.
+fn add_row<A: Allocator + Copy>(
+    table: &mut Table<A>,
+    bindings: &Bindings<A>,
+    scope: Scope<'_, A>,
+    id: Id,
+    row: &Row<A>,
+) -> Result<(), Memory>
+    requires { atom_at table.old id.0 ≡ None }
+    ensures atoms { OnOk result ((i : ℕ) → atom_at table.new i
+        ≡ cond (i == id.0 && keeps_row scope.entry (id.0, resolved_atom bindings.now.subst (row_atom row.now)))
+        (Some (resolved_atom bindings.now.subst (row_atom row.now))) (atom_at table.old i)) }
+    ensures fired { (r : ℕ) (ids : List ℕ) → fired_at table.new r ids ≡ fired_at table.old r ids }
+{
+    if !scope.has_symbol(row.sym) {
+        return Ok(());
+    }
+    let args = bindings.resolve_all(row.args.as_slice())?;
+    let row = Row { sym: row.sym, args };
+    if scope.has_row(&row) {
+        let row = Pointer::new(table.alloc, row)?;
+        table.room(1)?;
+        table.add(id, row);
+    }
+    Ok(())
+}
+
+/// Adds the constraints of a store that are in the scope, with bindings applied, where there is no constraint.
+fn add_rows<A: Allocator + Copy>(
+    table: &mut Table<A>,
+    store: &Store<A>,
+    bindings: &Bindings<A>,
+    scope: Scope<'_, A>,
+) -> Result<(), Memory>
+    requires { (i : ℕ) → atom_at table.old i ≡ None }
+    ensures atoms { OnOk result ((i : ℕ) → atom_at table.new i
+        ≡ atom_of (rows_kept scope.entry bindings.now.subst (store_view store.now).rows) i) }
+    ensures fired { (r : ℕ) (ids : List ℕ) → fired_at table.new r ids ≡ fired_at table.old r ids }
+{
+    for (id, row) in store.rows() {
+        add_row(table, bindings, scope, id, row)?;
+    }
+    Ok(())
+}
+
+/// Whether the constraints of the identities all live.
+fn all_live<A: Allocator>(store: &Store<A>, ids: &[Id]) -> bool
+    ensures { result ≡ list_all (λ i. is_some (atom_of (store_view store.now).rows i)) (numbers ids.now) }
+{
+    for id in ids {
+        if !store.alive(*id) {
+            return false;
+        }
+    }
+    true
+}
+
+/// Whether a firing is in the scope, and its constraints all live.
+fn is_taken<A: Allocator>(store: &Store<A>, scope: Scope<'_, A>, fired: &Fired<A>) -> bool
+    ensures { result ≡ takes scope.entry (store_view store.now).rows (fired_view fired.now) }
+{
+    scope.has_rule(fired.rule) && all_live(store, fired.ids.as_slice())
+}
+
+/// At most eight identities, as numbers.
+fn numbered(ids: &[Id]) -> [u64; 8]
+    requires { length ids.now ≤ 8 }
+    ensures { take (length ids.now) result ≡ numbers ids.now }
+{
+    let mut places = [0; 8];
+    for k in 0..ids.len() {
+        places[k] = ids[k].0;
+    }
+    places
+}
+
+/// Notes a firing, unless it has more identities than a rule can have heads.
+fn add_firing<A: Allocator + Copy>(table: &mut Table<A>, fired: &Fired<A>) -> Result<(), Memory>
+    ensures same { (i : ℕ) → atom_at table.new i ≡ atom_at table.old i }
+    ensures fired { OnOk result ((r : ℕ) (ids : List ℕ) → fits ids ≡ true → fired_at table.new r ids
+        ≡ (fired_at table.old r ids || (r == fired.now.rule && same_ids ids (numbers fired.now.ids.items)))) }
+{
+    let ids = fired.ids.as_slice();
+    if ids.len() > 8 {
+        return Ok(());
+    }
+    table.room(1)?;
+    table.fire(fired.rule as u64, &numbered(ids)[..ids.len()]);
+    Ok(())
+}
+
+/// Notes the firings of a history that are in the scope and whose constraints all live.
+fn add_firings<A: Allocator + Copy>(
+    table: &mut Table<A>,
+    store: &Store<A>,
+    history: &History<A>,
+    scope: Scope<'_, A>,
+) -> Result<(), Memory>
+    ensures same { (i : ℕ) → atom_at table.new i ≡ atom_at table.old i }
+    ensures fired { OnOk result ((r : ℕ) (ids : List ℕ) → fits ids ≡ true → fired_at table.new r ids
+        ≡ (fired_at table.old r ids
+        || fired_before (entries_kept scope.entry (store_view store.now).rows (entries_view history.now).list) r ids)) }
+{
+    for fired in history.list() {
+        if is_taken(store, scope, fired) {
+            add_firing(table, fired)?;
+        }
+    }
+    Ok(())
+}
+
+/// The constraints of a store with bindings applied, and the firings of a history whose constraints all live, as far as they are in the
+/// scope.
+fn taken<A: Allocator + Copy>(
+    alloc: A,
+    store: &Store<A>,
+    bindings: &Bindings<A>,
+    history: &History<A>,
+    scope: Scope<'_, A>,
+) -> Result<Table<A>, Memory>
+    ensures { IfOk result (IsTakenOf scope.entry bindings.now.subst (store_view store.now).rows
+        (entries_view history.now).list) }
+{
+    let plan = Pointer::new(alloc, Plan::first(alloc)?)?;
+    let mut table = Table::new(alloc, plan);
+    add_rows(&mut table, store, bindings, scope)?;
+    add_firings(&mut table, store, history, scope)?;
+    table.settle()?;
+    Ok(table)
+}
+
+/// A guest with bindings applied.
+fn resolved_guest<A: Allocator + Copy>(
+    alloc: A,
+    bindings: &Bindings<A>,
+    guest: Option<(Sym, &[Term<A>])>,
+) -> Result<Option<Pointer<Row<A>, A>>, Memory>
+    ensures { IfOk result (λ row. option_map row_atom row
+        ≡ option_map (resolved_atom bindings.now.subst) (guest_view guest.entry)) }
+{
+    let (sym, args) = match guest {
+        None => return Ok(None),
+        Some(guest) => guest,
+    };
+    let args = bindings.resolve_all(args)?;
+    Ok(Some(Pointer::new(alloc, Row { sym, args })?))
+}
+
+/// What a task looks at.
+fn scope_of<'a, A: Allocator>(program: &'a Program<A>, store: &Store<A>, task: Task) -> Scope<'a, A>
+    ensures { IsScope (option_and_then (λ a. occurrence (rules_of program.now) a.sym task.occurrence)
+        (atom_of (store_view store.now).rows task.goal.0)) result }
+{
+    let sym = match store.row(task.goal) {
+        None => return Scope::Nothing,
+        Some(row) => row.sym,
+    };
+    match program.occurrence(sym, task.occurrence) {
+        None => Scope::Nothing,
+        Some(occurrence) => Scope::Rule(occurrence.rule, program.rule(occurrence.rule)),
+    }
+}
+
+impl<A: Allocator + Copy> Snapshot<A> {
+    ghost use Rattle.chr_find.specs.SnapshotView.{IsSnapshot};
+
+    /// Of the constraints of a store with bindings applied, and of the entries of a history whose constraints all live. The guest is handed
+    /// in as it stands on the stack.
+    pub fn take(
+        alloc: A,
+        store: &Store<A>,
+        bindings: &Bindings<A>,
+        history: &History<A>,
+        tasks: Vec<Task, A>,
+        guest: Option<(Sym, &[Term<A>])>,
+    ) -> Result<Snapshot<A>, Memory>
+        ensures { IfOk result (λ taken. (s : State) → IsStateOf store.now bindings.now.subst history.now s →
+            IsSnapshot taken (snapshot_for s (tasks_view tasks.items) (guest_view guest.entry))) }
+    {
+        let table = taken(alloc, store, bindings, history, Scope::whole(store))?;
+        let guest = resolved_guest(alloc, bindings, guest)?;
+        Ok(Snapshot {
+            table,
+            next: store.next(),
+            tasks,
+            guest,
+        })
+    }
+
+    /// For one task: the constraints that its rule can look at, and the entries of that rule.
+    pub fn for_task(
+        alloc: A,
+        program: &Program<A>,
+        store: &Store<A>,
+        bindings: &Bindings<A>,
+        history: &History<A>,
+        task: Task,
+    ) -> Result<Snapshot<A>, Memory>
+        ensures { IfOk result (λ taken. (s : State) → IsStateOf store.now bindings.now.subst history.now s →
+            IsSnapshot taken (snapshot_for_task (rules_of program.now) s (task.goal.0, task.occurrence))) }
+    {
+        let mut tasks = Vec::new(alloc);
+        tasks.push(task)?;
+        let table = taken(alloc, store, bindings, history, scope_of(program, store, task))?;
+        Ok(Snapshot {
+            table,
+            next: store.next(),
+            tasks,
+            guest: None,
+        })
+    }
+}
