@@ -12,6 +12,8 @@ pub mod JoinEnds
 pub mod JoinSteps
 pub mod Kept
 pub mod KeyedMaps
+pub mod KeyedRows
+pub mod KeyedTables
 pub mod LiveFirings
 pub mod Lookups
 pub mod Loops
@@ -19,7 +21,6 @@ pub mod Made
 pub mod MadeWhole
 pub mod NewRows
 pub mod NoteSteps
-pub mod Notes
 pub mod Numbers
 pub mod OwnFirst
 pub mod PassedRows

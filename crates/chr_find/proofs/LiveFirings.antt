@@ -36,4 +36,4 @@ module _ {A : Type 0} (t : Table A) (rows : List semantics.Row) (settled : IsSet
   pub agree : (h : History) → HasHistory t h → (r : ℕ) (ids : List ℕ) → fits ids ≡ true → list_all (live_in rows) ids ≡ true → fired_before h r ids ≡ fired_before (history_of t.noted.fired.all) r ids
   agree h firings r ids short live =
       firings r ids short (list_all-more (live_in rows) (lives t) ids (λ i e. sym (ap is_some (has.same i)) ∙ e) live)
-      ∙ (ap (λ (b : Bool). fits ids && b) (settled.fired (firing_of r ids)) ∙ sym (history_stands t.noted.fired.all r ids))
+      ∙ (ap (λ (b : Bool). fits ids && b) (settled.noted.fired (firing_of r ids)) ∙ sym (history_stands t.noted.fired.all r ids))

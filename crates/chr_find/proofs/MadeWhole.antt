@@ -17,7 +17,7 @@ use Rattle.chr_find.specs.PlanView.{positions_of}
 use Rattle.chr_find.specs.Rebinding.{IsMade, is_open, new_rows, open_ids, over, standing_rows}
 use Rattle.chr_find.specs.Shown.{AllOver, AllUnder, Rises, atom_in, rows_in_list, walk}
 use Rattle.chr_find.specs.TableView.{HasRows, IsSettled, atom_at}
-use Rattle.chr_find.specs.declared.list.List.TheVariants.{Open}
+use Rattle.chr_find.specs.declared.list.List.TheVariants.{All, Open}
 use Rattle.chr_find.specs.declared.rebinding.Replaced.{Replaced}
 use Rattle.chr_find.specs.declared.standing.Standing.{Standing}
 use Rattle.chr_find.specs.declared.table.Table.{Table}
@@ -132,7 +132,7 @@ closed_stays s c e =
 pub open_all : (s : Subst) (ps : ℕ → List ℕ) (rows : List semantics.Row) → open_ids s (rows_in_list Open ps rows) ≡ open_ids s rows
 open_all s ps rows = ap ids_of (filter_twice (is_open s) (λ (c : semantics.Row). not (is_ground_trees c.1.args)) rows (closed_stays s))
 
--- the rows with variables of a table
+-- the rows of a table, those with variables and all
 module _ {A : Type 0} (t : Table A) (settled : IsSettled t) (up : Ascends place_cmp t.noted.rows) where
   pub open_rises : Rises (walk Open t.noted.rows)
   open_rises = rises_walk Open t.noted.rows up
@@ -140,10 +140,16 @@ module _ {A : Type 0} (t : Table A) (settled : IsSettled t) (up : Ascends place_
   pub open_looked : (i : ℕ) → atom_of (walk Open t.noted.rows) i ≡ atom_in Open (positions_of t.noted.plan) (atom_at t i)
   open_looked i =
       walk_looked Open t.noted.rows i up
-      ∙ (ap (option_map row_atom) (sym (settled.rows (record { list = Open; id = record { 0 = i } }))) ∙ t.shown (record { list = Open; id = record { 0 = i } }))
+      ∙ (ap (option_map row_atom) (sym (settled.noted.rows (record { list = Open; id = record { 0 = i } }))) ∙ t.shown (record { list = Open; id = record { 0 = i } }))
+
+  pub all_rises : Rises (walk All t.noted.rows)
+  all_rises = rises_walk All t.noted.rows up
+
+  pub all_looked : (i : ℕ) → atom_of (walk All t.noted.rows) i ≡ atom_at t i
+  all_looked i = walk_looked All t.noted.rows i up ∙ ap (option_map row_atom) (sym (settled.noted.rows (record { list = All; id = record { 0 = i } })))
 
   pub open_rows : (rows : List semantics.Row) → HasRows t rows → walk Open t.noted.rows ≡ rows_in_list Open (positions_of t.noted.plan) rows
-  open_rows rows has = let shown = has_shown t rows settled has in walk_shown (positions_of t.noted.plan) Open t.noted.rows rows up shown.rises shown.shows
+  open_rows rows has = let shown = has_shown t rows settled.noted has in walk_shown (positions_of t.noted.plan) Open t.noted.rows rows up shown.rises shown.shows
 
   -- a row amid them
   module _ (l : List (Standing A)) (k : ℕ) (c : Standing A) (all : standing_rows l ≡ walk Open t.noted.rows) (lt : k < length l) (at : c ≡ get_or l k c) where

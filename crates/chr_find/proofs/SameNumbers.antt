@@ -7,11 +7,11 @@ use Rattle.std.specs.Prelude.{AllPairs}
 use Rattle.chr_semantics.specs.Search.{has_number}
 
 -- each number is over the bound
-abbrev Over : ℕ → List ℕ → Type 0
+abbrev pub Over : ℕ → List ℕ → Type 0
 Over n [] = Unit {0}
 Over n (x ∷ xs) = (n < x) × Over n xs
 
-abbrev Up : List ℕ → Type 0
+abbrev pub Up : List ℕ → Type 0
 Up [] = Unit {0}
 Up (x ∷ xs) = Over x xs × Up xs
 
@@ -23,11 +23,11 @@ up_pairs : (xs : List ℕ) → AllPairs (λ y z. y < z) xs → Up xs
 up_pairs [] up = tt
 up_pairs (x ∷ xs) up = (over_pairs x xs (λ k d lt. up 0 (suc k) d (omega arith) (omega (arith, lt))), up_pairs xs (λ i j d lt inside. up (suc i) (suc j) d (omega (arith, lt)) (omega (arith, inside))))
 
-over_less : (m n : ℕ) (xs : List ℕ) → m < n → Over n xs → Over m xs
+pub over_less : (m n : ℕ) (xs : List ℕ) → m < n → Over n xs → Over m xs
 over_less m n [] lt over = tt
 over_less m n (x ∷ xs) lt over = (omega (arith, lt, over.0), over_less m n xs lt over.1)
 
-not_over : (n : ℕ) (xs : List ℕ) → Over n xs → has_number xs n ≡ false
+pub not_over : (n : ℕ) (xs : List ℕ) → Over n xs → has_number xs n ≡ false
 not_over n [] over = refl
 not_over n (x ∷ xs) over = ap (λ (b : Bool). b || has_number xs n) (ne_eqb n x (λ e. omega (arith, e, over.0))) ∙ not_over n xs over.1
 
@@ -56,5 +56,6 @@ same_up (x ∷ xs) (y ∷ ys) up vp same = cc (first, same_up xs ys up.1 vp.1 ot
         elsewhere : (i ≡ x → ⊥) → has_number xs i ≡ has_number ys i
         elsewhere apart = cc (same i, ne_eqb i x apart, ne_eqb i y (λ e. apart (e ∙ sym first)))
 
-pub same_ascending : (xs ys : List ℕ) → IsStrictlyIncreasing xs → IsStrictlyIncreasing ys → ((i : ℕ) → has_number xs i ≡ has_number ys i) → xs ≡ ys
-same_ascending xs ys up vp same = same_up xs ys (up_pairs xs (AllPairs-from_increasing xs up)) (up_pairs ys (AllPairs-from_increasing ys vp)) same
+-- an increasing list, and one that goes up
+pub same_from_up : (xs ys : List ℕ) → IsStrictlyIncreasing xs → Up ys → ((i : ℕ) → has_number xs i ≡ has_number ys i) → xs ≡ ys
+same_from_up xs ys up vp same = same_up xs ys (up_pairs xs (AllPairs-from_increasing xs up)) vp same

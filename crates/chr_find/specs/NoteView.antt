@@ -1,5 +1,5 @@
 -- What stands in a table after what is noted.
-use Rattle.std.specs.Prelude.{ℕ, Bool, true, cond, not, ◌&&◌, List, [], ◌∷◌, Option}
+use Rattle.std.specs.Prelude.{ℕ, Bool, true, cond, not, ◌&&◌, Option}
 use Rattle.chr_semantics.specs.Search.{has_number}
 use Rattle.chr_store.specs.declared.row.Row.{Row}
 use Rattle.chr_find.specs.Firings.{ids_in, same_firing}
@@ -11,11 +11,6 @@ use Rattle.chr_find.specs.declared.lists.Change.{Change}
 use Rattle.chr_find.specs.declared.note.Note.{Note}
 use Rattle.chr_find.specs.declared.note.Note.TheVariants.{Changed, Entered, Replaced}
 use Rattle.chr_find.specs.declared.plan.Plan.{Plan}
-
--- after one note after the other
-abbrev pub after_all : {N X Y : Type 0} → (N → (X → Y) → X → Y) → List N → (X → Y) → X → Y
-after_all step [] f x = f x
-after_all step (n ∷ ns) f x = after_all step ns (step n f) x
 
 -- without the firings of the identity
 abbrev pub forgotten : ℕ → (Firing → Bool) → Firing → Bool

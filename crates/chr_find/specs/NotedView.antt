@@ -1,10 +1,11 @@
 -- What stands in a table, as when all that is noted is made.
 use Rattle.std.specs.Prelude.{◌≡◌, ◌+◌, ◌≤◌, ℕ, Bool, Option, option_map, drop, vec_capacity, vec_len}
+use Rattle.chr_keys.specs.Notes.{after_all}
 use Rattle.chr_semantics.specs.Program.{Atom}
 use Rattle.chr_store.specs.Rows.{row_atom}
 use Rattle.chr_store.specs.declared.row.Row.{Row}
 use Rattle.chr_find.specs.Firings.{is_in}
-use Rattle.chr_find.specs.NoteView.{after_all, fired_after, rows_after}
+use Rattle.chr_find.specs.NoteView.{fired_after, rows_after}
 use Rattle.chr_find.specs.Places.{held}
 use Rattle.chr_find.specs.PlanView.{positions_of}
 use Rattle.chr_find.specs.Shown.{Shows}

@@ -5,6 +5,7 @@ use Rattle.chr_semantics.specs.Match as semantics
 use Rattle.chr_semantics.specs.Program.{Atom}
 use Rattle.chr_semantics.specs.Search.{History, atom_of, fired_before}
 use Rattle.chr_find.specs.Firings.{firing_of, fits}
+use Rattle.chr_find.specs.KeyedView as keyed
 use Rattle.chr_find.specs.NotedView.{fired_in, noted_atom}
 use Rattle.chr_find.specs.NotedView as noted
 use Rattle.chr_find.specs.Shown.{Rises}
@@ -27,12 +28,17 @@ module _ {A : Type 0} where
   fired_at t r ids = fits ids && fired_in t.noted (firing_of r ids)
 
   -- all changes are made, so that it can be searched
-  abbrev pub IsSettled : Table A → Type 0
-  IsSettled t = noted.IsSettled t.noted
+  pub record IsSettled (t : Table A) : Type 0 where
+    pub noted : noted.IsSettled t.noted
+    pub keyed : keyed.IsSettled t.keyed
 
   -- there is room for so many changes more
   abbrev pub HasRoom : ℕ → Table A → Type 0
-  HasRoom k t = noted.HasRoom k t.noted
+  HasRoom k t = noted.HasRoom k t.noted × keyed.HasRoom k t.keyed
+
+  -- it keeps the identities by key
+  abbrev pub IsKeyed : Table A → Type 0
+  IsKeyed t = keyed.IsKept t.keyed
 
   -- the table has these constraints, ascending
   pub record HasRows (t : Table A) (rows : List semantics.Row) : Type 0 where

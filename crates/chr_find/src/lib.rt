@@ -9,6 +9,7 @@ mod fired;
 mod firings;
 mod first;
 mod join;
+mod keyed;
 mod list;
 mod lists;
 mod mode;

@@ -99,6 +99,7 @@ impl<A: Allocator + Copy> Table<A> {
         ensures room { (n : ℕ) → HasRoom (n + 1) self.old → HasRoom n self.new }
     {
         let Replaced { id, old, new } = replaced;
+        self.keyed.replace(id, old.value(), new.value());
         let out = Change {
             id,
             row: old,

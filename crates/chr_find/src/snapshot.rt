@@ -1,18 +1,21 @@
 //! What searches look at.
 ghost use Rattle.std.specs.Prelude.{◌≡◌, ◌≤◌, IfOk, None, ℕ, option_map};
+ghost use Rattle.chr_semantics.specs.Keys.{rows_keyed};
 ghost use Rattle.chr_semantics.specs.Snapshot as semantics;
 ghost use Rattle.chr_semantics.specs.Snapshot.{found_in, tries_in};
 ghost use Rattle.chr_rules.specs.ProgramView.{rules_of};
+ghost use Rattle.chr_store.specs.KeyView.{keys_view};
+ghost use Rattle.chr_store.specs.Numbers.{numbers};
 ghost use Rattle.chr_store.specs.Rows.{row_atom};
 ghost use Rattle.chr_find.specs.AtomCode.{atoms};
-ghost use Rattle.chr_find.specs.TableView.{IsSettled, atom_at};
+ghost use Rattle.chr_find.specs.TableView.{IsKeyed, IsSettled, atom_at};
 
 use crate::Memory;
 use crate::searched::{Searched, search};
 use crate::table::Table;
 use chr_map::{Pointer, Share};
 use chr_rules::Program;
-use chr_store::{Id, Row};
+use chr_store::{Id, Key, Row};
 use chr_term::{Sym, Term};
 use std::alloc::{Allocator, Global};
 
@@ -33,6 +36,7 @@ pub struct Snapshot<A: Allocator = Global> {
     pub(crate) tasks: Vec<Task, A>,
     pub(crate) guest: Option<Pointer<Row<A>, A>>,
     ghost settled: { IsSettled table },
+    ghost keyed: { IsKeyed table },
     ghost free: { (i : ℕ) → next.0 ≤ i → atom_at table i ≡ None } by { Prim.hlevel atoms },
 }
 
@@ -61,7 +65,7 @@ impl<A: Allocator + Copy> Snapshot<A> {
     ghost use Rattle.chr_find.specs.SearchedView.{IsSearched};
     ghost use Rattle.chr_find.specs.SnapshotView.{IsSnapshot, IsTaken, tasks_view};
 
-    /// A table as it stands now, at the price of some pointers. The guest's arguments have the bindings applied.
+    /// A table that keeps keys as it stands now, at the price of some pointers. The guest's arguments have the bindings applied.
     pub fn of(
         table: &Table<A>,
         next: Id,
@@ -69,6 +73,7 @@ impl<A: Allocator + Copy> Snapshot<A> {
         guest: Option<Pointer<Row<A>, A>>,
     ) -> Result<Snapshot<A>, Memory>
         requires settled { IsSettled table.now }
+        requires keyed { IsKeyed table.now }
         requires free { (i : ℕ) → next.0 ≤ i → atom_at table.now i ≡ None }
         ensures { IfOk result (λ shared. (q : semantics.Snapshot) →
             IsTaken table.now next.0 (tasks_view tasks.items) (option_map row_atom guest) q →
@@ -81,6 +86,14 @@ impl<A: Allocator + Copy> Snapshot<A> {
             tasks,
             guest,
         })
+    }
+
+    /// The identities of a symbol's constraints whose first argument has that key, or has none, ascending.
+    pub fn rows_keyed(&self, sym: Sym, key: Option<Key>) -> &[Id]
+        ensures { (q : semantics.Snapshot) → IsSnapshot self.now q →
+            numbers result.now ≡ rows_keyed q.rows sym.0 (keys_view key) }
+    {
+        self.table.keyed.of(sym, key)
     }
 
     /// What a search for a task finds. For the next identity the guest is added to the constraints.

@@ -3,16 +3,19 @@ ghost use Rattle.std.specs.Prelude.{◌≡◌, ◌+◌, ◌≤◌, ◌&&◌, ◌
 ghost use Rattle.chr_semantics.specs.Search.{has_number, same_ids};
 ghost use Rattle.chr_store.specs.Rows.{row_atom};
 ghost use Rattle.chr_find.specs.AtomCode.{atoms};
-ghost use Rattle.chr_find.specs.NotedView.{AreShown};
+ghost use Rattle.chr_find.specs.KeyedView.{AreListed};
+ghost use Rattle.chr_find.specs.NotedView.{AreShown, noted_atom};
 
 use crate::Memory;
 use crate::fired::Fired;
 use crate::firings::Firing;
+use crate::keyed::Keyed;
 use crate::list::{List as Listing, Place};
 use crate::lists::Change;
 use crate::note::Note;
 use crate::noted::Noted;
 use crate::plan::Plan;
+use crate::standing::collect;
 use chr_map::{Map, Pointer, Share};
 use chr_store::{Id, Row};
 use std::alloc::{Allocator, Global};
@@ -23,12 +26,14 @@ use std::alloc::{Allocator, Global};
 #[derive(Drop)]
 pub struct Table<A: Allocator = Global> {
     pub(crate) noted: Noted<A>,
+    pub(crate) keyed: Keyed<A>,
     pub(crate) alloc: A,
     ghost shown: { AreShown noted } by { Prim.hlevel atoms },
+    ghost listed: { AreListed (noted_atom noted) keyed },
 }
 
 impl<A: Allocator + Copy> Table<A> {
-    ghost use Rattle.chr_find.specs.TableView.{HasRoom, IsSettled, atom_at, atoms_with, fired_at};
+    ghost use Rattle.chr_find.specs.TableView.{HasRoom, IsKeyed, IsSettled, atom_at, atoms_with, fired_at};
 
     /// No constraint, and no firing.
     pub fn new(alloc: A, plan: Pointer<Plan<A>, A>) -> Table<A>
@@ -38,6 +43,7 @@ impl<A: Allocator + Copy> Table<A> {
     {
         Table {
             noted: Noted::new(alloc, plan, Map::new(alloc), Fired::new(alloc)),
+            keyed: Keyed::off(),
             alloc,
         }
     }
@@ -48,6 +54,7 @@ impl<A: Allocator + Copy> Table<A> {
         ensures fired { (r : ℕ) (ids : List ℕ) → fired_at self.new r ids ≡ fired_at self.old r ids }
         ensures ok { OnOk result (HasRoom more self.new) }
     {
+        self.keyed.room(more)?;
         self.noted.room(more)
     }
 
@@ -60,6 +67,7 @@ impl<A: Allocator + Copy> Table<A> {
         ensures fired { (r : ℕ) (ids : List ℕ) → fired_at self.new r ids ≡ fired_at self.old r ids }
         ensures room { (n : ℕ) → HasRoom (n + 1) self.old → HasRoom n self.new }
     {
+        self.keyed.enter(id, row.value());
         self.noted.note(Note::Changed(Change {
             id,
             row,
@@ -76,6 +84,7 @@ impl<A: Allocator + Copy> Table<A> {
             ≡ (fired_at self.old r ids && not (has_number ids id.0)) }
         ensures room { (n : ℕ) → HasRoom (n + 1) self.old → HasRoom n self.new }
     {
+        self.keyed.leave(id, row.value());
         self.noted.note(Note::Changed(Change {
             id,
             row,
@@ -101,7 +110,25 @@ impl<A: Allocator + Copy> Table<A> {
         ensures fired { (r : ℕ) (ids : List ℕ) → fired_at self.new r ids ≡ fired_at self.old r ids }
         ensures ok { OnOk result (IsSettled self.new) }
     {
+        self.keyed.settle()?;
         self.noted.settle()
+    }
+
+    /// Begins to keep the identities by key, which snapshots lend. It does nothing where they are kept.
+    pub fn keep_keys(&mut self) -> Result<(), Memory>
+        requires { IsSettled self.old }
+        ensures same { (i : ℕ) → atom_at self.new i ≡ atom_at self.old i }
+        ensures fired { (r : ℕ) (ids : List ℕ) → fired_at self.new r ids ≡ fired_at self.old r ids }
+        ensures settled { IsSettled self.new }
+        ensures ok { OnOk result (IsKeyed self.new) }
+    {
+        if self.keyed.is_kept() {
+            return Ok(());
+        }
+        let mut rows = Vec::new(self.alloc);
+        collect(&self.noted.rows.entries(), Listing::All, &mut rows)?;
+        self.keyed = Keyed::of_rows(self.alloc, rows.as_slice())?;
+        Ok(())
     }
 
     /// The row of a constraint that lives.
@@ -123,12 +150,14 @@ impl<A: Allocator + Copy> Table<A> {
         ensures fired { IfOk result (λ shared. (r : ℕ) (ids : List ℕ) →
             fired_at shared r ids ≡ fired_at self.now r ids) }
         ensures settled { IfOk result (λ shared. IsSettled shared) }
+        ensures keyed { IfOk result (λ shared. IsKeyed self.now → IsKeyed shared) }
     {
         let plan = self.noted.plan.share()?;
         let rows = self.noted.rows.share()?;
         let fired = self.noted.fired.share()?;
         Ok(Table {
             noted: Noted::new(self.alloc, plan, rows, fired),
+            keyed: self.keyed.share()?,
             alloc: self.alloc,
         })
     }

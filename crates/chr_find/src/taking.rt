@@ -156,6 +156,7 @@ fn taken<A: Allocator + Copy>(
     add_rows(&mut table, store, bindings, scope)?;
     add_firings(&mut table, store, history, scope)?;
     table.settle()?;
+    table.keep_keys()?;
     Ok(table)
 }
 
@@ -231,7 +232,13 @@ impl<A: Allocator + Copy> Snapshot<A> {
     {
         let mut tasks = Vec::new(alloc);
         tasks.push(task)?;
-        let table = taken(alloc, store, bindings, history, scope_of(program, store, task))?;
+        let table = taken(
+            alloc,
+            store,
+            bindings,
+            history,
+            scope_of(program, store, task),
+        )?;
         Ok(Snapshot {
             table,
             next: store.next(),

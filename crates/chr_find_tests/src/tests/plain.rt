@@ -10,7 +10,7 @@ use std::alloc::Allocator;
 pub(crate) type Rows<A> = Vec<(u64, Row<A>), A>;
 
 /// What has fired: the number of a rule, and identities.
-pub type Firings<A> = Vec<(u64, Vec<u64, A>), A>;
+pub(crate) type Firings<A> = Vec<(u64, Vec<u64, A>), A>;
 
 /// Whether the rule has fired with these identities.
 fn was_fired<A: Allocator>(fired: &Firings<A>, number: u64, ids: &[u64]) -> bool {

@@ -32,13 +32,13 @@ loop-fired-preserved g c =
     let done : goes c.if-is_taken.table =
     elim c.if-is_taken.branch [
       | then-is_taken+in_ok-add_firing w ↦ subst goes (sym w.table-is) (
-            λ i. w.in_ok-add_firing.ensures.same i ∙ c.loop-fired.invariant.0 i,
-            λ r ids short. entry_taken c.args.scope rows so_far (fired_view f) r ids (fired_at c.args.table.now r ids) (fired_at c.loop-fired.table r ids) (fired_at w.add_firing.new.table r ids) (c.loop-fired.invariant.1 r ids short) (sym c.is_taken.ensures ∙ w.if-is_taken.true) (w.in_ok-add_firing.ensures.fired r ids short),
-          )
+        λ i. w.in_ok-add_firing.ensures.same i ∙ c.loop-fired.invariant.0 i,
+        λ r ids short. entry_taken c.args.scope rows so_far (fired_view f) r ids (fired_at c.args.table.now r ids) (fired_at c.loop-fired.table r ids) (fired_at w.add_firing.new.table r ids) (c.loop-fired.invariant.1 r ids short) (sym c.is_taken.ensures ∙ w.if-is_taken.true) (w.in_ok-add_firing.ensures.fired r ids short),
+      )
       | else-is_taken w ↦ subst goes (sym w.table-is) (
-            c.loop-fired.invariant.0,
-            λ r ids short. entry_left c.args.scope rows so_far (fired_view f) r ids (fired_at c.args.table.now r ids) (fired_at c.loop-fired.table r ids) (fired_at c.loop-fired.table r ids) (c.loop-fired.invariant.1 r ids short) (sym c.is_taken.ensures ∙ w.if-is_taken.false) refl,
-          )
+        c.loop-fired.invariant.0,
+        λ r ids short. entry_left c.args.scope rows so_far (fired_view f) r ids (fired_at c.args.table.now r ids) (fired_at c.loop-fired.table r ids) (fired_at c.loop-fired.table r ids) (c.loop-fired.invariant.1 r ids short) (sym c.is_taken.ensures ∙ w.if-is_taken.false) refl,
+      )
     ]
     in
     subst (λ (h : Entries). ((i : ℕ) → atom_at c.if-is_taken.table i ≡ atom_at c.args.table.now i) × ((r : ℕ) (ids : List ℕ) → fits ids ≡ true → fired_at c.if-is_taken.table r ids ≡ (fired_at c.args.table.now r ids || fired_before (entries_kept c.args.scope rows h) r ids))) (sym more) done

@@ -11,4 +11,4 @@ abbrev pub invariant-loop-fired : goal.invariant-loop-fired
 invariant-loop-fired g l =
     ((i : ℕ) → atom_at l.table i ≡ atom_at l.fn.table i)
     × ((r : ℕ) (ids : List ℕ) → fits ids ≡ true → fired_at l.table r ids
-        ≡ (fired_at l.fn.table r ids || fired_before (entries_kept l.scope (store_view l.store).rows (firings_view (take l.fired-index l.fired-items))) r ids))
+    ≡ (fired_at l.fn.table r ids || fired_before (entries_kept l.scope (store_view l.store).rows (firings_view (take l.fired-index l.fired-items))) r ids))

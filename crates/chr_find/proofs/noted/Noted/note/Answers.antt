@@ -3,7 +3,7 @@ use Rattle.chr_find.specs.Firings.{is_in}
 use Rattle.chr_find.specs.NoteView.{fired_after, rows_after}
 use Rattle.chr_find.specs.Places.{held}
 use Rattle.chr_find.proofs.NoteSteps.{fired_alike, rows_alike}
-use Rattle.chr_find.proofs.Notes.{one_more}
+use Rattle.chr_keys.proofs.Notes.{one_more}
 use Rattle.chr_find.proofs.noted.Noted.note.Goals as goal
 
 pub returns-clause-rows : goal.returns-clause-rows

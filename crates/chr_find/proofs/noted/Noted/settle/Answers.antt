@@ -6,7 +6,7 @@ use Rattle.chr_find.specs.Places.{held}
 use Rattle.chr_find.specs.declared.note.Note.{Note}
 use Rattle.chr_find.specs.declared.plan.Plan.{Plan}
 use Rattle.chr_find.proofs.NoteSteps.{fired_alike, rows_alike}
-use Rattle.chr_find.proofs.Notes.{all_made, made_next, none_left, unmade_next}
+use Rattle.chr_keys.proofs.Notes.{all_made, made_next, none_left, unmade_next}
 use Rattle.chr_find.proofs.noted.Noted.settle.Goals as goal
 
 pub returns-in_err-make-clause-rows : goal.returns-in_err-make-clause-rows

@@ -30,7 +30,7 @@ returns-clause-found g c =
     let x : (x : Head) × (slice_get rule.heads s.place ≡ Some x) = head_there rule.heads s.place (omega (arith, counted, c.requires.searchable.inside)) in
     ok_more _ _ c.first.result
     (λ found f rows has h firings a lives spent.
-    let shown = has_shown t rows c.requires.settled has in
+    let shown = has_shown t rows c.requires.settled.noted has in
     let planned = subst (λ (p : Plan g.row.A.Denot). IsShown (positions_of p) t.noted.rows rows) (sym c.value.ensures) shown in
     let same : row_atom c.value-row.result.now ≡ a = ap row_atom c.value-row.ensures ∙ row_is (atom_at t s.id.0) c.in-Some.row.now a c.in-Some.ensures lives in
     let from = c.args.cursor.now.from in

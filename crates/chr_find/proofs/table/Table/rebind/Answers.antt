@@ -1,5 +1,7 @@
-use Rattle.std.proofs.Common.{◌≡◌, ◌∙◌, ◌+◌, arith, length}
+use Rattle.std.proofs.Common.{◌∙◌, ◌+◌, ◌≤◌, arith, length}
 use Rattle.chr_find.specs.TableView.{HasRoom, atom_at}
+use Rattle.std.specs.Prelude.{vec_len}
+use Rattle.chr_find.proofs.KeyedTables.{room_within}
 use Rattle.chr_find.proofs.Rebinds.{last_there, next_on, none_left, one_less}
 use Rattle.chr_find.proofs.table.Table.rebind.Goals as goal
 
@@ -14,7 +16,7 @@ loop-replaced-preserved g c =
       (
         (λ r ids. c.replace.ensures.fired r ids ∙ c.loop-replaced.invariant.1.0 r ids),
         λ n h.
-            let room : HasRoom (n + length rs + 1) c.loop-replaced.self = omega (arith, less, c.loop-replaced.invariant.1.1 n h) in
+            let room : HasRoom (n + length rs + 1) c.loop-replaced.self = room_within (n + length rs + 1) (n + length c.loop-replaced.left.items) c.loop-replaced.self (omega (arith, less)) (c.loop-replaced.invariant.1.1 n h) in
             c.replace.ensures.room (n + length rs) room,
       ),
     )
@@ -22,9 +24,15 @@ loop-replaced-preserved g c =
 pub returns-clause-atoms : goal.returns-clause-atoms
 returns-clause-atoms g c = none_left (atom_at c.args.self.now) (atom_at c.loop-replaced.self) c.loop-replaced.left.items c.args.rebound.replaced.items c.loop-replaced.invariant.0 (omega (arith, c.in_default.ensures.cases.0))
 
+pub replace-requires-clause-room : goal.replace-requires-clause-room
+replace-requires-clause-room g c =
+    let less = one_less c.loop-replaced.left.items c.pop.new.self.items c.in-Some.replaced c.in-Some.ensures.items in
+    let counted : 0 + length c.args.rebound.replaced.items ≤ vec_len c.args.rebound.replaced = omega (arith, c.args.rebound.replaced.ok.0) in
+    let all : HasRoom (0 + length c.args.rebound.replaced.items) c.args.self.now = room_within (0 + length c.args.rebound.replaced.items) (vec_len c.args.rebound.replaced) c.args.self.now counted c.requires.room in
+    room_within 1 (0 + length c.loop-replaced.left.items) c.loop-replaced.self (omega (arith, less)) (c.loop-replaced.invariant.1.1 0 all)
+
 pub returns-clause-room : goal.returns-clause-room
 returns-clause-room g c n h =
-    let none : length c.loop-replaced.left.items ≡ 0 = omega (arith, c.in_default.ensures.cases.0) in
-    let all : HasRoom (n + length c.args.rebound.replaced.items) c.args.self.now = omega (arith, h, c.args.rebound.replaced.ok.0) in
-    let room : HasRoom (n + 0) c.loop-replaced.self = omega (arith, none, c.loop-replaced.invariant.1.1 n all) in
-    omega (arith, room)
+    let counted : n + length c.args.rebound.replaced.items ≤ n + vec_len c.args.rebound.replaced = omega (arith, c.args.rebound.replaced.ok.0) in
+    let all : HasRoom (n + length c.args.rebound.replaced.items) c.args.self.now = room_within (n + length c.args.rebound.replaced.items) (n + vec_len c.args.rebound.replaced) c.args.self.now counted h in
+    room_within n (n + length c.loop-replaced.left.items) c.loop-replaced.self (omega arith) (c.loop-replaced.invariant.1.1 n all)

@@ -10,6 +10,8 @@ use Rattle.chr_find.specs.Shown.{atom_in, walk}
 use Rattle.chr_find.specs.TableView.{atom_at}
 use Rattle.chr_find.specs.declared.list.List.TheVariants.{Open}
 use Rattle.chr_find.specs.declared.standing.Standing.{Standing}
+use Rattle.std.specs.Prelude.{vec_len}
+use Rattle.chr_find.proofs.KeyedTables.{room_within}
 use Rattle.chr_find.proofs.MadeWhole.{before_all, made_atoms, open_all, open_looked, open_rows, standing_next, stands_open}
 use Rattle.chr_find.proofs.table.Table.rebound.Goals as goal
 
@@ -51,7 +53,7 @@ returns-clause-ok g c =
     (subst (λ (rows : List semantics.Row). IsMade s (atom_at t) rows rs ids) (ap standing_rows (take_all k l over) ∙ all) c.loop-standing.invariant)
     in
     record {
-      room = omega (arith, c.in_ok-room.ensures.ok, c.len.ensures);
+      room = room_within (vec_len c.loop-standing.rebound.replaced) c.len.result n (omega (arith, c.len.ensures)) c.in_ok-room.ensures.ok;
       there = made.replaces;
       atoms = made_atoms s (atom_at n) (walk Open t.noted.rows) rs ids made (positions_of t.noted.plan) (λ i. open_looked t c.requires up i ∙ ap (atom_in Open (positions_of t.noted.plan)) (sym (c.room.ensures.same i)));
       woken = λ rows has. made.woken ∙ (ap (open_ids s) (open_rows t c.requires up rows (record { rises = has.rises; same = λ i. has.same i ∙ c.room.ensures.same i })) ∙ open_all s (positions_of t.noted.plan) rows);

@@ -1,11 +1,26 @@
+use Rattle.std.proofs.Common.{◌≡◌, ◌∙◌, Some, ap, sym, ℕ}
+use Rattle.chr_store.specs.Rows.{row_atom}
+use Rattle.chr_store.specs.declared.row.Row.{Row}
+use Rattle.chr_find.specs.NotedView.{noted_atom}
+use Rattle.chr_find.specs.TableView.{atoms_with}
+use Rattle.chr_find.proofs.KeyedTables.{listed_alike}
 use Rattle.chr_find.proofs.TableFired.{fired_same}
 use Rattle.chr_find.proofs.TableRows.{atoms_replaced, shown_replaced}
 use Rattle.chr_find.proofs.table.Table.replace.Goals as goal
 
 pub invariant_of-self : goal.invariant_of-self
 invariant_of-self g c =
+    let t = c.args.self.now in
     let r = c.args.replaced in
-    record { shown = shown_replaced c.note.new.self c.args.self.now.noted r.id r.old r.new c.note.ensures.rows c.args.self.now.shown c.requires.there c.note.ensures.plan }
+    let was = c.requires.there in
+    let same : (i : ℕ) → noted_atom c.note.new.self i ≡ atoms_with (noted_atom t.noted) r.id.0 (Some (row_atom c.value-2.result.now)) i =
+    λ i. atoms_replaced c.note.new.self t.noted r.id r.old r.new c.note.ensures.rows t.shown was i ∙ ap (λ (x : Row g.row.A.Denot). atoms_with (noted_atom t.noted) r.id.0 (Some (row_atom x)) i) (sym c.value-2.ensures)
+    in
+    record {
+      shown = shown_replaced c.note.new.self t.noted r.id r.old r.new c.note.ensures.rows t.shown was c.note.ensures.plan;
+      listed = listed_alike (atoms_with (noted_atom t.noted) r.id.0 (Some (row_atom c.value-2.result.now))) (noted_atom c.note.new.self) c.replace.new.self same
+          (c.replace.ensures.lists (noted_atom t.noted) t.listed (was ∙ ap (λ (x : Row g.row.A.Denot). Some (row_atom x)) (sym c.value.ensures)));
+    }
 
 pub returns-clause-atoms : goal.returns-clause-atoms
 returns-clause-atoms g c =
@@ -14,3 +29,6 @@ returns-clause-atoms g c =
 
 pub returns-clause-fired : goal.returns-clause-fired
 returns-clause-fired g c = fired_same c.note.new.self c.args.self.now.noted c.note.ensures.fired
+
+pub returns-clause-room : goal.returns-clause-room
+returns-clause-room g c n room = (c.note.ensures.room n room.0, c.replace.ensures.room n room.1)

@@ -1,12 +1,22 @@
+use Rattle.chr_find.specs.NotedView.{noted_atom}
+use Rattle.chr_find.proofs.KeyedTables.{listed_alike}
 use Rattle.chr_find.proofs.TableFired.{fired_same}
 use Rattle.chr_find.proofs.TableRows.{atoms_same, shown_same}
 use Rattle.chr_find.proofs.table.Table.settle.Goals as goal
 
 pub invariant_of-self : goal.invariant_of-self
-invariant_of-self g c = record { shown = shown_same c.settle.new.self c.args.self.now.noted c.settle.ensures.rows c.settle.ensures.plan c.args.self.now.shown }
+invariant_of-self g c = let t = c.args.self.now in record { shown = t.shown; listed = c.settle.ensures.lists (noted_atom t.noted) t.listed }
+
+pub invariant_of-self-2 : goal.invariant_of-self-2
+invariant_of-self-2 g c =
+    let t = c.args.self.now in
+    record {
+      shown = shown_same c.settle-2.new.self t.noted c.settle-2.ensures.rows c.settle-2.ensures.plan t.shown;
+      listed = listed_alike (noted_atom t.noted) (noted_atom c.settle-2.new.self) c.settle.new.self (atoms_same c.settle-2.new.self t.noted c.settle-2.ensures.rows) (c.settle.ensures.lists (noted_atom t.noted) t.listed);
+    }
 
 pub returns-clause-same : goal.returns-clause-same
-returns-clause-same g c = atoms_same c.settle.new.self c.args.self.now.noted c.settle.ensures.rows
+returns-clause-same g c = atoms_same c.settle-2.new.self c.args.self.now.noted c.settle-2.ensures.rows
 
 pub returns-clause-fired : goal.returns-clause-fired
-returns-clause-fired g c = fired_same c.settle.new.self c.args.self.now.noted c.settle.ensures.fired
+returns-clause-fired g c = fired_same c.settle-2.new.self c.args.self.now.noted c.settle-2.ensures.fired

@@ -1,10 +1,10 @@
 -- What is noted and made, one after the other.
 use Rattle.std.proofs.Common.{◌≡◌, ◌∙◌, ◌≤◌, ◌<◌, ◌+◌, ℕ, List, [], ◌∷◌, ◌++◌, ap, refl, sym, drop, length, get_or, subst}
 use Rattle.std.proofs.lemmas.List.{drop-append-le, drop_all, drop_more}
-use Rattle.chr_find.specs.NoteView.{after_all}
+use Rattle.chr_keys.specs.Notes.{after_all}
 
 module _ {N X Y : Type 0} (step : N → (X → Y) → X → Y) (alike : (n : N) (f g : X → Y) (x : X) → f x ≡ g x → step n f x ≡ step n g x) where
-  all_alike : (ns : List N) (f g : X → Y) (x : X) → f x ≡ g x → after_all step ns f x ≡ after_all step ns g x
+  pub all_alike : (ns : List N) (f g : X → Y) (x : X) → f x ≡ g x → after_all step ns f x ≡ after_all step ns g x
   all_alike [] f g x e = e
   all_alike (n ∷ ns) f g x e = all_alike ns (step n f) (step n g) x (alike n f g x e)
 

@@ -1,0 +1,105 @@
+//! The lists of identities by symbol and key, with changes that are noted first and made later.
+ghost use Rattle.std.specs.Prelude.{◌≡◌, ◌+◌, ◌≤◌, false, true, IfOk, OnOk, Option, vec_len, ℕ};
+ghost use Rattle.std.specs.List.Sorted.{IsStrictlyIncreasing};
+ghost use Rattle.chr_semantics.specs.Keys as semantics;
+ghost use Rattle.chr_semantics.specs.Search.{has_number};
+ghost use Rattle.chr_store.specs.KeyView.{keys_view};
+ghost use Rattle.chr_store.specs.Numbers.{numbers};
+ghost use Rattle.chr_keys.specs.Keyed.{atom_in, listed_after};
+
+use crate::Memory;
+use crate::key_lists::KeyLists;
+use crate::note::Note;
+use crate::place::Place;
+use chr_store::{Id, Key, Row};
+use chr_term::Sym;
+use std::alloc::{Allocator, Global};
+
+/// The identities of constraints by their symbol and the key of their first argument, each list ascending and shared, and changes of them. A
+/// change is noted where there is room for it, which takes no memory, and is made by `settle`. Contracts see what is listed when all is made.
+#[derive(Drop)]
+pub struct NotedKeys<A: Allocator = Global> {
+    keys: KeyLists<A>,
+    notes: Vec<Note, A>,
+    /// How many of the notes are made.
+    made: usize,
+    ghost noted: { made ≤ vec_len notes },
+}
+
+impl<A: Allocator + Copy> NotedKeys<A> {
+    ghost use Rattle.chr_keys.specs.NotedKeysView.{HasRoom, IsSettled, is_listed};
+
+    /// No identity, and nothing noted.
+    pub fn new(alloc: A) -> NotedKeys<A>
+        ensures listed { (f : ℕ) (k : Option semantics.Key) (i : ℕ) → is_listed result f k i ≡ false }
+        ensures settled { IsSettled result }
+    {
+        NotedKeys {
+            keys: KeyLists::new(alloc),
+            notes: Vec::new(alloc),
+            made: 0,
+        }
+    }
+
+    /// Makes room for so many notes.
+    pub fn room(&mut self, more: usize) -> Result<(), Memory>
+        ensures same { (f : ℕ) (k : Option semantics.Key) (i : ℕ) →
+            is_listed self.new f k i ≡ is_listed self.old f k i }
+        ensures ok { OnOk result (HasRoom more self.new) }
+    {
+        self.notes.reserve(more)?;
+        Ok(())
+    }
+
+    /// Notes that an identity leaves the list of one row and enters that of another, where these are given.
+    pub fn note<'r>(&mut self, id: Id, out: Option<&'r Row<A>>, into: Option<&'r Row<A>>)
+        requires { HasRoom 1 self.now }
+        ensures listed { (f : ℕ) (k : Option semantics.Key) (i : ℕ) → is_listed self.new f k i
+            ≡ listed_after (atom_in into.entry) id.0 true
+            (listed_after (atom_in out.entry) id.0 false (is_listed self.old)) f k i }
+        ensures room { (n : ℕ) → HasRoom (n + 1) self.old → HasRoom n self.new }
+    {
+        let out = Place::of_row(out);
+        let into = Place::of_row(into);
+        self.notes.push_reserved(Note { id, out, into });
+    }
+
+    /// Makes all that is noted. Where that is refused, some of it may be made in part, and stays noted. It can be called again.
+    pub fn settle(&mut self) -> Result<(), Memory>
+        ensures same { (f : ℕ) (k : Option semantics.Key) (i : ℕ) →
+            is_listed self.new f k i ≡ is_listed self.old f k i }
+        ensures ok { OnOk result (IsSettled self.new) }
+    {
+        while let Some(note) = self.notes.get(self.made) {
+            note.make(&mut self.keys)?;
+            self.made += 1;
+        }
+        self.made = 0;
+        self.notes.clear();
+        Ok(())
+    }
+
+    /// The identities of a symbol and a key, or of those that have none, ascending.
+    pub fn of(&self, sym: Sym, key: Option<Key>) -> &[Id]
+        requires { IsSettled self.now }
+        ensures ids { (i : ℕ) → has_number (numbers result.now) i
+            ≡ is_listed self.now sym.0 (keys_view key) i }
+        ensures ascending { IsStrictlyIncreasing (numbers result.now) }
+    {
+        self.keys.at(Place::new(sym, key))
+    }
+
+    /// The same lists again, at the price of a pointer.
+    pub fn share(&self) -> Result<NotedKeys<A>, Memory>
+        requires { IsSettled self.now }
+        ensures listed { IfOk result (λ shared. (f : ℕ) (k : Option semantics.Key) (i : ℕ) →
+            is_listed shared f k i ≡ is_listed self.now f k i) }
+        ensures settled { IfOk result (λ shared. IsSettled shared) }
+    {
+        Ok(NotedKeys {
+            keys: self.keys.share()?,
+            notes: Vec::new(*self.notes.allocator()),
+            made: 0,
+        })
+    }
+}
