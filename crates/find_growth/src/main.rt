@@ -12,7 +12,8 @@ use std::alloc::Global;
 use std::io;
 use std::time::{Duration, Instant};
 
-const RULES: &str = ":- chr_constraint p/2, q/2, r/2, go/0, s/2. p(X,Y), q(Y,Z) ==> true. p(X,Y), q(Y,Z), r(Z,W) ==> true. go, s(X,Y) ==> true.";
+const RULES: &str =
+    ":- chr_constraint p/2, q/2, r/2, go/0, s/2. p(X,Y), q(Y,Z) ==> true. p(X,Y), q(Y,Z), r(Z,W) ==> true. go, s(X,Y) ==> true.";
 
 /// The number of the rule of `go`.
 const GO: u64 = 2;
@@ -35,7 +36,13 @@ struct Pairs {
 fn pair_of(alloc: Global, pairs: Pairs, id: u64) -> Result<Pointer<Row>, Memory> {
     let key = i128::from(id % pairs.keys.max(1));
     let args = Vec::from_array(alloc, [Term::Int(key), Term::Int(key)])?;
-    Pointer::new(alloc, Row { sym: pairs.sym, args })
+    Pointer::new(
+        alloc,
+        Row {
+            sym: pairs.sym,
+            args,
+        },
+    )
 }
 
 /// Adds a constraint, unless its identity is taken.
@@ -236,7 +243,13 @@ fn fired(rt: &HostRuntime, program: &Program, symbols: Symbols, size: u64) -> io
     add_all(alloc, &mut table, pairs)?;
     let start = Instant::now(rt)?;
     let count = fire_all(program, &mut table, symbols.go, 1)?;
-    print(rt, size, "firing of one constraint", start.elapsed(rt)?, count)?;
+    print(
+        rt,
+        size,
+        "firing of one constraint",
+        start.elapsed(rt)?,
+        count,
+    )?;
     if count != size {
         eprintln!(rt; "{size}: {count} firings")?;
     }
