@@ -23,6 +23,7 @@ pub mod NewRows
 pub mod NoteSteps
 pub mod Numbers
 pub mod OwnFirst
+pub mod OwnSearch
 pub mod PassedRows
 pub mod Rebinds
 pub mod RuleClashes

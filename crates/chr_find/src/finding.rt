@@ -1,6 +1,7 @@
 //! The search of a table.
-ghost use Rattle.std.specs.Prelude.{◌≡◌, IfOk, None, OnOk};
-ghost use Rattle.chr_find.specs.Finding.{FindsFirst, FindsNext};
+ghost use Rattle.std.specs.Prelude.{◌≡◌, ◌≤◌, IfOk, None, vec_len};
+ghost use Rattle.chr_find.specs.Finding.{FindsFirst, FindsJoined, FindsNext};
+ghost use Rattle.chr_find.specs.ModeView.{gate_of};
 ghost use Rattle.chr_find.specs.SearchView.{IsSearchable};
 ghost use Rattle.chr_find.specs.TableView.{IsSettled, atom_at};
 
@@ -13,13 +14,20 @@ use crate::table::Table;
 use std::alloc::Allocator;
 
 impl<A: Allocator + Copy> Table<A> {
-    /// The first list of partners with which the rule can fire, and one try more for each complete list that was looked at. A constraint
-    /// that does not live has none.
-    pub fn first(&self, active: &Active<'_, A>, tries: &mut u64) -> Result<Option<[u64; 8]>, Memory>
+    /// The first list of partners, after a list or from the beginning, where no constraint for a head from `quiet` on is new.
+    fn found(
+        &self,
+        active: &Active<'_, A>,
+        mode: Mode,
+        after: &[u64],
+        from: u64,
+        quiet: usize,
+        tries: &mut u64,
+    ) -> Result<Option<[u64; 8]>, Memory>
         requires settled { IsSettled self.now }
         requires searchable { IsSearchable active.now.rule.now active.now.place }
-        ensures found { IfOk result (λ found. FindsFirst self.now active.now found tries.old
-            tries.new) }
+        ensures found { IfOk result (λ found. FindsJoined self.now active.now from quiet
+            (gate_of mode after.now) found tries.old tries.new) }
         ensures dead { atom_at self.now active.now.id.0 ≡ None →
             IfOk result (λ found. found ≡ None) }
     {
@@ -37,11 +45,26 @@ impl<A: Allocator + Copy> Table<A> {
             number: active.number,
             place: active.place,
             own: active.id.0,
-            after: &[],
-            from: 0,
-            quiet: active.rule.heads.len(),
+            after,
+            from,
+            quiet,
         };
-        search.first(row, Mode::Free, tries)
+        search.first(row, mode, tries)
+    }
+
+    /// The first list of partners with which the rule can fire, and one try more for each complete list that was looked at. A constraint
+    /// that does not live has none.
+    pub fn first(&self, active: &Active<'_, A>, tries: &mut u64) -> Result<Option<[u64; 8]>, Memory>
+        requires settled { IsSettled self.now }
+        requires searchable { IsSearchable active.now.rule.now active.now.place }
+        ensures found { IfOk result (λ found. FindsFirst self.now active.now found tries.old
+            tries.new) }
+        ensures dead { atom_at self.now active.now.id.0 ≡ None →
+            IfOk result (λ found. found ≡ None) }
+    {
+        let _so_far = *tries;
+        let quiet = active.rule.heads.len();
+        self.found(active, Mode::Free, &[], 0, quiet, tries)
     }
 
     /// The same where each list that can fire is ahead of the cursor: no other is looked at.
@@ -58,25 +81,9 @@ impl<A: Allocator + Copy> Table<A> {
             IfOk result (λ found. found ≡ None) }
     {
         let _so_far = *tries;
-        let row = match self.row(active.id) {
-            None => return Ok(None),
-            Some(row) => row.value(),
-        };
         let rows = &self.noted.rows;
         let quiet = quiet_from(rows, active.rule, active.place, active.id.0, cursor.from);
-        let search = Search {
-            alloc: self.alloc,
-            plan: self.noted.plan.value(),
-            rows,
-            past: &self.noted.fired,
-            rule: active.rule,
-            number: active.number,
-            place: active.place,
-            own: active.id.0,
-            after: &cursor.after[..active.rule.heads.len()],
-            from: cursor.from,
-            quiet,
-        };
-        search.first(row, Mode::On, tries)
+        let after = &cursor.after[..active.rule.heads.len()];
+        self.found(active, Mode::On, after, cursor.from, quiet, tries)
     }
 }

@@ -1,5 +1,5 @@
--- What is noted of the lists: what is alike stays so, and what is made in part can be made again.
-use Rattle.std.proofs.Common.{◌≡◌, ◌∙◌, ℕ, Bool, true, false, cond, ◌&&◌, ◌==◌, ap, refl}
+-- What is noted of the lists: what is alike stays so.
+use Rattle.std.proofs.Common.{◌≡◌, ◌∙◌, ℕ, Bool, true, false, cond, ◌&&◌, ◌==◌, ap}
 use Rattle.std.specs.Prelude.{Option, Some, None, option_map}
 use Rattle.std.specs.Ordering.{is_eq}
 use Rattle.chr_semantics.specs.Keys as semantics
@@ -17,20 +17,6 @@ place_alike (Some p) i b l m x e = ap (λ (t : Bool). cond (x.1 == i && is_eq (p
 
 pub note_alike : (n : Note) (l m : Place × ℕ → Bool) (x : Place × ℕ) → l x ≡ m x → note_after n l x ≡ note_after n m x
 note_alike n l m x e = place_alike n.into n.id.0 true (place_after n.out n.id.0 false l) (place_after n.out n.id.0 false m) x (place_alike n.out n.id.0 false l m x e)
-
-cond_twice : (t b c : Bool) → cond t b (cond t b c) ≡ cond t b c
-cond_twice true b c = refl
-cond_twice false b c = refl
-
-place_twice : (p : Option Place) (i : ℕ) (b : Bool) (l : Place × ℕ → Bool) (x : Place × ℕ) → place_after p i b (place_after p i b l) x ≡ place_after p i b l x
-place_twice None i b l x = refl
-place_twice (Some p) i b l x = cond_twice (x.1 == i && is_eq (place_cmp x.0 p)) b (l x)
-
--- what is taken out already can be taken out again
-pub note_again : (n : Note) (l mid old : Place × ℕ → Bool) (x : Place × ℕ) → l x ≡ mid x → mid x ≡ place_after n.out n.id.0 false old x → note_after n l x ≡ note_after n old x
-note_again n l mid old x kept out =
-    place_alike n.into n.id.0 true (place_after n.out n.id.0 false l) (place_after n.out n.id.0 false old) x
-    (place_alike n.out n.id.0 false l (place_after n.out n.id.0 false old) x (kept ∙ out) ∙ place_twice n.out n.id.0 false old x)
 
 -- a change at the place of an atom, as it is listed
 atom_listed : (a : Option Atom) (i : ℕ) (b : Bool) (l : Place × ℕ → Bool) (listed : ℕ → Option semantics.Key → ℕ → Bool) (f : ℕ) (k : Option semantics.Key) (j : ℕ) → l (place_of f k, j) ≡ listed f k j

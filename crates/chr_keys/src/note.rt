@@ -36,14 +36,17 @@ fn set<A: Allocator + Copy>(
 }
 
 impl Note {
-    /// Makes what is noted. Where that is refused, it can be made again, and comes to the same.
+    /// Makes what is noted. Where that is refused, it can be made again, and comes to the same. An identity that enters the list that it
+    /// leaves is not taken out of it.
     pub(crate) fn make<A: Allocator + Copy>(&self, lists: &mut KeyLists<A>) -> Result<(), Memory>
         ensures ok { OnOk result ((x : Place × ℕ) → is_in_list lists.new.lists x
             ≡ note_after self.now (is_in_list lists.old.lists) x) }
         ensures again { OnErr result ((x : Place × ℕ) → note_after self.now (is_in_list lists.new.lists) x
             ≡ note_after self.now (is_in_list lists.old.lists) x) }
     {
-        set(lists, self.out, self.id, false)?;
+        if self.out != self.into {
+            set(lists, self.out, self.id, false)?;
+        }
         set(lists, self.into, self.id, true)
     }
 }

@@ -208,6 +208,26 @@ fn stamps_of_symbols(rt: HostRuntime) -> Result<(), Fail> {
     Ok(())
 }
 
+/// `touch_counts`: p(1), p(1) where one removes the other; p(1), q(X) where X is bound. The calls of the transitions are made by hand.
+#[test]
+fn touch_counts(rt: HostRuntime) -> Result<(), Fail> {
+    let alloc = rt.alloc();
+    let mut store = Store::new(alloc);
+    let mut history = History::new(alloc);
+    for _ in 0..2 {
+        add(&rt, &mut store, P, one(alloc, Term::Int(1))?)?;
+    }
+    assert!(&rt; history.put(fired(alloc, 0, 1, 2)?)?);
+    assert!(&rt; remove(&rt, &mut store, 2));
+    assert_eq!(&rt; (store.stamp(P), history.stamp(0)), (3, 1));
+    let mut store = Store::new(alloc);
+    add(&rt, &mut store, P, one(alloc, Term::Int(1))?)?;
+    add(&rt, &mut store, Q, one(alloc, Term::Var(0))?)?;
+    rebound(&rt, &mut store, &[Id(2)]);
+    assert_eq!(&rt; (store.stamp(P), store.stamp(Q)), (1, 2));
+    Ok(())
+}
+
 #[test]
 fn history_calls(rt: HostRuntime) -> Result<(), Fail> {
     let alloc = rt.alloc();
