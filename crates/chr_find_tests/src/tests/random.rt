@@ -315,7 +315,7 @@ fn assert_case(
 fn as_a_plain_search(rt: HostRuntime) -> Result<(), Fail> {
     let alloc = rt.alloc();
     let mut dice = Dice { state: 1 };
-    for case in 0..500u64 {
+    for case in 0..4_000u64 {
         if let Some(program) = PROGRAMS.get(dice.below(6) as usize) {
             assert_case(&rt, alloc, &mut dice, program, case)?;
         }

@@ -1,0 +1,2 @@
+pub mod Agreements
+pub mod Seen

@@ -1,0 +1,87 @@
+//! The base of a run.
+ghost use Rattle.std.specs.Prelude.{◌≡◌, ◌<◌, [], IfErr, IfOk, OnErr, OnOk};
+ghost use Rattle.chr_semantics.specs.Changes.{added, empty_store, no_entries};
+ghost use Rattle.chr_semantics.specs.State.{resolved_atom};
+ghost use Rattle.chr_semantics.specs.declared.limits.TheConstants.{MAX_CHANGES};
+ghost use Rattle.chr_store.specs.HistoryView.{entries_view};
+ghost use Rattle.chr_store.specs.Rows.{row_atom};
+ghost use Rattle.chr_store.specs.StoreView.{store_view};
+ghost use Rattle.chr_find.specs.TableView.{atom_at, fired_at};
+ghost use Rattle.chr_term.specs.TermView.{atom_view};
+ghost use Rattle.chr_base.specs.Agreement.{Agrees, agreements};
+
+use crate::Memory;
+use chr_bind::Bindings;
+use chr_find::{Plan, Table};
+use chr_map::Pointer;
+use chr_store::{History, Id, Row, Store};
+use chr_term::{Sym, Term};
+use std::alloc::{Allocator, Global};
+
+/// The constraints of a run, its bindings, and what has fired, with the table that is searched. Contracts see the store, the bindings and
+/// the entries of the history, and nothing of the table.
+#[derive(Drop)]
+pub struct Base<A: Allocator = Global> {
+    pub(crate) store: Store<A>,
+    pub(crate) bindings: Bindings<A>,
+    pub(crate) history: History<A>,
+    pub(crate) table: Table<A>,
+    /// Whether variables were bound since the table's rows were resolved.
+    pub(crate) is_stale: bool,
+    pub(crate) alloc: A,
+    ghost agrees: { Agrees (store_view store) (entries_view history) bindings.subst (atom_at table) (fired_at table)
+        is_stale } by { Prim.hlevel agreements },
+}
+
+impl<A: Allocator + Copy> Base<A> {
+    ghost use Rattle.chr_base.specs.BaseView.{base_view};
+
+    /// No constraint, nothing fired, and so many variables of which none is bound.
+    pub fn new(alloc: A, plan: Pointer<Plan<A>, A>, variables: usize) -> Result<Base<A>, Memory>
+        ensures store { IfOk result (λ base. (base_view base).store ≡ empty_store) }
+        ensures entries { IfOk result (λ base. (base_view base).entries ≡ no_entries) }
+        ensures subst { IfOk result (λ base. (base_view base).subst ≡ []) }
+        ensures next_var { IfOk result (λ base. (base_view base).next_var ≡ variables) }
+    {
+        let mut bindings = Bindings::new(alloc);
+        bindings.fresh(variables)?;
+        Ok(Base {
+            store: Store::new(alloc),
+            bindings,
+            history: History::new(alloc),
+            table: Table::new(alloc, plan),
+            is_stale: false,
+            alloc,
+        })
+    }
+
+    /// The row of a constraint with the bindings applied.
+    fn resolved_row(&self, sym: Sym, args: &[Term<A>]) -> Result<Pointer<Row<A>, A>, Memory>
+        ensures { IfOk result (λ row. row_atom row
+            ≡ resolved_atom self.now.bindings.subst (atom_view sym args.now)) }
+    {
+        let args = self.bindings.resolve_all(args)?;
+        Pointer::new(self.alloc, Row { sym, args })
+    }
+
+    /// Adds a constraint under the next identity. Where memory is refused, nothing changes, and the arguments come back.
+    pub fn add(&mut self, sym: Sym, args: Vec<Term<A>, A>) -> Result<Id, (Vec<Term<A>, A>, Memory)>
+        requires { (base_view self.old).store.changes < MAX_CHANGES }
+        ensures ok { OnOk result (base_view self.new
+            ≡ record (base_view self.old) { store = added (base_view self.old).store (atom_view sym args.items) }) }
+        ensures id { IfOk result (λ id. id.0 ≡ (base_view self.old).store.next_id) }
+        ensures back { IfErr result (λ refused. refused.0 ≡ args) }
+        ensures err { OnErr result (base_view self.new ≡ base_view self.old) }
+    {
+        let row = match self.resolved_row(sym, args.as_slice()) {
+            Err(error) => return Err((args, error)),
+            Ok(row) => row,
+        };
+        if let Err(error) = self.table.room(1) {
+            return Err((args, error));
+        }
+        let id = self.store.add(sym, args)?;
+        self.table.add(id, row);
+        Ok(id)
+    }
+}

@@ -1,0 +1,8 @@
+//! The constraints of a run with their bindings, what has fired, and the table that is searched: what each transition changes below the stack.
+#![tactic(auto)]
+
+mod base;
+mod binding;
+
+pub use base::Base;
+pub use chr_term::Memory;

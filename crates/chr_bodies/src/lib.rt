@@ -1,0 +1,8 @@
+//! The body of a rule that fires: its goals, with the matched terms and new variables put in.
+#![tactic(auto)]
+
+mod body;
+mod terms;
+
+pub use body::{build_body, build_goal};
+pub use chr_term::Memory;

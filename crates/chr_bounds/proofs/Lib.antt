@@ -1,0 +1,4 @@
+pub mod Matches
+pub mod Steps
+pub mod Terms
+pub mod Unifiers
