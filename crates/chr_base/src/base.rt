@@ -55,6 +55,28 @@ impl<A: Allocator + Copy> Base<A> {
         })
     }
 
+    /// The constraints with their identities.
+    pub fn store(&self) -> &Store<A>
+        ensures { store_view result.now ≡ (base_view self.now).store }
+    {
+        &self.store
+    }
+
+    /// What has fired.
+    pub fn history(&self) -> &History<A>
+        ensures { entries_view result.now ≡ (base_view self.now).entries }
+    {
+        &self.history
+    }
+
+    /// The bindings, and how many variables there are.
+    pub fn bindings(&self) -> &Bindings<A>
+        ensures subst { result.now.subst ≡ (base_view self.now).subst }
+        ensures len { result.now.len ≡ (base_view self.now).next_var }
+    {
+        &self.bindings
+    }
+
     /// The row of a constraint with the bindings applied.
     fn resolved_row(&self, sym: Sym, args: &[Term<A>]) -> Result<Pointer<Row<A>, A>, Memory>
         ensures { IfOk result (λ row. row_atom row

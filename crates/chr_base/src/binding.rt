@@ -1,6 +1,6 @@
 //! What bindings change.
 ghost use Rattle.std.specs.Prelude.{◌≡◌, ◌<◌, IfOk, OnErr, OnOk};
-ghost use Rattle.chr_bind.specs.Terms.{IsBelow};
+ghost use Rattle.chr_semantics.specs.Bounds.{IsBelow};
 ghost use Rattle.chr_semantics.specs.Changes.{woken};
 ghost use Rattle.chr_semantics.specs.declared.limits.TheConstants.{MAX_CHANGES};
 ghost use Rattle.chr_store.specs.Numbers.{numbers};

@@ -3,6 +3,8 @@
 
 mod base;
 mod binding;
+mod firing;
+mod searching;
 
 pub use base::Base;
 pub use chr_term::Memory;

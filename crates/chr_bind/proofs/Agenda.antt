@@ -4,7 +4,7 @@ use Rattle.chr_semantics.specs.Tree.{Tree, var, int, node}
 use Rattle.chr_semantics.specs.Subst.{Subst, apply}
 use Rattle.chr_semantics.specs.Mgu.{Equations, apart, both}
 use Rattle.chr_bind.specs.Agenda.{IsBelowAgenda, Lists, agenda_size, lists_apart, lists_size, rest_apart}
-use Rattle.chr_bind.specs.Terms.{AreBelow}
+use Rattle.chr_semantics.specs.Bounds.{AreBelow}
 use Rattle.chr_term.specs.Size.{size}
 use Rattle.chr_term.specs.TermView.{trees_view, view}
 use Rattle.chr_term.specs.declared.term.Term.{Term}

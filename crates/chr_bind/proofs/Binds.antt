@@ -11,7 +11,8 @@ use Rattle.chr_semantics.proofs.SolvedLaw.{solved_twice}
 use Rattle.chr_semantics.proofs.UnifierEqual.{IsFree, apply-bound, apply_absent, bound_is, bound_solved, here, one}
 use Rattle.std.specs.Borrow.{Bor}
 use Rattle.chr_term.specs.declared.term.Term.{Term}
-use Rattle.chr_bind.specs.Terms.{IsBelow, IsNoVar}
+use Rattle.chr_semantics.specs.Bounds.{IsBelow}
+use Rattle.chr_bind.specs.Terms.{IsNoVar}
 use Rattle.chr_bind.specs.Chains.{Pairs, ArePairsBelow, IsAttached, IsJoined, IsJoinedAt, IsLast, IsLater, IsLinked, IsSound, StandsFor, free_count, free_one, lent_pair, name_of, owned_pair, pairs_in, solution, extension_by}
 use Rattle.chr_bind.specs.declared.chains.Link.{Link}
 use Rattle.chr_bind.specs.declared.chains.Link.TheVariants.{Free, Follows, Bound}

@@ -6,7 +6,7 @@ use Rattle.chr_semantics.specs.Tree.{var}
 use Rattle.chr_bind.specs.Chains.{ArePairsBelow, IsLater, IsLinked, IsSound, Pairs, free_count, name_of, solution}
 use Rattle.chr_bind.specs.declared.chains.Link.{Link}
 use Rattle.chr_bind.specs.declared.chains.Link.TheVariants.{Free, Follows, Bound}
-use Rattle.chr_bind.proofs.Bounds.{below_more}
+use Rattle.chr_semantics.proofs.Below.{below_more}
 use Rattle.chr_bind.proofs.Binds.{free_link, length-last}
 use Rattle.chr_bind.proofs.Changed.{slice_get-before, slice_get-last}
 use Rattle.chr_bind.proofs.Links.{free_beyond, linked_at}

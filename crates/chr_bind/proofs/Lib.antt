@@ -1,4 +1,3 @@
-pub mod Bounds
 mod Links
 mod Lists
 mod Roots

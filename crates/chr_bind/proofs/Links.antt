@@ -3,7 +3,8 @@ use Rattle.std.proofs.Common.{◌≡◌, ℕ, zero, suc, ◌-◌, ◌<◌, Optio
 use Rattle.std.proofs.lemmas.Option.{slice_get-get_or, slice_get_within}
 use Rattle.chr_semantics.specs.Tree.{Tree, var}
 use Rattle.chr_semantics.specs.Subst.{Subst, value_at, apply}
-use Rattle.chr_bind.specs.Terms.{IsBelow, IsNoVar}
+use Rattle.chr_semantics.specs.Bounds.{IsBelow}
+use Rattle.chr_bind.specs.Terms.{IsNoVar}
 use Rattle.chr_bind.specs.Chains.{Pairs, ArePairsBelow, IsLast, IsLater, IsLinked, IsSound, StandsFor, solution}
 use Rattle.chr_bind.specs.declared.chains.Link.{Link}
 use Rattle.chr_bind.specs.declared.chains.Link.TheVariants.{Free, Follows, Bound}

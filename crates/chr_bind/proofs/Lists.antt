@@ -8,7 +8,7 @@ use Rattle.chr_term.specs.declared.term.Term.{Term}
 use Rattle.chr_term.proofs.Dropped.{heads_agree, rests_decide, trees_view-drop}
 use Rattle.chr_term.proofs.Lengths.{trees_length, trees_length-view}
 use Rattle.chr_term.proofs.Sizes.{size-item}
-use Rattle.chr_bind.specs.Terms.{AreBelow, IsBelow}
+use Rattle.chr_semantics.specs.Bounds.{AreBelow, IsBelow}
 use Rattle.chr_term.specs.Size.{size, size_all}
 
 instances-view : {A : Type 0} (f : ℕ → Tree) (xs : List (Term A)) → instances f (trees_view xs) ≡ trees_of (map (λ t. instance f (view t)) xs)

@@ -13,10 +13,10 @@ use Rattle.chr_semantics.proofs.UnifierEqual.{mgu_makes_equal}
 use Rattle.chr_semantics.proofs.UnifierNone.{mgu_none}
 use Rattle.chr_term.specs.TermView.{trees_view, view}
 use Rattle.chr_term.specs.declared.term.Term.{Term}
-use Rattle.chr_bind.specs.Terms.{AreBelow, IsBelow}
+use Rattle.chr_semantics.specs.Bounds.{AreBelow, IsBelow}
+use Rattle.chr_semantics.proofs.Below.{below_more, below_more_all}
 use Rattle.chr_term.specs.Extension.{IsExtension}
 use Rattle.chr_bind.specs.Renamed.{AreRenamed, IsNames, IsRenamed, old_variable}
-use Rattle.chr_bind.proofs.Bounds.{below_more, below_more_all}
 
 -- the first place of a number
 place_of : List ℕ → ℕ → ℕ

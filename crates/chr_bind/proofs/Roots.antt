@@ -4,7 +4,7 @@ use Rattle.chr_semantics.specs.Tree.{Tree}
 use Rattle.chr_semantics.specs.Subst.{apply}
 use Rattle.chr_bind.specs.Chains.{subst_of}
 use Rattle.chr_bind.specs.Root.{IsRoot, IsWrittenRoot}
-use Rattle.chr_bind.specs.Terms.{IsBelow}
+use Rattle.chr_semantics.specs.Bounds.{IsBelow}
 use Rattle.chr_bind.specs.declared.chains.Chains.{Chains}
 use Rattle.chr_bind.specs.declared.chains.Root.{Root}
 use Rattle.chr_bind.specs.declared.chains.Root.TheVariants.{Free, Int, Node}

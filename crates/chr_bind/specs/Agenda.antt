@@ -6,7 +6,7 @@ use Rattle.chr_semantics.specs.Subst.{Subst, value_at, apply, occurs, instances}
 use Rattle.chr_semantics.specs.Mgu.{Equations, both, apart, apart_all, elimination_from}
 use Rattle.chr_term.specs.TermView.{view, trees_view}
 use Rattle.chr_term.specs.declared.term.Term.{Term}
-use Rattle.chr_bind.specs.Terms.{IsBelow, AreBelow}
+use Rattle.chr_semantics.specs.Bounds.{AreBelow, IsBelow}
 use Rattle.chr_term.specs.Size.{size, size_all}
 use Rattle.chr_bind.specs.Chains.{IsAttached, Pairs, name_of, solution}
 use Rattle.chr_bind.specs.declared.chains.Link.{Link}

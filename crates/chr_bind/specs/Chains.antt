@@ -5,7 +5,8 @@ use Rattle.chr_semantics.specs.Tree.{Tree, var}
 use Rattle.chr_semantics.specs.Subst.{Subst, value_at, apply, with_binding, IsSolved}
 use Rattle.chr_term.specs.TermView.{view}
 use Rattle.chr_term.specs.declared.term.Term.{Term}
-use Rattle.chr_bind.specs.Terms.{IsBelow, IsNoVar}
+use Rattle.chr_semantics.specs.Bounds.{IsBelow}
+use Rattle.chr_bind.specs.Terms.{IsNoVar}
 use Rattle.chr_bind.specs.declared.chains.Link.{Link}
 use Rattle.chr_bind.specs.declared.chains.Link.TheVariants.{Free, Follows, Bound}
 use Rattle.chr_bind.specs.declared.chains.Chains.{Chains}

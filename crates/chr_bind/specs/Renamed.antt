@@ -3,7 +3,7 @@ use Rattle.std.specs.Prelude.{◌≡◌, ℕ, ◌==◌, List, length, get_or}
 use Rattle.std.specs.List.{IsDistinct}
 use Rattle.chr_semantics.specs.Tree.{Tree, Trees, var}
 use Rattle.chr_semantics.specs.Subst.{instance, instances}
-use Rattle.chr_bind.specs.Terms.{IsBelow, AreBelow}
+use Rattle.chr_semantics.specs.Bounds.{AreBelow, IsBelow}
 
 -- the variable that had a number
 abbrev pub old_variable : List ℕ → ℕ → Tree

@@ -3,7 +3,7 @@ use Rattle.std.specs.Prelude.{◌≡◌, Some, length, slice_get}
 use Rattle.chr_semantics.specs.Tree.{Tree, var, int, node}
 use Rattle.chr_semantics.specs.Subst.{value_at, apply, instances}
 use Rattle.chr_term.specs.TermView.{trees_view}
-use Rattle.chr_bind.specs.Terms.{IsBelow, AreBelow}
+use Rattle.chr_semantics.specs.Bounds.{AreBelow, IsBelow}
 use Rattle.chr_bind.specs.Chains.{name_of, subst_of}
 use Rattle.chr_bind.specs.declared.chains.Chains.{Chains}
 use Rattle.chr_bind.specs.declared.chains.Root.{Root}

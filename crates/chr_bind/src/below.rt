@@ -1,7 +1,7 @@
 //! The condition of calls whose terms have no variable from a number on.
 ghost use Rattle.std.specs.Prelude.{IsTrue, ◌↔◌};
 ghost use Rattle.chr_term.specs.TermView.{trees_view, view};
-ghost use Rattle.chr_bind.specs.Terms.{AreBelow, IsBelow};
+ghost use Rattle.chr_semantics.specs.Bounds.{AreBelow, IsBelow};
 
 use chr_term::Term;
 use std::alloc::Allocator;

@@ -1,9 +1,9 @@
 //! The bindings of variables, seen by contracts as one solved substitution.
-ghost use Rattle.std.specs.Prelude.{◌≡◌, ◌≤◌, ◌<◌, ◌+◌, [], IfOk, OnErr, OnOk, IsTrue, ◌↔◌, length, vec_len, vec_capacity};
+ghost use Rattle.std.specs.Prelude.{◌≡◌, ◌≤◌, ◌<◌, ◌+◌, ◌^◌, [], IfOk, OnErr, OnOk, IsTrue, ◌↔◌, length, vec_len, vec_capacity};
 ghost use Rattle.chr_semantics.specs.Tree.{is_ground_tree};
 ghost use Rattle.chr_semantics.specs.Subst.{IsSolved, apply, instances, value_at};
 ghost use Rattle.chr_term.specs.TermView.{trees_view, view};
-ghost use Rattle.chr_bind.specs.Terms.{IsBelow};
+ghost use Rattle.chr_semantics.specs.Bounds.{IsBelow};
 ghost use Rattle.chr_bind.specs.Chains.{AreSound, IsSound, Pairs, subst_of};
 ghost use Rattle.chr_bind.specs.Unified.{IsAnswer, IsUnified};
 
@@ -107,6 +107,7 @@ impl<A: Allocator> Bindings<A> {
     /// How many variables there are.
     pub fn len(&self) -> u64
         ensures len { result ≡ self.now.len }
+        ensures small { result < 2 ^ 63 }
         ensures solved { IsSolved self.now.subst }
     {
         self.links.len() as u64

@@ -3,7 +3,7 @@ ghost use Rattle.std.specs.Prelude.{◌≡◌, ◌<◌, [], option_map};
 ghost use Rattle.chr_semantics.specs.Tree.{var as variable};
 ghost use Rattle.chr_term.specs.TermView.{trees_view, view};
 ghost use Rattle.chr_bind.specs.Matching.{Agrees, AgreesWith, FitsAs, FitsTo, FitsTermTo, matched_tree};
-ghost use Rattle.chr_bind.specs.Terms.{AreBelow, IsBelow};
+ghost use Rattle.chr_semantics.specs.Bounds.{AreBelow, IsBelow};
 
 use chr_semantics::limits::MAX_RULE_VARIABLES;
 use chr_term::{Term, same};

@@ -3,7 +3,7 @@ ghost use Rattle.std.specs.Prelude.{◌≡◌, ◌≢◌, ◌<◌, ◌≤◌, �
 ghost use Rattle.chr_semantics.specs.Subst.{Subst, apply, occurs};
 ghost use Rattle.chr_semantics.specs.Mgu.{both};
 ghost use Rattle.chr_term.specs.TermView.{view, trees_view};
-ghost use Rattle.chr_bind.specs.Terms.{IsBelow, AreBelow};
+ghost use Rattle.chr_semantics.specs.Bounds.{AreBelow, IsBelow};
 ghost use Rattle.chr_term.specs.Size.{size};
 ghost use Rattle.chr_bind.specs.Chains.{AreSound, IsAttached, IsJoined, IsSound, lent_pairs, name_of, owned_pairs, pairs_in, solution, subst_of, links_before};
 ghost use Rattle.chr_bind.specs.Agenda.{Differs, IsAllDone, IsBelowAgenda, IsBinding, IsBound, IsRootComparison, Eliminates, agenda_size, lists_apart, lists_size, rest_apart, terms_apart};

@@ -10,8 +10,7 @@ use Rattle.chr_semantics.specs.State.{goal}
 use Rattle.chr_semantics.specs.Step.{goal_instance}
 use Rattle.chr_semantics.specs.Subst.{instance}
 use Rattle.chr_semantics.specs.Tree.{Tree}
-use Rattle.chr_bind.specs.Terms.{IsBelow}
-use Rattle.chr_rules.specs.Bounds.{IsGoalBelow}
+use Rattle.chr_semantics.specs.Bounds.{IsBelow, IsGoalBelow}
 use Rattle.chr_rules.specs.RuleView.{builtin_view, goal_view}
 use Rattle.chr_rules.specs.declared.goal.Goal.{Goal}
 use Rattle.chr_rules.specs.declared.goal.Op.{Op}

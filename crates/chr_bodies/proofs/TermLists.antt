@@ -5,7 +5,7 @@ use Rattle.chr_semantics.specs.Subst.{instance, instances}
 use Rattle.chr_semantics.specs.Tree.{Tree, more, trees_of}
 use Rattle.chr_term.specs.TermView.{trees_view, view}
 use Rattle.chr_term.specs.declared.term.Term.{Term}
-use Rattle.chr_bind.specs.Terms.{AreBelow, IsBelow}
+use Rattle.chr_semantics.specs.Bounds.{AreBelow, IsBelow}
 
 instances-view : {A : Type 0} (f : ℕ → Tree) (xs : List (Term A)) → instances f (trees_view xs) ≡ trees_of (map (λ t. instance f (view t)) xs)
 instances-view f [] = refl

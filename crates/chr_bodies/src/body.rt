@@ -5,7 +5,7 @@ ghost use Rattle.chr_semantics.specs.State.{goal};
 ghost use Rattle.chr_semantics.specs.Step.{body_of, goal_instance, in_body};
 ghost use Rattle.chr_semantics.specs.Subst.{Subst};
 ghost use Rattle.chr_bind.specs.Matching.{AgreesWith};
-ghost use Rattle.chr_rules.specs.Bounds.{IsBounded, IsGoalBelow};
+ghost use Rattle.chr_semantics.specs.Bounds.{IsBounded, IsGoalBelow};
 ghost use Rattle.chr_rules.specs.RuleView.{goal_view, rule_view};
 
 use crate::terms::{build_term, build_terms};

@@ -4,8 +4,7 @@ ghost use Rattle.chr_semantics.specs.Step.{in_body};
 ghost use Rattle.chr_semantics.specs.Subst.{Subst, instance, instances};
 ghost use Rattle.chr_term.specs.TermView.{trees_view, view};
 ghost use Rattle.chr_bind.specs.Matching.{AgreesWith};
-ghost use Rattle.chr_bind.specs.Terms.{AreBelow, IsBelow};
-ghost use Rattle.chr_rules.specs.Bounds.{IsBounded};
+ghost use Rattle.chr_semantics.specs.Bounds.{AreBelow, IsBelow, IsBounded};
 ghost use Rattle.chr_rules.specs.RuleView.{rule_view};
 
 use chr_bind::Match;

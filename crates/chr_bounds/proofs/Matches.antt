@@ -2,13 +2,12 @@
 use Rattle.std.proofs.Common.{◌≡◌, ◌==◌, ℕ, Bool, true, false, true≢false, cond, List, [], ◌∷◌, Option, Some, None, refl, sym, ◌||◌}
 use Rattle.std.specs.Ordering.{int_eq}
 use Rattle.std.proofs.lemmas.List.Elements.{All-cons, All-head, All-nil, All-tail}
-use Rattle.chr_bind.specs.Terms.{AreBelow, IsBelow}
+use Rattle.chr_semantics.specs.Bounds.{AreBelow, AreRowsBelow, IsBelow, IsSubstBelow}
 use Rattle.chr_semantics.specs.Match.{Row, fit, fit_all, fit_atom, fit_rows, fit_var, fits, match_at}
 use Rattle.chr_semantics.specs.Program.{Head}
 use Rattle.chr_semantics.specs.Subst.{Subst, binds_var, value_at}
 use Rattle.chr_semantics.specs.Tree.{Tree, var, int, node, Trees, none, more, same}
 use Rattle.std.specs.Prelude.{option_and_then}
-use Rattle.chr_bounds.specs.Bounds.{AreRowsBelow, IsSubstBelow}
 use Rattle.chr_bounds.proofs.Unifiers.{IfSubst}
 
 tested_within : (n : ℕ) (b : Bool) (o : Option Subst) → IfSubst n o → IfSubst n (cond b o None)

@@ -4,9 +4,8 @@ use Rattle.std.specs.Prelude.{All, find, unwrap_or}
 use Rattle.std.proofs.lemmas.Bool.{and_parts}
 use Rattle.std.proofs.lemmas.Bool.Decides.{Decides-eqb, Decides-ltb}
 use Rattle.std.proofs.lemmas.List.Elements.{All-append, All-cons, All-filter, All-head, All-map, All-nil, All-push, All-tail, All-weaker}
-use Rattle.chr_bind.specs.Terms.{AreBelow, IsBelow}
-use Rattle.chr_bind.proofs.Bounds.{below_more, below_more_all}
-use Rattle.chr_rules.specs.Bounds.{AreBounded, IsBounded, IsGoalBelow, IsQueryBounded}
+use Rattle.chr_semantics.specs.Bounds.{AreBelow, AreBounded, AreElementsBelow, AreEntriesBelow, AreRowsBelow, BoundsLaw, IsBelow, IsBounded, IsElementBelow, IsGoalBelow, IsQueryBounded, IsSubstBelow, IsWithin}
+use Rattle.chr_semantics.proofs.Below.{below_more, below_more_all}
 use Rattle.chr_semantics.specs.Footprint.{Ascends, IsSound}
 use Rattle.chr_semantics.specs.Guard.{comparison_holds}
 use Rattle.chr_semantics.specs.Match.{Row, fits}
@@ -22,7 +21,6 @@ use Rattle.chr_semantics.proofs.FitsLaw.{fits_law}
 use Rattle.chr_semantics.proofs.Lists.{All-flat_map, All-got}
 use Rattle.chr_semantics.proofs.Lookups.{Ascends-ends}
 use Rattle.chr_semantics.proofs.OccurrenceRule.{occurrence_rule}
-use Rattle.chr_bounds.specs.Bounds.{AreElementsBelow, AreEntriesBelow, AreRowsBelow, BoundsLaw, IsCovered, IsElementBelow, IsSubstBelow, IsWithin}
 use Rattle.chr_bounds.proofs.Matches.{bound_within, fits_within}
 use Rattle.chr_bounds.proofs.Terms.{apply_all_within, instance_within, instances_within, subst_more}
 use Rattle.chr_bounds.proofs.Unifiers.{IfSubst, mgu_within}
@@ -154,7 +152,7 @@ IsRowWithin i n r = (r.0 < i) × AreBelow n r.1.args
 abbrev IfFiring : ℕ → ℕ → Found → Type 0
 IfFiring i n no_occurrence = Unit {0}
 IfFiring i n no_firing = Unit {0}
-IfFiring i n (firing k r place t) = IsBounded r × IsCovered r × All (IsRowWithin i n) t × ((m : Subst) × (fits r.heads t ≡ Some m))
+IfFiring i n (firing k r place t) = IsBounded r × All (IsRowWithin i n) t × ((m : Subst) × (fits r.heads t ≡ Some m))
 
 passes_some : (r : Rule) (o : Option Subst) → passes_guard r o ≡ true → (m : Subst) × (o ≡ Some m)
 passes_some r None e = absurd (false_true e)
@@ -163,22 +161,22 @@ passes_some r None e = absurd (false_true e)
     false_true e = cc
 passes_some r (Some m) e = (m, refl)
 
-module _ (p : Program) (bounded : AreBounded p) (covered : All IsCovered p) (i n : ℕ) (rs : List Row) (h : History) (within : All (IsRowWithin i n) rs) where
-  with_within : (k : ℕ) (rule : Rule) (place j : ℕ) (a : Atom) (o : Option (List Row)) → IsBounded rule → IsCovered rule → IsRowWithin i n (j, a) → first_tuple rs h k rule place (j, a) ≡ o → IfFiring i n (found_with k rule place o)
-  with_within k rule place j a None b c q e = tt
-  with_within k rule place j a (Some t) b c q e =
+module _ (p : Program) (bounded : AreBounded p) (i n : ℕ) (rs : List Row) (h : History) (within : All (IsRowWithin i n) rs) where
+  with_within : (k : ℕ) (rule : Rule) (place j : ℕ) (a : Atom) (o : Option (List Row)) → IsBounded rule → IsRowWithin i n (j, a) → first_tuple rs h k rule place (j, a) ≡ o → IfFiring i n (found_with k rule place o)
+  with_within k rule place j a None b q e = tt
+  with_within k rule place j a (Some t) b q e =
       let w = find_so (All (IsRowWithin i n)) (can_fire h k rule) (tuples rs rule place (j, a)) t (tuples_so (IsRowWithin i n) rs (j, a) place _ [] 0 q within) e in
-      (b, c, w.1, passes_some rule (fits rule.heads t) (and_parts (passes_guard rule (fits rule.heads t)) _ w.0).0)
+      (b, w.1, passes_some rule (fits rule.heads t) (and_parts (passes_guard rule (fits rule.heads t)) _ w.0).0)
 
-  for_within : (k : ℕ) (rule : Rule) (place j : ℕ) (o : Option Atom) → IsBounded rule → IsCovered rule → atom_of rs j ≡ o → IfFiring i n (found_for rs h k rule place j o)
-  for_within k rule place j None b c e = tt
-  for_within k rule place j (Some a) b c e = with_within k rule place j a (first_tuple rs h k rule place (j, a)) b c (atom_so (IsRowWithin i n) rs j a within e) refl
+  for_within : (k : ℕ) (rule : Rule) (place j : ℕ) (o : Option Atom) → IsBounded rule → atom_of rs j ≡ o → IfFiring i n (found_for rs h k rule place j o)
+  for_within k rule place j None b e = tt
+  for_within k rule place j (Some a) b e = with_within k rule place j a (first_tuple rs h k rule place (j, a)) b (atom_so (IsRowWithin i n) rs j a within e) refl
 
   at_within : (f j l : ℕ) (o : Option Occurrence) → occurrence p f l ≡ o → IfFiring i n (found_at rs h j o)
   at_within f j l None e = tt
   at_within f j l (Some o) e =
       let at = occurrence_rule p f l o e in
-      for_within o.number o.rule o.place j (atom_of rs j) (All-got IsBounded p o.number o.rule at bounded) (All-got IsCovered p o.number o.rule at covered) refl
+      for_within o.number o.rule o.place j (atom_of rs j) (All-got IsBounded p o.number o.rule at bounded) refl
 
 store_ids : (lo n : ℕ) (rs : List Row) → Ascends lo rs n → All (λ (r : Row). r.0 < n) rs
 store_ids lo n [] h = All-nil (λ (r : Row). r.0 < n)
@@ -222,15 +220,15 @@ put_back n true e rest h k = All-cons (IsElementBelow n) e rest h k
 put_back n false e rest h k = k
 
 module _ (s : State) (rest : List Element) (i j : ℕ) (a : Atom) (within : IsWithin s) (own : AreBelow s.next_var a.args) (others : AreElementsBelow s.next_var rest) where
-  fired_within : (k : ℕ) (r : Rule) (place : ℕ) (t : List Row) → IsBounded r → IsCovered r → All (IsRowWithin s.next_id s.next_var) t → (m : Subst) → fits r.heads t ≡ Some m → IsWithin (fire_step s rest (active i j a) k r place t)
-  fired_within k r place t b c q m e =
+  fired_within : (k : ℕ) (r : Rule) (place : ℕ) (t : List Row) → IsBounded r → All (IsRowWithin s.next_id s.next_var) t → (m : Subst) → fits r.heads t ≡ Some m → IsWithin (fire_step s rest (active i j a) k r place t)
+  fired_within k r place t b q m e =
       let n = s.next_var in
       let top = n + (r.vars - r.head_vars) in
       let le : n ≤ top = omega arith in
       let args : AreRowsBelow n t = All-weaker (IsRowWithin s.next_id n) (λ (x : Row). AreBelow n x.1.args) (λ x w. w.1) t q in
       let small : IsSubstBelow n m = if_some n (fits r.heads t) m e (fits_within n r.heads t args) in
       let is : unwrap_or (fits r.heads t) [] ≡ m = ap (λ (o : Option Subst). unwrap_or o []) e in
-      let variables = λ (x : ℕ) (lt : x < r.vars). body_variable r m n x (nat_lt x r.head_vars) refl small (λ l. fits_law.variables r.heads t m e x ∙ c x l) lt in
+      let variables = λ (x : ℕ) (lt : x < r.vars). body_variable r m n x (nat_lt x r.head_vars) refl small (λ l. fits_law.variables r.heads t m e x ∙ b.covered x l) lt in
       let replaced : (x : ℕ) → x < r.vars → IsBelow top (in_body r (unwrap_or (fits r.heads t) []) n x) = λ x lt. subst (λ (w : Subst). IsBelow top (in_body r w n x)) (sym is) (variables x lt) in
       record {
         stack = All-append (IsElementBelow top) (body_of r t n) _
@@ -245,9 +243,9 @@ module _ (s : State) (rest : List Element) (i j : ℕ) (a : Atom) (within : IsWi
   found_within : (w : Found) → IfFiring s.next_id s.next_var w → IsWithin (search_step s rest i j a w)
   found_within no_occurrence h = record { stack = others; store = within.store; subst = within.subst; entries = within.entries }
   found_within no_firing h = record { stack = All-cons (IsElementBelow s.next_var) (active i (j + 1) a) rest own others; store = within.store; subst = within.subst; entries = within.entries }
-  found_within (firing k r place t) h = fired_within k r place t h.0 h.1 h.2 h.3.0 h.3.1
+  found_within (firing k r place t) h = fired_within k r place t h.0 h.1 h.2.0 h.2.1
 
-module _ (p : Program) (bounded : AreBounded p) (covered : All IsCovered p) (s : State) (sound : IsSound s) (within : IsWithin s) where
+module _ (p : Program) (bounded : AreBounded p) (s : State) (sound : IsSound s) (within : IsWithin s) where
   top_within : (es : List Element) → AreElementsBelow s.next_var es → IsWithin (step_top p s es)
   top_within [] h = within
   top_within (goal g ∷ es) h = solved_within s es g within (All-head (IsElementBelow s.next_var) (goal g) es h) (All-tail (IsElementBelow s.next_var) (goal g) es h)
@@ -259,7 +257,7 @@ module _ (p : Program) (bounded : AreBounded p) (covered : All IsCovered p) (s :
   }
   top_within (active i j a ∷ es) h =
       found_within s es i j a within (All-head (IsElementBelow s.next_var) (active i j a) es h) (All-tail (IsElementBelow s.next_var) (active i j a) es h) (search_at p s i j a)
-      (at_within p bounded covered s.next_id s.next_var (rows s) s.history (rows_within s sound within) a.sym i j (occurrence p a.sym j) refl)
+      (at_within p bounded s.next_id s.next_var (rows s) s.history (rows_within s sound within) a.sym i j (occurrence p a.sym j) refl)
 
   at_status : (w : Status) → IsWithin (step_at p s w)
   at_status running = top_within s.stack within.stack
@@ -276,4 +274,4 @@ start_within q h = record {
 }
 
 pub bounds_law : BoundsLaw
-bounds_law = record { starts = start_within; steps = λ p s b c sound h. at_status p b c s sound h s.status }
+bounds_law = record { starts = start_within; steps = λ p s b sound h. at_status p b s sound h s.status }

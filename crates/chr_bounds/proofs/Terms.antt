@@ -1,11 +1,10 @@
 -- The variables of a term with its variables replaced.
 use Rattle.std.proofs.Common.{ℕ, Bool, true, false, cond, ◌<◌, ◌≤◌, ◌==◌, [], ◌∷◌}
 use Rattle.std.proofs.lemmas.List.Elements.{All-head, All-tail, All-weaker}
-use Rattle.chr_bind.specs.Terms.{AreBelow, IsBelow}
-use Rattle.chr_bind.proofs.Bounds.{below_more}
+use Rattle.chr_semantics.specs.Bounds.{AreBelow, IsBelow, IsSubstBelow}
+use Rattle.chr_semantics.proofs.Below.{below_more}
 use Rattle.chr_semantics.specs.Subst.{Subst, apply, instance, instances, value_at}
 use Rattle.chr_semantics.specs.Tree.{Tree, var, int, node, Trees, none, more}
-use Rattle.chr_bounds.specs.Bounds.{IsSubstBelow}
 
 -- by terms with variables below m
 mutual

@@ -3,11 +3,10 @@ use Rattle.std.proofs.Common.{◌<◌, ◌==◌, ℕ, zero, suc, Bool, true, fal
 use Rattle.std.specs.Ordering.{int_eq}
 use Rattle.std.specs.Prelude.{All}
 use Rattle.std.proofs.lemmas.List.Elements.{All-append, All-cons, All-head, All-map, All-nil, All-tail, All-weaker}
-use Rattle.chr_bind.specs.Terms.{AreBelow, IsBelow}
+use Rattle.chr_semantics.specs.Bounds.{AreBelow, IsBelow, IsSubstBelow}
 use Rattle.chr_semantics.specs.Mgu.{Equations, apart, apart_all, apart_under, both, elimination, elimination_from, mgu, of_var, vars}
 use Rattle.chr_semantics.specs.Subst.{Subst, apply, occurs, value_at, with_binding}
 use Rattle.chr_semantics.specs.Tree.{Tree, var, int, node, Trees, none, more}
-use Rattle.chr_bounds.specs.Bounds.{IsSubstBelow}
 use Rattle.chr_bounds.proofs.Terms.{apply_within, value_within}
 
 -- every variable of the equation is below n

@@ -1,5 +1,5 @@
 //! The laws. Each function is empty, and its clause is the law.
-ghost use Rattle.chr_bounds.specs.Bounds.{BoundsLaw};
+ghost use Rattle.chr_semantics.specs.Bounds.{BoundsLaw};
 
 /// The start of a query is bounded, and each step keeps a state bounded.
 pub fn bounds_law()

@@ -1,9 +1,8 @@
 -- The rules of a program can be searched.
 use Rattle.std.proofs.Common.{◌≡◌, ◌<◌, ◌≤◌, ℕ, arith, length}
 use Rattle.std.proofs.lemmas.List.Elements.{All-weaker}
-use Rattle.chr_bind.proofs.Bounds.{below_more_all}
-use Rattle.chr_bind.specs.Terms.{AreBelow}
-use Rattle.chr_rules.specs.Bounds.{IsBounded, IsHeadBelow}
+use Rattle.chr_semantics.specs.Bounds.{AreBelow, IsBounded, IsHeadBelow}
+use Rattle.chr_semantics.proofs.Below.{below_more_all}
 use Rattle.chr_rules.specs.RuleView.{rule_view}
 use Rattle.chr_rules.specs.declared.rule.Rule.{Rule}
 use Rattle.chr_semantics.specs.Program.{Head}

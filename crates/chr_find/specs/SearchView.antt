@@ -2,7 +2,7 @@
 use Rattle.std.specs.Prelude.{◌≤◌, ◌<◌, ℕ, List, All, length, vec_len}
 use Rattle.chr_rules.specs.RuleView.{rule_view}
 use Rattle.chr_rules.specs.declared.rule.Rule.{Rule}
-use Rattle.chr_bind.specs.Terms.{AreBelow}
+use Rattle.chr_semantics.specs.Bounds.{AreBelow}
 use Rattle.chr_semantics.specs.Program.{Head}
 use Rattle.chr_semantics.specs.declared.limits.TheConstants.{MAX_RULE_VARIABLES}
 

@@ -1,7 +1,7 @@
 //! The search for the first tuple of a rule that can fire.
 ghost use Rattle.std.specs.Prelude.{◌≡◌, ◌∷◌};
 ghost use Rattle.chr_bind.specs.Matching.{AgreesWith};
-ghost use Rattle.chr_bind.specs.Terms.{AreBelow};
+ghost use Rattle.chr_semantics.specs.Bounds.{AreBelow};
 ghost use Rattle.chr_semantics.specs.Keys.{pattern_root};
 ghost use Rattle.chr_semantics.specs.Search.{has_number};
 ghost use Rattle.chr_semantics.specs.Subst.{Subst};

@@ -12,10 +12,11 @@ use Rattle.chr_semantics.specs.Syntax as syntax
 use Rattle.chr_semantics.specs.Syntax.{Item, Part}
 use Rattle.chr_semantics.specs.Meaning.{all_heads, fresh_scope, head_from, in_turn, rule_from, test_from}
 use Rattle.chr_semantics.specs.Checked.{Checked, RuleErrorKind, guard_variable, too_many_variables, checked, checked_query, each, error_in_query, error_in_rule, is_free, on_sides, query_from, rule_in, unless, with_rule}
-use Rattle.chr_rules.specs.Bounds.{AreBounded, IsBounded, IsQueryBounded, IsTestBelow}
+use Rattle.chr_semantics.specs.Bounds.{AreBounded, IsBounded, IsQueryBounded, IsTestBelow}
 use Rattle.chr_rules.specs.RuleView.{rule_view, rules_view}
 use Rattle.chr_rules.specs.declared.rule.Rule.{Rule}
 use Rattle.chr_rules.specs.Checks.{wrong_items, wrong_rule}
+use Rattle.chr_rules.proofs.Covered.{heads_cover}
 use Rattle.chr_rules.proofs.Counted.{goals_count, heads_count, tests_count}
 use Rattle.chr_rules.proofs.Few.{few_heads, heads_made}
 use Rattle.chr_rules.proofs.Kept.{kept_in_all, kept_in_checked}
@@ -41,6 +42,7 @@ rule_bounded names d k earlier r h =
       heads = heads.below;
       guard = subst (λ vs. All (IsTestBelow (length vs)) gs.1) same tests.below;
       body = goals.below;
+      covered = λ x lt. heads_cover (fresh_scope names) (all_heads r) x (omega arith) lt;
       ordered = omega (arith, tests.more_met, goals.more_met);
       few = at_most 64 _ (none_each all 11 (nat_lt 64 (rule_from names 0 r).1.vars, too_many_variables) h refl);
       few_heads = omega (arith, (few_heads names d earlier r h).0, heads_made (fresh_scope names, []) (all_heads r));

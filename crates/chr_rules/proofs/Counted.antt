@@ -11,9 +11,8 @@ use Rattle.chr_semantics.specs.Tokens.{Relation}
 use Rattle.chr_semantics.specs.Syntax as syntax
 use Rattle.chr_semantics.specs.Syntax.{Expr, Exprs, variable, number, call, nil, pair, operation, Item, plain, related}
 use Rattle.chr_semantics.specs.Meaning.{Scope, atom_from, call_of, count, goal_from, goal_of, head_from, head_of, in_turn, is_anonymous, is_fail, is_ground_test, is_integer_test, is_true, relation_goal, relation_test, sides_from, test_from, test_of, tree_from, trees_from, variable_in, variable_of, with_name, with_turn, with_variable}
-use Rattle.chr_bind.specs.Terms.{AreBelow, IsBelow}
-use Rattle.chr_bind.proofs.Bounds.{below_more, below_more_all}
-use Rattle.chr_rules.specs.Bounds.{IsGoalBelow, IsHeadBelow, IsTestBelow}
+use Rattle.chr_semantics.specs.Bounds.{AreBelow, IsBelow, IsGoalBelow, IsHeadBelow, IsTestBelow}
+use Rattle.chr_semantics.proofs.Below.{below_more, below_more_all}
 
 abbrev pub width : Scope → ℕ
 width s = length s.variables
@@ -30,7 +29,7 @@ met_below vs w k h = by (is_anonymous w) h
     by true e = cc
     by false e = place_below (nat_lt (position_or_len (bytes_eq w) vs) (length vs)) (position_or_len (bytes_eq w) vs) (length vs) k refl e
 
-abbrev with_met : List (List ℕ) → List ℕ → Option ℕ → List (List ℕ)
+abbrev pub with_met : List (List ℕ) → List ℕ → Option ℕ → List (List ℕ)
 with_met vs w o = if is_none o then vs ++ w ∷ [] else vs
 
 variable_below : (vs : List (List ℕ)) (w : List ℕ) → variable_in vs w < length (with_variable vs w)

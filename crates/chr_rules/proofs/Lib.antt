@@ -13,6 +13,7 @@ pub mod Placed
 pub mod Few
 pub mod Grown
 pub mod Counted
+pub mod Covered
 pub mod Unmet
 pub mod Kept
 pub mod Bounded

@@ -3,7 +3,7 @@ use Rattle.std.proofs.Common.{◌≡◌, ◌∙◌, Ok, ap}
 use Rattle.chr_semantics.specs.Program as semantics
 use Rattle.chr_semantics.specs.Syntax as syntax
 use Rattle.chr_semantics.specs.Checked.{Checked, checked_query}
-use Rattle.chr_rules.specs.Bounds.{IsQueryBounded}
+use Rattle.chr_semantics.specs.Bounds.{IsQueryBounded}
 use Rattle.chr_rules.specs.Grown.{Grows}
 use Rattle.chr_rules.specs.QueryOf.{IsQueryOf}
 use Rattle.chr_rules.proofs.Bounded.{query_bounded}

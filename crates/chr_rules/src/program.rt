@@ -3,7 +3,8 @@ ghost use Rattle.std.specs.Prelude.{◌≡◌, ◌≢◌, ◌<◌, ◌^◌, IfEr
 ghost use Rattle.chr_semantics.specs.Checked.{checked, checked_query};
 ghost use Rattle.chr_semantics.specs.Program.{occurrence, occurrences};
 ghost use Rattle.chr_read.specs.SyntaxView.{program_view, query_view as syntax_query};
-ghost use Rattle.chr_rules.specs.Bounds.{AreBounded, IsBounded, IsQueryBounded, bounds};
+ghost use Rattle.chr_semantics.specs.Bounds.{AreBounded, IsBounded, IsQueryBounded};
+ghost use Rattle.chr_rules.specs.Bounds.{bounds};
 ghost use Rattle.chr_rules.specs.Checks.{IsError};
 ghost use Rattle.chr_rules.specs.Grown.{Grows};
 ghost use Rattle.chr_rules.specs.Index.{AreListed, IsPlaceIn, head_count, pair_of, pair_view, pairs_of, pairs_view};
@@ -94,7 +95,8 @@ impl<A: Allocator> Program<A> {
 
     /// The number of its rules.
     pub fn rules(&self) -> usize
-        ensures { result ≡ length (checked_view self.now).rules }
+        ensures len { result ≡ length (checked_view self.now).rules }
+        ensures bounded { AreBounded (checked_view self.now).rules }
     {
         self.rules.len()
     }

@@ -8,6 +8,7 @@ pub mod UnifierEqual
 pub mod UnifierNone
 pub mod UnifierLaw
 pub mod SameLaw
+pub mod Below
 pub mod SolvedLaw
 pub mod Ground
 pub mod Lookups

@@ -23,6 +23,7 @@ pub mod Touch
 pub mod Tasks
 pub mod Schedule
 pub mod Footprint
+pub mod Bounds
 pub mod Examples
 pub mod Join
 pub mod Keys

@@ -1,5 +1,5 @@
 use Rattle.std.proofs.Common.{refl, subst, sym}
-use Rattle.chr_bind.specs.Terms.{AreBelow}
+use Rattle.chr_semantics.specs.Bounds.{AreBelow}
 use Rattle.chr_term.proofs.Dropped.{trees_view-drop}
 use Rattle.chr_bind.proofs.below.+below.Goals as goal
 

@@ -1,5 +1,5 @@
 use Rattle.std.proofs.Common.{arith}
-use Rattle.chr_bind.proofs.Bounds.{below_more}
+use Rattle.chr_semantics.proofs.Below.{below_more}
 use Rattle.chr_bind.proofs.Renamed.{extended_term, not_unifiable, unifiable_bound, unifiable_same}
 use Rattle.chr_bind.proofs.renaming.are_unifiable.Goals as goal
 

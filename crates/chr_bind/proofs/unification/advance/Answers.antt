@@ -2,7 +2,7 @@ use Rattle.std.proofs.Common.{IfOk, length, subst}
 use Rattle.chr_term.specs.TermView.{trees_view}
 use Rattle.chr_bind.specs.Agenda.{Differs}
 use Rattle.chr_bind.specs.Chains.{subst_of}
-use Rattle.chr_bind.specs.Terms.{AreBelow}
+use Rattle.chr_semantics.specs.Bounds.{AreBelow}
 use Rattle.chr_bind.proofs.Agenda.{first_before}
 use Rattle.chr_bind.proofs.unification.advance.Goals as goal
 

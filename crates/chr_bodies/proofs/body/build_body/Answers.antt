@@ -3,7 +3,7 @@ use Rattle.std.specs.Prelude.{All}
 use Rattle.chr_semantics.specs.Match.{fits}
 use Rattle.chr_semantics.specs.Step.{goal_instance, in_body}
 use Rattle.chr_term.proofs.Mapped.{map_pushed}
-use Rattle.chr_rules.specs.Bounds.{IsGoalBelow}
+use Rattle.chr_semantics.specs.Bounds.{IsGoalBelow}
 use Rattle.chr_rules.specs.RuleView.{goal_view, rule_view}
 use Rattle.chr_bodies.proofs.Goals.{built_elements, built_goals, goal_below}
 use Rattle.chr_bodies.proofs.body.build_body.Goals as goal

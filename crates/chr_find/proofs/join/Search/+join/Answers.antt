@@ -1,6 +1,6 @@
 use Rattle.std.proofs.Common.{◌≡◌, ◌∙◌, ◌<◌, ◌∷◌, ◌++◌, [], Bool, List, None, ap, arith, false, length, refl, subst, sym, take, true, vec_len}
 use Rattle.std.proofs.lemmas.Bool.{eq-eqb, ne_eqb}
-use Rattle.chr_bind.specs.Terms.{AreBelow}
+use Rattle.chr_semantics.specs.Bounds.{AreBelow}
 use Rattle.chr_rules.specs.RuleView.{rule_view}
 use Rattle.chr_semantics.proofs.Lists.{All-got}
 use Rattle.chr_semantics.specs.Match as semantics

@@ -1,6 +1,6 @@
 use Rattle.std.proofs.Common.{◌≡◌, [], Bool, Some, arith, false, length, refl, subst, sym, true}
 use Rattle.chr_bind.specs.Matching.{AgreesWith}
-use Rattle.chr_bind.specs.Terms.{AreBelow}
+use Rattle.chr_semantics.specs.Bounds.{AreBelow}
 use Rattle.chr_rules.specs.RuleView.{rule_view}
 use Rattle.chr_semantics.proofs.Lists.{All-got}
 use Rattle.chr_semantics.specs.Match.{fit_atom}

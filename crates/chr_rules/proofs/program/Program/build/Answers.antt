@@ -4,7 +4,7 @@ use Rattle.chr_semantics.specs.Checked.{checked, declare_in, declared_only, each
 use Rattle.chr_semantics.specs.Names.{first_names}
 use Rattle.chr_semantics.specs.Program.{occurrences}
 use Rattle.chr_read.specs.SyntaxView.{part_views}
-use Rattle.chr_rules.specs.Bounds.{IsBounded}
+use Rattle.chr_semantics.specs.Bounds.{IsBounded}
 use Rattle.chr_rules.specs.Building.{checked_of}
 use Rattle.chr_rules.specs.Checks.{IsError}
 use Rattle.chr_rules.specs.Index.{pairs_of}

@@ -1,7 +1,7 @@
 -- Variables that are below a number are below a larger one.
 use Rattle.std.proofs.Common.{ℕ, ◌≤◌, arith}
 use Rattle.chr_semantics.specs.Tree.{Tree, var, int, node, Trees, none, more}
-use Rattle.chr_bind.specs.Terms.{AreBelow, IsBelow}
+use Rattle.chr_semantics.specs.Bounds.{AreBelow, IsBelow}
 
 mutual
   pub below_more : (n m : ℕ) (t : Tree) → n ≤ m → IsBelow n t → IsBelow m t

@@ -1,0 +1,66 @@
+//! The search for partners.
+ghost use Rattle.std.specs.Prelude.{◌≡◌, All, IfOk, List, None, OnOk, Some, map};
+ghost use Rattle.chr_semantics.specs.Bounds.{IsBounded};
+ghost use Rattle.chr_semantics.specs.Match.{Row, fits};
+ghost use Rattle.chr_semantics.specs.Search.{atom_of, ids_of};
+ghost use Rattle.chr_semantics.specs.State.{goal};
+ghost use Rattle.chr_semantics.specs.Step.{body_of};
+ghost use Rattle.chr_semantics.specs.Subst.{Subst};
+ghost use Rattle.chr_rules.specs.RuleView.{goal_view, rule_view};
+ghost use Rattle.chr_find.specs.SearchView.{IsSearchable};
+
+use crate::Memory;
+use crate::base::Base;
+use chr_find::{Active, Cursor};
+use std::alloc::Allocator;
+
+impl<A: Allocator + Copy> Base<A> {
+    ghost use Rattle.chr_base.specs.BaseView.{IsFresh, base_view};
+    ghost use Rattle.chr_base.specs.Searching.{FindsFirst, FindsNext, rows_of};
+
+    /// Makes the table ready to be searched. Contracts see the same base, after a refusal too.
+    pub fn freshen(&mut self) -> Result<(), Memory>
+        ensures same { base_view self.new ≡ base_view self.old }
+        ensures fresh { OnOk result (IsFresh self.new) }
+    {
+        if self.is_stale {
+            self.refresh()?;
+            Ok(())
+        } else {
+            self.table.settle()
+        }
+    }
+
+    /// The identities of the first constraints with which the rule can fire, in head order: one for each head, and others that mean
+    /// nothing. Contracts see the same base, after a refusal too.
+    pub fn first(&mut self, active: &Active<'_, A>) -> Result<Option<[u64; 8]>, Memory>
+        requires { IsSearchable active.now.rule.now active.now.place }
+        ensures same { base_view self.new ≡ base_view self.old }
+        ensures fresh { OnOk result (IsFresh self.new) }
+        ensures found { IfOk result (FindsFirst (base_view self.old) active.now) }
+        ensures dead { atom_of (base_view self.old).store.rows active.now.id.0 ≡ None →
+            IfOk result (λ found. found ≡ None) }
+    {
+        self.freshen()?;
+        let mut tries = 0;
+        self.table.first(active, &mut tries)
+    }
+
+    /// The same where each list that can fire is ahead of the cursor: no other is looked at.
+    pub fn next(
+        &mut self,
+        active: &Active<'_, A>,
+        cursor: &Cursor,
+    ) -> Result<Option<[u64; 8]>, Memory>
+        requires { IsSearchable active.now.rule.now active.now.place }
+        ensures same { base_view self.new ≡ base_view self.old }
+        ensures fresh { OnOk result (IsFresh self.new) }
+        ensures found { IfOk result (FindsNext (base_view self.old) active.now cursor.now) }
+        ensures dead { atom_of (base_view self.old).store.rows active.now.id.0 ≡ None →
+            IfOk result (λ found. found ≡ None) }
+    {
+        self.freshen()?;
+        let mut tries = 0;
+        self.table.next(active, cursor, &mut tries)
+    }
+}
