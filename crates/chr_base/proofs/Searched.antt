@@ -1,17 +1,19 @@
 -- What a table that is fresh has of the constraints and the history of its base.
-use Rattle.std.proofs.Common.{◌≡◌, ◌∙◌, ◌==◌, ◌&&◌, ◌<◌, ℕ, Bool, true, false, cond, List, [], ◌∷◌, Option, Some, None, Result, Ok, Err, ap, length, map, refl, subst, sym, take}
-use Rattle.std.specs.Prelude.{IfOk, OnOk, is_some}
+use Rattle.std.proofs.Common.{◌≡◌, ◌∙◌, ◌==◌, ◌&&◌, ◌<◌, ℕ, Bool, true, false, cond, List, [], ◌∷◌, Option, Some, None, Result, Ok, Err, Vec, ap, length, map, refl, subst, sym, take}
+use Rattle.std.specs.Prelude.{All, IfOk, OnOk, is_some}
+use Rattle.std.proofs.lemmas.List.Elements.{All-weaker}
 use Rattle.std.specs.List.{list_all}
 use Rattle.std.specs.declared.alloc.AllocError.{AllocError}
-use Rattle.chr_semantics.specs.Cursor.{IsSpent}
-use Rattle.chr_semantics.specs.Match.{Row}
-use Rattle.chr_semantics.specs.Program.{Atom}
-use Rattle.chr_semantics.specs.Search.{History, atom_of, fired_before}
-use Rattle.chr_semantics.specs.State.{resolved_atom}
+use Rattle.chr_semantics.specs.Match.{Row, fits}
+use Rattle.chr_semantics.specs.Program.{Atom, Rule}
+use Rattle.chr_semantics.specs.Search.{atom_of, fired_before, ids_of}
+use Rattle.chr_semantics.specs.State.{goal, resolved_atom}
+use Rattle.chr_semantics.specs.Step.{body_of}
 use Rattle.chr_semantics.specs.Subst.{Subst}
-use Rattle.chr_rules.specs.RuleView.{rule_view}
+use Rattle.chr_rules.specs.RuleView.{goal_view}
+use Rattle.chr_rules.specs.declared.goal.Goal.{Goal}
+use Rattle.chr_bodies.specs.Standing.{AreStanding}
 use Rattle.chr_find.specs.Finding as table
-use Rattle.chr_find.specs.First.{IsFirst}
 use Rattle.chr_find.specs.Shown.{AllOver, Rises}
 use Rattle.chr_find.specs.TableView.{HasHistory, HasRows, atom_at, fired_at, lives}
 use Rattle.chr_find.specs.declared.active.Active.{Active}
@@ -96,3 +98,15 @@ module _ {A : Type 0} (old new : Base A) where
   -- what does not live does not stand in the table
   pub found_dead : (i : ℕ) → IsFresh new → base_view new ≡ base_view old → atom_of (base_view old).store.rows i ≡ None → atom_at new.table i ≡ None
   found_dead i fresh same dead = table_atom new fresh i ∙ ap (under new.bindings.subst) (ap (λ (m : BaseModel). atom_of m.store.rows i) same ∙ dead)
+
+module _ {A : Type 0} (b : Base A) (fresh : IsFresh b) where
+  -- rows of the base stand in its table
+  standing_in : (t : List Row) → All (λ (r : Row). atom_of (rows_of (base_view b)) r.0 ≡ Some r.1) t → AreStanding b.table t
+  standing_in t h = All-weaker (λ (r : Row). atom_of (rows_of (base_view b)) r.0 ≡ Some r.1) (λ (r : Row). atom_at b.table r.0 ≡ Some r.1) (λ r e. sym ((table_rows b fresh).same r.0) ∙ e) t h
+
+  -- the body of a rule that fires with rows of the base
+  pub built_body : (rule : Rule) (ids : List ℕ) (next : ℕ) (r : Result (Vec (Goal A) A) AllocError) → next ≡ (base_view b).next_var
+      → IfOk r (λ built. (t : List Row) → ids_of t ≡ ids → AreStanding b.table t → (m : Subst) → fits rule.heads t ≡ Some m → map (λ g. goal (goal_view g)) built.items ≡ body_of rule t next)
+      → IfOk r (λ built. (t : List Row) → ids_of t ≡ ids → All (λ (r : Row). atom_of (rows_of (base_view b)) r.0 ≡ Some r.1) t → (m : Subst) → fits rule.heads t ≡ Some m → map (λ g. goal (goal_view g)) built.items ≡ body_of rule t (base_view b).next_var)
+  built_body rule ids next (Ok built) is h = λ t same standing m fit. h t same (standing_in t standing) m fit ∙ ap (body_of rule t) is
+  built_body rule ids next (Err e) is h = tt

@@ -11,7 +11,9 @@ ghost use Rattle.chr_find.specs.SearchView.{IsSearchable};
 
 use crate::Memory;
 use crate::base::Base;
+use chr_bodies::build_fired;
 use chr_find::{Active, Cursor};
+use chr_rules::{Goal, Rule};
 use std::alloc::Allocator;
 
 impl<A: Allocator + Copy> Base<A> {
@@ -62,5 +64,19 @@ impl<A: Allocator + Copy> Base<A> {
         self.freshen()?;
         let mut tries = 0;
         self.table.next(active, cursor, &mut tries)
+    }
+
+    /// The goals of the body of a rule that fires with constraints, given in head order, whose heads fit them.
+    pub fn body(&self, rule: &Rule<A>, ids: &[u64]) -> Result<Vec<Goal<A>, A>, Memory>
+        requires fresh { IsFresh self.now }
+        requires bounded { IsBounded (rule_view rule.now) }
+        ensures { IfOk result (λ built. (t : List Row) → ids_of t ≡ ids.now →
+            All (λ r. atom_of (rows_of (base_view self.now)) r.0 ≡ Some r.1) t →
+            (m : Subst) → fits (rule_view rule.now).heads t ≡ Some m →
+            map (λ g. goal (goal_view g)) built.items
+            ≡ body_of (rule_view rule.now) t (base_view self.now).next_var) }
+    {
+        let next = self.bindings.len();
+        build_fired(self.alloc, &self.table, rule, ids, next)
     }
 }

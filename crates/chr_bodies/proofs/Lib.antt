@@ -1,3 +1,4 @@
 pub mod Variables
 pub mod TermLists
 pub mod Goals
+pub mod Matched

@@ -2,7 +2,9 @@
 #![tactic(auto)]
 
 mod body;
+mod fired;
 mod terms;
 
 pub use body::{build_body, build_goal};
 pub use chr_term::Memory;
+pub use fired::build_fired;

@@ -1,0 +1,4 @@
+pub mod State
+pub mod ScribeView
+pub mod Texts
+pub mod EndingView
