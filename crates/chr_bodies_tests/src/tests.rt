@@ -21,12 +21,7 @@ mod refusals;
 const NEXT: u64 = 10;
 
 /// A rule over p/1, q/2 and r/3, constraints, which get the identities from 1 on, those that it fires with, and the goals of its body then.
-type Case = (
-    &'static str,
-    &'static str,
-    &'static [u64],
-    &'static str,
-);
+type Case = (&'static str, &'static str, &'static [u64], &'static str);
 
 /// The goals by the definitions: a variable of the heads is replaced once, and the others are numbered from 10 on as they first appear.
 const CASES: &[Case] = &[
@@ -128,11 +123,7 @@ impl<A: Allocator + Copy> Trial<A> {
         for goal in copy_goals(alloc, query.goals.as_slice())? {
             if let Goal::Chr(sym, args) = goal {
                 id = id.saturating_add(1);
-                add(
-                    &mut table,
-                    id,
-                    Pointer::new(alloc, Row { sym, args })?,
-                )?;
+                add(&mut table, id, Pointer::new(alloc, Row { sym, args })?)?;
             }
         }
         table.settle()?;
@@ -151,10 +142,10 @@ impl<A: Allocator + Copy> Trial<A> {
             return Ok(Vec::new(alloc));
         }
         let rule = self.program.rule(0);
-        let matching = match matching_of(rule, self.query.goals.as_slice(), ids) {
-            None => return Ok(Vec::new(alloc)),
-            Some(matching) => matching,
-        };
+        let mut matching = Match::new();
+        if !is_matched(rule, self.query.goals.as_slice(), ids, &mut matching) {
+            return Ok(Vec::new(alloc));
+        }
         match call {
             Call::Goals => each_goal(alloc, rule, &matching),
             Call::Body => build_body(alloc, rule, &matching, NEXT),
@@ -182,30 +173,24 @@ impl<A: Allocator + Copy> Trial<A> {
     }
 }
 
-/// Extends the match by the terms, if they fit.
-fn fits<'t, A: Allocator + Copy>(
-    patterns: &[Term<A>],
-    terms: &'t [Term<A>],
-    matching: &mut Match<'t, A>,
-) -> bool {
-    are_below(MAX_RULE_VARIABLES as u64, patterns) && fit(patterns, terms, matching)
-}
-
-/// The match of the heads with these constraints of a query, where they fit. A constraint's identity is its place, counted from 1.
-fn matching_of<'t, A: Allocator + Copy>(
+/// Matches the heads with these constraints of a query, and says whether they fit. A constraint's identity is its place, counted from 1.
+fn is_matched<'t, A: Allocator + Copy>(
     rule: &Rule<A>,
     goals: &'t [Goal<A>],
     ids: &[u64],
-) -> Option<Match<'t, A>> {
-    let mut matching = Match::new();
+    matching: &mut Match<'t, A>,
+) -> bool {
     for (head, id) in rule.heads.iter().zip(ids) {
+        let patterns = head.1.as_slice();
         if let Some(Goal::Chr(_, args)) = goals.get(id.saturating_sub(1) as usize) {
-            if !fits(head.1.as_slice(), args.as_slice(), &mut matching) {
-                return None;
+            if !are_below(MAX_RULE_VARIABLES as u64, patterns)
+                || !fit(patterns, args.as_slice(), matching)
+            {
+                return false;
             }
         }
     }
-    Some(matching)
+    true
 }
 
 /// The goals of the body, each built alone.
