@@ -1,6 +1,11 @@
-pub mod Models
-pub mod Constraints
-pub mod Woken
-pub mod Solved
-pub mod Runs
+pub mod Rows
+pub mod Resolved
+pub mod Thin
+pub mod Stays
+pub mod Stacks
+pub mod Fits
+pub mod Simplified
 pub mod Moved
+pub mod Runs
+pub mod Heads
+pub mod Every

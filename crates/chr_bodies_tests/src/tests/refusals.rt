@@ -28,13 +28,13 @@ fn is_built<'m>(
     meter.allow(AMPLE);
     trial.table.settle()?;
     meter.allow(left);
-    let answer = trial.built(rt, meter, call, &[1, 2]);
+    let answer = trial.built(meter, call, &[1, 2]);
     assert_eq!(rt; meter.asked() > left, answer.is_err(), "{left}");
     let is_built = answer.is_ok();
     meter.allow(AMPLE);
     let goals = match answer {
         Ok(goals) => goals,
-        Err(_) => trial.built(rt, meter, call, &[1, 2])?,
+        Err(_) => trial.built(meter, call, &[1, 2])?,
     };
     trial.assert_text(rt, alloc, goals.as_slice(), GOALS)?;
     Ok(is_built)
