@@ -20,10 +20,6 @@ mod refusals;
 /// The number of the first new variable.
 const NEXT: u64 = 10;
 
-const PATHS: &str = "q(X,Y), q(Y,Z) ==> q(X,Z), p(V).";
-
-const EDGES: &str = "q(1,2), p(1), q(2,3), q(3,4), q(2,A).";
-
 /// A rule over p/1, q/2 and r/3, constraints, which get the identities from 1 on, those that it fires with, and the goals of its body then.
 type Case = (&'static str, &'static str, &'static [u64], &'static str);
 
@@ -61,9 +57,24 @@ const CASES: &[Case] = &[
         &[1, 2],
         "p(2)",
     ),
-    (PATHS, EDGES, &[1, 3], "q(1,3), p(_10)"),
-    (PATHS, EDGES, &[1, 5], "q(1,A), p(_10)"),
-    (PATHS, EDGES, &[3, 4], "q(2,4), p(_10)"),
+    (
+        "q(X,Y), q(Y,Z) ==> q(X,Z), p(V).",
+        "q(1,2), p(1), q(2,3), q(3,4), q(2,A).",
+        &[1, 3],
+        "q(1,3), p(_10)",
+    ),
+    (
+        "q(X,Y), q(Y,Z) ==> q(X,Z), p(V).",
+        "q(1,2), p(1), q(2,3), q(3,4), q(2,A).",
+        &[1, 5],
+        "q(1,A), p(_10)",
+    ),
+    (
+        "q(X,Y), q(Y,Z) ==> q(X,Z), p(V).",
+        "q(1,2), p(1), q(2,3), q(3,4), q(2,A).",
+        &[3, 4],
+        "q(2,4), p(_10)",
+    ),
 ];
 
 /// A call that builds the goals of a body.
@@ -123,20 +134,18 @@ impl<A: Allocator + Copy> Trial<A> {
         })
     }
 
-    /// The goals that a call builds, where the rule fires with these.
-    fn built(
-        &self,
-        rt: &impl Abort,
-        alloc: A,
-        call: Call,
-        ids: &[u64],
-    ) -> Result<Vec<Goal<A>, A>, Memory>
+    /// The goals that a call builds, where the rule fires with these. None where they do not fit.
+    fn built(&self, alloc: A, call: Call, ids: &[u64]) -> Result<Vec<Goal<A>, A>, Memory>
         requires { IsSettled self.now.table }
     {
-        assert!(rt; self.program.rules() > 0);
+        if self.program.rules() == 0 {
+            return Ok(Vec::new(alloc));
+        }
         let rule = self.program.rule(0);
         let mut matching = Match::new();
-        assert!(rt; is_matched(rule, self.query.goals.as_slice(), ids, &mut matching));
+        if !is_matched(rule, self.query.goals.as_slice(), ids, &mut matching) {
+            return Ok(Vec::new(alloc));
+        }
         match call {
             Call::Goals => each_goal(alloc, rule, &matching),
             Call::Body => build_body(alloc, rule, &matching, NEXT),
@@ -207,7 +216,7 @@ fn goals_of_bodies(rt: HostRuntime) -> Result<(), Fail> {
         let mut trial = Trial::of(alloc, rule, query)?;
         trial.table.settle()?;
         for call in [Call::Goals, Call::Body, Call::Fired] {
-            let goals = trial.built(&rt, alloc, call, ids)?;
+            let goals = trial.built(alloc, call, ids)?;
             trial.assert_text(&rt, alloc, goals.as_slice(), wanted)?;
         }
     }
@@ -225,12 +234,12 @@ fn rows_as_they_stand(rt: HostRuntime) -> Result<(), Fail> {
     assert!(&rt; is_below(bindings.len(), &left) && is_below(bindings.len(), &right));
     bindings.unify(&left, &right)?;
     trial.table.settle()?;
-    let goals = trial.built(&rt, alloc, Call::Fired, &[1, 2])?;
+    let goals = trial.built(alloc, Call::Fired, &[1, 2])?;
     trial.assert_text(&rt, alloc, goals.as_slice(), "p([A|2])")?;
     let rebound = trial.table.rebound(&bindings)?;
     trial.table.rebind(rebound);
     trial.table.settle()?;
-    let goals = trial.built(&rt, alloc, Call::Fired, &[1, 2])?;
+    let goals = trial.built(alloc, Call::Fired, &[1, 2])?;
     trial.assert_text(&rt, alloc, goals.as_slice(), "p([5|2])")?;
     Ok(())
 }

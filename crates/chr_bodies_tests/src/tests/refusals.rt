@@ -1,6 +1,6 @@
 //! Each growth of a call refused in turn: that the refusal is a growth's, and that the same call then builds the same goals.
 use super::*;
-use refusing_alloc::{Refusing, refused_in_turn};
+use refusing_alloc::Refusing;
 
 type Meter = Refusing<Global>;
 
@@ -17,24 +17,24 @@ const QUERY: &str = "p([A,g(B)]), q(A,f([1,2])).";
 const GOALS: &str = "r([A|_10],f([g(B)],[1,2]),_10), _10 is A+[1,2], q([1,2],[g(B)]), fail";
 
 /// Whether a call goes through with so many growths.
-fn is_built(
+fn is_built<'m>(
     rt: &impl Abort,
     alloc: Global,
-    meter: &Meter,
+    meter: &'m Meter,
+    trial: &mut Trial<&'m Meter>,
     call: Call,
     left: u64,
-) -> Result<bool, Fail> {
+) -> Result<bool, Memory> {
     meter.allow(AMPLE);
-    let mut trial = Trial::of(meter, RULE, QUERY)?;
     trial.table.settle()?;
     meter.allow(left);
-    let answer = trial.built(rt, meter, call, &[1, 2]);
+    let answer = trial.built(meter, call, &[1, 2]);
     assert_eq!(rt; meter.asked() > left, answer.is_err(), "{left}");
     let is_built = answer.is_ok();
     meter.allow(AMPLE);
     let goals = match answer {
         Ok(goals) => goals,
-        Err(_) => trial.built(rt, meter, call, &[1, 2])?,
+        Err(_) => trial.built(meter, call, &[1, 2])?,
     };
     trial.assert_text(rt, alloc, goals.as_slice(), GOALS)?;
     Ok(is_built)
@@ -43,9 +43,16 @@ fn is_built(
 /// How many growths a call asks for.
 fn growths(rt: &impl Abort, alloc: Global, call: Call) -> Result<u64, Fail> {
     let meter = Refusing::new(alloc, AMPLE);
-    let refused = refused_in_turn(MOST, |left| is_built(rt, alloc, &meter, call, left))?;
-    assert!(rt; refused > 0 && refused < MOST, "{refused}");
-    Ok(refused)
+    let mut trial = Trial::of(&meter, RULE, QUERY)?;
+    let mut left = 0u64;
+    for _ in 0..MOST {
+        if is_built(rt, alloc, &meter, &mut trial, call, left)? {
+            break;
+        }
+        left = left.saturating_add(1);
+    }
+    assert!(rt; left > 0 && left < MOST, "{left}");
+    Ok(left)
 }
 
 /// To build a body by identities takes no more memory than the body itself.
