@@ -1,0 +1,1 @@
+use Rattle.chr_run.proofs.runs.send_run.Goals as goal
