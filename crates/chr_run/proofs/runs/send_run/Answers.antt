@@ -1,1 +1,0 @@
-use Rattle.chr_run.proofs.runs.send_run.Goals as goal
