@@ -1,0 +1,32 @@
+-- What the next step asks for.
+use Rattle.std.specs.Prelude.{ℕ, Option, Some, None}
+use Rattle.chr_semantics.specs.State.{Status, running, done, failed, faulted}
+use Rattle.chr_semantics.specs.Tasks.{Task, needed_task}
+use Rattle.chr_machine.specs.Model.{Model, state_in}
+use Rattle.chr_machine.specs.declared.need.Need.{Need}
+use Rattle.chr_machine.specs.declared.need.Need.TheVariants.{Search, Plain, Ended}
+
+-- the search of a task, a step with no search, or no step
+pub data Needed : Type 0 where
+  search : Task → Needed
+  plain : Needed
+  ended : Needed
+
+abbrev pub need_view : Need → Needed
+need_view (Search t) = search (t.goal.0, t.occurrence)
+need_view Plain = plain
+need_view Ended = ended
+
+abbrev pub asked : Option Task → Needed
+asked None = plain
+asked (Some t) = search t
+
+abbrev pub need_by : Option Task → Status → Needed
+need_by t running = asked t
+need_by t done = ended
+need_by t failed = ended
+need_by t (faulted f) = ended
+
+-- what the state asks for
+abbrev pub need : Model → Needed
+need m = need_by (needed_task m.rules (state_in m)) m.status
