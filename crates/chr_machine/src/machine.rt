@@ -1,18 +1,23 @@
 //! The machine as its callers see it.
+ghost use Rattle.std.specs.Prelude.{◌≡◌, ◌≤◌, IfOk, OnErr};
+ghost use Rattle.chr_semantics.specs.Bounds.{IsQueryBounded};
 ghost use Rattle.chr_semantics.specs.declared.limits.TheConstants.{MAX_TRANSITIONS};
-ghost use Rattle.std.specs.Prelude.{◌≡◌, ◌≤◌, ◌<◌, ◌+◌, ◌-◌, ◌^◌, [], IfOk, OnErr, map, length, true};
-ghost use Rattle.chr_semantics.specs.State.{start};
-ghost use Rattle.chr_machine.specs.Fragment.{IsThin, is_thin_program, is_thin_query};
 ghost use Rattle.chr_rules.specs.ProgramView.{names_of, rules_of};
-ghost use Rattle.chr_rules.specs.RuleView.{goal_view, query_view};
-ghost use Rattle.chr_machine.specs.Slots.{next_of, rows_of};
-ghost use Rattle.chr_machine.specs.State.{fired_view, stack_view, state_of, status_view, texts};
-ghost use Rattle.chr_machine.specs.Step.{IsReady};
+ghost use Rattle.chr_rules.specs.RuleView.{query_view};
+ghost use Rattle.chr_store.specs.HistoryView.{firings_view};
+ghost use Rattle.chr_store.specs.StoreView.{store_view};
+ghost use Rattle.chr_trace.specs.State.{stack_view, status_view};
+ghost use Rattle.chr_trace.specs.Texts.{texts};
+ghost use Rattle.chr_machine.specs.Model.{model_of, state_in};
+ghost use Rattle.chr_machine.specs.Proper.{propers};
+ghost use Rattle.chr_machine.specs.Step.{IsCounted, IsProper, IsReady};
 
-use crate::state::{Elem, Execution, Fired, Status, Stepped};
-use crate::store::Store;
+use crate::state::{Execution, Stepped};
+use chr_bind::Bindings;
 use chr_rules::{Program, Query};
+use chr_store::{Fired, Store};
 use chr_term::{Memory, VarNames};
+use chr_trace::{Elem, Status};
 use std::alloc::{Allocator, Global};
 
 /// A run of a query under a program, a transition at a time, with its trace.
@@ -20,13 +25,12 @@ use std::alloc::{Allocator, Global};
 pub struct Machine<'p, A: Allocator = Global> {
     execution: Execution<'p, A>,
     ghost ready: { IsReady execution },
-    ghost small: { next_of execution.store ≤ execution.steps + 1 },
-    ghost limit: { execution.steps ≤ MAX_TRANSITIONS },
-    ghost thin: { IsThin (rules_of execution.program.now) (state_of execution) },
+    ghost counted: { IsCounted (model_of execution) },
+    ghost proper: { IsProper (rules_of execution.program.now) (state_in (model_of execution)) } by { Prim.hlevel propers },
 }
 
 impl<'p, A: Allocator + Copy> Machine<'p, A> {
-    ghost use Rattle.chr_machine.specs.MachineView.{Runs, Same, Starts, Steps, machine_view};
+    ghost use Rattle.chr_machine.specs.MachineView.{Runs, Starts, Steps, machine_view};
 
     /// The machine before the first transition of the query, which was read for this program.
     pub fn start(
@@ -34,8 +38,7 @@ impl<'p, A: Allocator + Copy> Machine<'p, A> {
         program: &'p Program<A>,
         query: Query<A>,
     ) -> Result<Machine<'p, A>, Memory>
-        requires program { is_thin_program (rules_of program.now) ≡ true }
-        requires query { is_thin_query (query_view query) ≡ true }
+        requires { IsQueryBounded (query_view query) }
         ensures { IfOk result
             (λ machine. Starts (names_of program.now) (rules_of program.now) (query_view query)
             (machine_view machine)) }
@@ -49,7 +52,7 @@ impl<'p, A: Allocator + Copy> Machine<'p, A> {
     pub fn step(&mut self) -> Result<Stepped, Memory>
         ensures ok { IfOk result
             (λ stepped. Steps stepped (machine_view self.old) (machine_view self.new)) }
-        ensures err { OnErr result (Same (machine_view self.old) (machine_view self.new)) }
+        ensures err { OnErr result (machine_view self.new ≡ machine_view self.old) }
     {
         self.execution.step()
     }
@@ -63,7 +66,7 @@ impl<'p, A: Allocator + Copy> Machine<'p, A> {
     }
 }
 
-impl<'p, A: Allocator> Machine<'p, A> {
+impl<'p, A: Allocator + Copy> Machine<'p, A> {
     ghost use Rattle.chr_machine.specs.MachineView.{machine_view};
 
     /// The number of transitions that were made.
@@ -76,30 +79,36 @@ impl<'p, A: Allocator> Machine<'p, A> {
 
     /// The goal stack, its top last.
     pub fn stack(&self) -> &[Elem<A>]
-        ensures { stack_view result.now ≡ (machine_view self.now).state.stack }
+        ensures { stack_view result.now ≡ (machine_view self.now).stack }
     {
         self.execution.stack.as_slice()
     }
 
     /// The constraints with their identities.
     pub fn store(&self) -> &Store<A>
-        ensures rows { rows_of result.now ≡ (machine_view self.now).state.store }
-        ensures next { next_of result.now ≡ (machine_view self.now).state.next_id }
-        ensures small { next_of result.now ≤ 1000001 }
+        ensures { store_view result.now ≡ (machine_view self.now).base.store }
     {
-        &self.execution.store
+        self.execution.base.store()
+    }
+
+    /// The bindings.
+    pub fn bindings(&self) -> &Bindings<A>
+        ensures subst { result.now.subst ≡ (machine_view self.now).base.subst }
+        ensures len { result.now.len ≡ (machine_view self.now).base.next_var }
+    {
+        self.execution.base.bindings()
     }
 
     /// The propagation history, in order of entry.
     pub fn history(&self) -> &[Fired<A>]
-        ensures { map fired_view result.now ≡ (machine_view self.now).state.history }
+        ensures { firings_view result.now ≡ (machine_view self.now).base.entries.list }
     {
-        self.execution.history.as_slice()
+        self.execution.base.history().list()
     }
 
     /// How the run stands.
     pub fn status(&self) -> Status
-        ensures { status_view result ≡ (machine_view self.now).state.status }
+        ensures { status_view result ≡ (machine_view self.now).status }
     {
         self.execution.status
     }
