@@ -23,7 +23,7 @@ ghost use Rattle.chr_machine.specs.Step.{IsSameBelow, Kept, Made};
 
 use crate::state::Execution;
 use crate::waking::put_elems;
-use chr_bind::{Comparison, Fault, Unified, value};
+use chr_bind::{Comparison, Fault, Unified};
 use chr_rules::{Goal, Op};
 use chr_term::{Memory, Term};
 use chr_trace::{Elem, Status};
@@ -71,12 +71,7 @@ impl<'p, A: Allocator + Copy> Execution<'p, A> {
     }
 
     /// Tells that two terms are equal, for a goal that says so.
-    fn tell(
-        &mut self,
-        goal: &Goal<A>,
-        left: &Term<A>,
-        right: &Term<A>,
-    ) -> Result<Solved, Memory>
+    fn tell(&mut self, goal: &Goal<A>, left: &Term<A>, right: &Term<A>) -> Result<Solved, Memory>
         requires few { self.old.steps < MAX_TRANSITIONS }
         requires ascends { Ascends 0 (base_view self.old.base).store.rows
             (base_view self.old.base).store.next_id }
@@ -122,12 +117,11 @@ impl<'p, A: Allocator + Copy> Execution<'p, A> {
     }
 
     /// The value of a term with the bindings applied.
-    fn value_of(&self, term: &Term<A>) -> Result<Result<i128, Fault>, Memory>
-        ensures { IfOk result (λ found. value_view found
-            ≡ value_in (apply (base_view self.now.base).subst (view term.now))) }
+    fn value_of(&self, term: &Term<A>) -> Result<i128, Fault>
+        ensures { value_view result
+            ≡ value_in (apply (base_view self.now.base).subst (view term.now)) }
     {
-        let resolved = self.base.bindings().resolve(term)?;
-        Ok(value(&resolved))
+        self.base.bindings().value(term)
     }
 
     /// `is`: the right side is evaluated, and its value told.
@@ -148,7 +142,7 @@ impl<'p, A: Allocator + Copy> Execution<'p, A> {
         ensures err { OnErr result (Kept self.old self.new) }
         ensures room { OnErr result (vec_len self.new.stack < vec_capacity self.new.stack) }
     {
-        match self.value_of(right)? {
+        match self.value_of(right) {
             Err(fault) => self.fault(goal, fault),
             Ok(number) => self.tell_number(goal, left, number),
         }
@@ -170,20 +164,15 @@ impl<'p, A: Allocator + Copy> Execution<'p, A> {
     }
 
     /// The values of both sides, the left one first.
-    fn values(
-        &self,
-        left: &Term<A>,
-        right: &Term<A>,
-    ) -> Result<Result<(i128, i128), Fault>, Memory>
-        ensures { IfOk result (AreValues (base_view self.now.base).subst (view left.now) (view right.now)) }
+    fn values(&self, left: &Term<A>, right: &Term<A>) -> Result<(i128, i128), Fault>
+        ensures { AreValues (base_view self.now.base).subst (view left.now) (view right.now) result }
     {
-        let left = match self.value_of(left)? {
-            Err(fault) => return Ok(Err(fault)),
-            Ok(number) => number,
-        };
-        match self.value_of(right)? {
-            Err(fault) => Ok(Err(fault)),
-            Ok(right) => Ok(Ok((left, right))),
+        match self.value_of(left) {
+            Err(fault) => Err(fault),
+            Ok(left) => match self.value_of(right) {
+                Err(fault) => Err(fault),
+                Ok(right) => Ok((left, right)),
+            },
         }
     }
 
@@ -204,7 +193,7 @@ impl<'p, A: Allocator + Copy> Execution<'p, A> {
         ensures err { OnErr result (Kept self.old self.new) }
         ensures room { OnErr result (vec_len self.new.stack < vec_capacity self.new.stack) }
     {
-        match self.values(left, right)? {
+        match self.values(left, right) {
             Err(fault) => self.fault(goal, fault),
             Ok((left, right)) => {
                 if comparison.holds(left, right) {

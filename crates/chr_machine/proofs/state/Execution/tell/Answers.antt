@@ -27,10 +27,12 @@ returns-in-Same-clause-ok g c =
     let at = λ (b : BaseModel) (base : base_view c.wake.new.self.base ≡ b).
     after_woken old c.prepare.new.self c.wake.new.self w c.in_ok-waking.waking.elems.items c.in_ok-waking.waking.line.items b kept c.in_ok-waking.ensures.elems c.wake.ensures.stack c.wake.ensures.status base c.wake.ensures.lines c.in_ok-waking.ensures.line c.wake.ensures.steps c.wake.ensures.program c.wake.ensures.var_names
     in
-    let told = subst (λ (b : BaseModel). IsTold t u ids c.in_ok-tell.field-0 b after) kept.base c.in_ok-tell.ensures.told in
-    (elim c.in-Same.is [
-      | inl e ↦ (let is = subst (λ (v : Unified). IsTold t u ids v (base_view old.base) after) e told in told_same (model_of old) (model_of c.wake.new.self) w t u is.0 (at (base_view old.base) (ap base_view c.wake.ensures.base ∙ is.1)))
-      | inr e ↦ (let is = subst (λ (v : Unified). IsTold t u ids v (base_view old.base) after) e told in
-        told_bound (model_of old) (model_of c.wake.new.self) w t u after.subst is.0 is.1
-        (at _ (ap base_view c.wake.ensures.base ∙ (is.2 ∙ ap (λ (is : List ℕ). record (base_view old.base) { store = rebound (base_view old.base).store is; subst = after.subst }) ids_are))))
-    ], c.wake.ensures.ready)
+    let told = subst (λ (b : BaseModel). IsTold t u ids c.in_ok-tell.field-0 b after) kept.base c.in_ok-tell.ensures.told in (
+      elim c.in-Same.is [
+        | inl e ↦ (let is = subst (λ (v : Unified). IsTold t u ids v (base_view old.base) after) e told in told_same (model_of old) (model_of c.wake.new.self) w t u is.0 (at (base_view old.base) (ap base_view c.wake.ensures.base ∙ is.1)))
+        | inr e ↦ (let is = subst (λ (v : Unified). IsTold t u ids v (base_view old.base) after) e told in
+            told_bound (model_of old) (model_of c.wake.new.self) w t u after.subst is.0 is.1
+            (at _ (ap base_view c.wake.ensures.base ∙ (is.2 ∙ ap (λ (is : List ℕ). record (base_view old.base) { store = rebound (base_view old.base).store is; subst = after.subst }) ids_are))))
+      ],
+      c.wake.ensures.ready,
+    )
