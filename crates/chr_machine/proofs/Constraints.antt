@@ -1,16 +1,16 @@
 -- The transitions of constraints.
-use Rattle.std.proofs.Common.{◌≡◌, ◌∙◌, ◌+◌, ◌≤◌, ◌++◌, ◌∷◌, [], ℕ, List, ap, arith, refl, subst, sym}
+use Rattle.std.proofs.Common.{◌≡◌, ◌+◌, ◌++◌, ◌∷◌, [], ℕ, List, ap, arith, refl, subst, sym}
 use Rattle.chr_semantics.specs.Calls.{found_calls, found_entry}
 use Rattle.chr_semantics.specs.Changes.{added}
 use Rattle.chr_semantics.specs.Program.{Atom, constraint}
 use Rattle.chr_semantics.specs.Search.{Found, no_firing, no_occurrence}
 use Rattle.chr_semantics.specs.State.{Element, Status, active, goal, known, resolved_atom, running, status_at}
 use Rattle.chr_semantics.specs.Step.{search_at, search_step}
-use Rattle.chr_semantics.specs.Text.{line_text, line_texts}
+use Rattle.chr_semantics.specs.Text.{line_text}
 use Rattle.chr_semantics.specs.Trace.{Line, activates, defaults, drops, reactivates, search_line}
 use Rattle.chr_base.specs.BaseView.{BaseModel}
 use Rattle.chr_machine.specs.Model.{Model, state_in, topped}
-use Rattle.chr_machine.specs.Step.{Counts, IsAfter, Makes}
+use Rattle.chr_machine.specs.Step.{IsAfter, Makes}
 
 -- the model that a transition leads to
 abbrev pub later : Model → List Element → Status → BaseModel → List ℕ → Model

@@ -1,15 +1,14 @@
 -- A firing as a transition.
-use Rattle.std.proofs.Common.{◌≡◌, ◌==◌, ◌∙◌, ◌+◌, ◌-◌, ◌≤◌, ◌++◌, ◌∷◌, [], ℕ, Bool, false, cond, nat_lt, List, Option, Some, None, ap, arith, drop, length, length-drop, map, refl, subst, sym}
+use Rattle.std.proofs.Common.{◌≡◌, ◌==◌, ◌∙◌, ◌+◌, ◌≤◌, ◌++◌, ◌∷◌, [], ℕ, Bool, false, cond, nat_lt, List, Option, Some, None, ap, arith, drop, length, length-drop, map, refl, subst, sym}
 use Rattle.std.specs.List.{fold}
 use Rattle.chr_semantics.specs.Calls.{found_calls, found_entry, status_calls, store_calls}
 use Rattle.chr_semantics.specs.Changes.{Entries, Store, entered, removed, removed_as}
 use Rattle.chr_semantics.specs.Footprint.{IsSound}
 use Rattle.chr_semantics.specs.Match.{Row}
 use Rattle.chr_semantics.specs.Program.{Atom, Rule}
-use Rattle.chr_semantics.specs.Search.{Found, History, atom_of, fired_before, firing, ids_of}
+use Rattle.chr_semantics.specs.Search.{Found, atom_of, fired_before, firing, ids_of}
 use Rattle.chr_semantics.specs.State.{Element, State, Status, active, goal, resolved_atom, running, status_at}
 use Rattle.chr_semantics.specs.Step.{body_of, fire_step, search_at, search_step, step, step_at}
-use Rattle.chr_semantics.specs.Text.{line_text}
 use Rattle.chr_semantics.specs.Trace.{Line, propagates, search_line, simplifies}
 use Rattle.chr_semantics.proofs.CallsLaw.{calls_law}
 use Rattle.chr_rules.specs.ProgramView.{names_of, rules_of}
@@ -18,12 +17,13 @@ use Rattle.chr_rules.specs.declared.goal.Goal.{Goal}
 use Rattle.chr_find.specs.declared.active.Active.{Active}
 use Rattle.chr_trace.specs.State.{stack_view, status_view}
 use Rattle.chr_trace.specs.Texts.{texts}
-use Rattle.chr_base.specs.BaseView.{BaseModel, base_view}
+use Rattle.chr_base.specs.BaseView.{BaseModel}
+use Rattle.chr_resume.specs.ResumingView.{base_in}
 use Rattle.chr_machine.specs.Firing.{FiresBelow, IsFiring, fired_base}
 use Rattle.chr_machine.specs.Model.{Model, model_of, state_in, topped}
-use Rattle.chr_machine.specs.Step.{Counts, IsAfter, IsSameBelow, Makes}
+use Rattle.chr_machine.specs.Step.{IsAfter, IsSameBelow, Makes}
 use Rattle.chr_machine.specs.declared.state.Execution.{Execution}
-use Rattle.chr_machine.proofs.Constraints.{after_later, later, line_in}
+use Rattle.chr_machine.proofs.Constraints.{after_later, line_in}
 
 -- removals give no identity, and each counts once at most
 removed_counts : (m : Store) (i : ℕ) (o : Option Atom) → ((removed_as m i o).next_id ≡ m.next_id) × ((removed_as m i o).changes ≤ m.changes + 1)
@@ -101,12 +101,12 @@ module _ {A : Type 0} (old mid new : Execution A) (s : Active A) (number : ℕ) 
       record {
         stack = is;
         status = status ∙ ap status_at is;
-        base = ap base_view same.base ∙ (b.base ∙ ap (fired_base m.base s.number rule) (sym f.ids_are));
+        base = ap base_in same.base ∙ (b.base ∙ ap (fired_base m.base s.number rule) (sym f.ids_are));
         lines = ap (λ v. texts v.items) same.lines ∙ (b.lines ∙ ap (λ (is : List ℕ). m.lines ++ line_in m (firing_line s.id.0 number (resolved_atom m.base.subst a) rule s.place is) ∷ []) (sym f.ids_are));
         steps = same.steps ∙ b.steps;
         same = record {
-          names = ap (λ p. names_of p.now) (same.program ∙ b.program);
-          rules = ap (λ p. rules_of p.now) (same.program ∙ b.program);
+          names = ap names_of (same.program ∙ b.program);
+          rules = ap rules_of (same.program ∙ b.program);
           var_names = same.var_names ∙ b.var_names;
         };
       }

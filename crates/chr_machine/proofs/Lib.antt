@@ -2,8 +2,11 @@ pub mod Models
 pub mod Constraints
 pub mod Woken
 pub mod Solved
-pub mod Found
+pub mod Searched
 pub mod Firings
 pub mod Runs
 pub mod Moved
+pub mod Gathered
+pub mod Tops
+pub mod Answered
 pub mod Starts

@@ -15,8 +15,8 @@ module _ {A : Type 0} where
   pub kept_model : (old new : Execution A) → Kept old new → model_of new ≡ model_of old
   kept_model old new h =
       λ k. record {
-        names = names_of (h.program k).now;
-        rules = rules_of (h.program k).now;
+        names = names_of (h.program k);
+        rules = rules_of (h.program k);
         var_names = h.var_names k;
         stack = stack_view (h.stack k);
         status = status_view (h.status k);

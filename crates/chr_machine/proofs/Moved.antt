@@ -1,9 +1,7 @@
 -- A transition as a step of the run.
-use Rattle.std.proofs.Common.{◌≡◌, ◌∙◌, ◌<◌, ◌≤◌, ◌+◌, ◌++◌, ap, arith, refl, subst, sym}
+use Rattle.std.proofs.Common.{◌≡◌, ◌∙◌, ◌<◌, ◌+◌, ◌++◌, ap, arith, subst, sym}
 use Rattle.chr_semantics.proofs.Soundness.{sound_step}
-use Rattle.chr_semantics.specs.Bounds.{AreBounded, IsWithin}
 use Rattle.chr_semantics.specs.Calls.{status_calls, status_entry}
-use Rattle.chr_semantics.specs.Footprint.{IsSound}
 use Rattle.chr_semantics.specs.Program.{Program}
 use Rattle.chr_semantics.specs.State.{State, Status, running}
 use Rattle.chr_semantics.specs.Step.{step, step_at}

@@ -1,5 +1,5 @@
 -- Runs, a transition at a time.
-use Rattle.std.proofs.Common.{◌≡◌, ◌≢◌, ◌<◌, ◌≤◌, ◌∙◌, ◌-◌, Ok, Err, ℕ, zero, suc, ◌+◌, false, ◌++◌, [], List, ap, sym, refl, subst, arith, add-one, append_assoc, append-nil, add-zero}
+use Rattle.std.proofs.Common.{◌≡◌, ◌≢◌, ◌<◌, ◌≤◌, ◌∙◌, ◌-◌, Ok, Err, ℕ, zero, suc, ◌+◌, false, ◌++◌, List, ap, sym, refl, subst, arith, add-one, append_assoc, append-nil, add-zero}
 use Rattle.chr_semantics.specs.Names.{Names, VarNames}
 use Rattle.chr_semantics.specs.Program.{Program}
 use Rattle.chr_semantics.specs.State.{State, Status, running, done, failed, faulted}

@@ -17,12 +17,13 @@ use Rattle.chr_trace.specs.State.{elem_view, stack_view, status_view}
 use Rattle.chr_trace.specs.Texts.{texts}
 use Rattle.chr_trace.specs.declared.state.Elem.{Elem}
 use Rattle.chr_trace.specs.declared.state.Status as declared
-use Rattle.chr_base.specs.BaseView.{BaseModel, base_view}
+use Rattle.chr_base.specs.BaseView.{BaseModel}
+use Rattle.chr_resume.specs.ResumingView.{base_in, program_in}
 use Rattle.chr_machine.specs.Model.{Model, model_of, state_in, topped}
 use Rattle.chr_machine.specs.Solving.{IsBuiltIn, Logged, Reaches, line_of, shown, with_goal}
 use Rattle.chr_machine.specs.Step.{Counts, IsAfter, IsSameBelow, Kept, Makes, SameRun}
 use Rattle.chr_machine.specs.declared.state.Execution.{Execution}
-use Rattle.chr_machine.proofs.Constraints.{after_later, later}
+use Rattle.chr_machine.proofs.Constraints.{after_later}
 
 -- a line after nothing that shows has changed
 pub logged_after : {A : Type 0} (line : List ℕ) (old mid new : Execution A) → Kept old mid → Logged line mid new → Logged line old new
@@ -39,8 +40,8 @@ logged_after line old mid new k l = record {
 
 module _ {A : Type 0} (old mid new : Execution A) (g : Goal) (elems : List (Elem A)) (line : List ℕ) (b : BaseModel) (kept : Kept old mid) (woke : map elem_view elems ≡ woken_elements (state_in (model_of old))) where
   -- constraints wake, after nothing else that shows has changed but what is below the stack
-  pub after_woken : stack_view new.stack.items ≡ map elem_view elems ++ stack_view mid.stack.items → status_view new.status ≡ status_at (map elem_view elems ++ stack_view mid.stack.items) → base_view new.base ≡ b
-      → texts new.lines.items ≡ texts mid.lines.items ++ line ∷ [] → line ≡ line_text (model_of old).names (model_of old).var_names (old.steps + 1) (solves (shown (model_of old) g)) → new.steps ≡ mid.steps + 1 → new.program ≡ mid.program → new.var_names ≡ mid.var_names
+  pub after_woken : stack_view new.stack.items ≡ map elem_view elems ++ stack_view mid.stack.items → status_view new.status ≡ status_at (map elem_view elems ++ stack_view mid.stack.items) → base_in new.base ≡ b
+      → texts new.lines.items ≡ texts mid.lines.items ++ line ∷ [] → line ≡ line_text (model_of old).names (model_of old).var_names (old.steps + 1) (solves (shown (model_of old) g)) → new.steps ≡ mid.steps + 1 → program_in new.base ≡ program_in mid.base → new.var_names ≡ mid.var_names
       → (let es = woken_elements (with_goal g (model_of old)) ++ (model_of old).stack in
       IsAfter (model_of old) (model_of new) es (status_at es) b (line_text (model_of old).names (model_of old).var_names (old.steps + 1) (solves (shown (model_of old) g))))
   after_woken stack status base lines line_is steps program vars =
@@ -52,8 +53,8 @@ module _ {A : Type 0} (old mid new : Execution A) (g : Goal) (elems : List (Elem
         lines = lines ∙ (ap (λ ls. texts ls ++ line ∷ []) kept.lines ∙ ap (λ (l : List ℕ). texts old.lines.items ++ l ∷ []) line_is);
         steps = steps ∙ ap (λ (n : ℕ). n + 1) kept.steps;
         same = record {
-          names = ap (λ p. names_of p.now) (program ∙ kept.program);
-          rules = ap (λ p. rules_of p.now) (program ∙ kept.program);
+          names = ap names_of (program ∙ kept.program);
+          rules = ap rules_of (program ∙ kept.program);
           var_names = vars ∙ kept.var_names;
         };
       }
@@ -193,12 +194,12 @@ pub stopped_after : {A : Type 0} (old mid new : Execution A) (g : Goal) (w : dec
 stopped_after old mid new g w line l stack status below = record {
   stack = stack ∙ ap (λ es. goal g ∷ stack_view es) l.stack;
   status = ap status_view status;
-  base = ap base_view below.base ∙ l.base;
+  base = ap base_in below.base ∙ l.base;
   lines = ap (λ v. texts v.items) below.lines ∙ l.lines;
   steps = below.steps ∙ l.steps;
   same = record {
-    names = ap (λ p. names_of p.now) (below.program ∙ l.program);
-    rules = ap (λ p. rules_of p.now) (below.program ∙ l.program);
+    names = ap names_of (below.program ∙ l.program);
+    rules = ap rules_of (below.program ∙ l.program);
     var_names = below.var_names ∙ l.var_names;
   };
 }

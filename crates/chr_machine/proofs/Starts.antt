@@ -1,12 +1,12 @@
 -- The state of a query before its first transition.
-use Rattle.std.proofs.Common.{◌≡◌, ◌∙◌, ◌++◌, [], ℕ, List, ap, append-nil, length, map, subst, sym}
+use Rattle.std.proofs.Common.{◌≡◌, ◌∙◌, ◌++◌, [], List, ap, append-nil, length, map, subst, sym}
 use Rattle.std.proofs.lemmas.Simd.{map-map}
 use Rattle.chr_semantics.specs.Bounds.{AreBounded, IsQueryBounded}
 use Rattle.chr_semantics.specs.Changes.{Entries, Store, empty_store, no_entries}
 use Rattle.chr_semantics.specs.Names.{Names, VarNames}
 use Rattle.chr_semantics.specs.Program as semantics
 use Rattle.chr_semantics.specs.Program.{Program, Query}
-use Rattle.chr_semantics.specs.State.{Element, State, goal, start, status_at}
+use Rattle.chr_semantics.specs.State.{State, goal, status_at}
 use Rattle.chr_semantics.proofs.Soundness.{sound_start}
 use Rattle.chr_bounds.proofs.Steps.{bounds_law}
 use Rattle.chr_rules.specs.RuleView.{goal_view}

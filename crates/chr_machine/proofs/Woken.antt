@@ -1,11 +1,10 @@
 -- The elements of constraints that wake.
-use Rattle.std.proofs.Common.{◌≡◌, ◌∙◌, ◌+◌, ◌≤◌, ◌<◌, ◌==◌, ◌++◌, ℕ, zero, suc, Bool, true, false, cond, not, List, [], ◌∷◌, Option, Some, None, ap, arith, length, map, refl, subst, sym, take}
-use Rattle.std.specs.Prelude.{All, filter, flat_map, get_or}
+use Rattle.std.proofs.Common.{◌≡◌, ◌∙◌, ◌+◌, ◌≤◌, ◌<◌, ◌++◌, ℕ, Bool, true, false, cond, List, [], ◌∷◌, Some, ap, arith, map, refl}
+use Rattle.std.specs.Prelude.{All, filter, flat_map}
 use Rattle.std.proofs.lemmas.Bool.{eq-eqb, ne_eqb}
 use Rattle.std.proofs.lemmas.List.Elements.{All-cons, All-head, All-nil, All-tail}
 use Rattle.chr_semantics.specs.Footprint.{Ascends}
 use Rattle.chr_semantics.specs.Match.{Row}
-use Rattle.chr_semantics.specs.Program.{Atom}
 use Rattle.chr_semantics.specs.Search.{atom_of, ids_of}
 use Rattle.chr_semantics.specs.State.{Element, known}
 use Rattle.chr_store.specs.Numbers.{numbers}

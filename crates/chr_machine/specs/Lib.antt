@@ -4,4 +4,7 @@ pub mod Proper
 pub mod Waking
 pub mod Solving
 pub mod Firing
+pub mod NeedView
+pub mod Answering
+pub mod Gathering
 pub mod MachineView

@@ -1,5 +1,5 @@
 -- What a Solve does.
-use Rattle.std.specs.Prelude.{◌≡◌, ◌⊎◌, ℕ, ℤ, ◌<◌, ◌+◌, ◌++◌, List, [], ◌∷◌, Option, Result, Ok, Err, vec_capacity, vec_len}
+use Rattle.std.specs.Prelude.{◌≡◌, ◌⊎◌, ℕ, ℤ, ◌<◌, ◌+◌, ◌++◌, List, [], ◌∷◌, Result, Ok, Err, vec_capacity, vec_len}
 use Rattle.chr_semantics.specs.Calls.{bind_calls}
 use Rattle.chr_semantics.specs.Mgu.{mgu}
 use Rattle.chr_semantics.specs.Program.{Comparison, Goal, constraint, tell, evaluate, compare, fail}
@@ -7,14 +7,14 @@ use Rattle.chr_semantics.specs.State.{State, goal, with_stack}
 use Rattle.chr_semantics.specs.Step.{bind_step, compare_step, evaluate_step, goal_instance, solve, with_status, woken_elements}
 use Rattle.chr_semantics.specs.Subst.{Subst, apply, value_at}
 use Rattle.chr_semantics.specs.Text.{line_text}
-use Rattle.chr_semantics.specs.Trace.{Line, solve_line}
+use Rattle.chr_semantics.specs.Trace.{solve_line}
 use Rattle.chr_semantics.specs.Tree.{Tree}
 use Rattle.chr_semantics.specs.Value.{value}
 use Rattle.chr_bind.specs.Values.{fault_view}
 use Rattle.chr_bind.specs.declared.fault.Fault.{Fault}
 use Rattle.chr_trace.specs.State.{status_view}
 use Rattle.chr_trace.specs.Texts.{texts}
-use Rattle.chr_base.specs.BaseView.{base_view}
+use Rattle.chr_resume.specs.ResumingView.{base_in, program_in}
 use Rattle.chr_machine.specs.Model.{Model, model_of, state_in, topped}
 use Rattle.chr_machine.specs.Step.{Counts, IsReady, SameRun}
 use Rattle.chr_machine.specs.declared.solving.Solved.{Solved}
@@ -26,10 +26,10 @@ pub record Logged {A : Type 0} (line : List ℕ) (old new : Execution A) : Type 
   pub stack : new.stack.items ≡ old.stack.items
   pub room : vec_len old.stack < vec_capacity old.stack → vec_len new.stack < vec_capacity new.stack
   pub status : new.status ≡ old.status
-  pub base : base_view new.base ≡ base_view old.base
+  pub base : base_in new.base ≡ base_in old.base
   pub lines : texts new.lines.items ≡ texts old.lines.items ++ line ∷ []
   pub steps : new.steps ≡ old.steps + 1
-  pub program : new.program ≡ old.program
+  pub program : program_in new.base ≡ program_in old.base
   pub var_names : new.var_names ≡ old.var_names
 
 -- a goal with the bindings applied

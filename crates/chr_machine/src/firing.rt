@@ -1,18 +1,23 @@
 //! The search and the firing of an active constraint.
 ghost use Rattle.chr_semantics.specs.declared.limits.TheConstants.{MAX_CHANGES, MAX_TRANSITIONS};
-ghost use Rattle.std.specs.Prelude.{◌≡◌, ◌<◌, ◌≤◌, ◌+◌, ◌++◌, ◌∷◌, IfErr, IfOk, OnErr, OnOk, cond, map, vec_capacity, vec_len};
+ghost use Rattle.std.specs.Prelude.{◌≡◌, ◌<◌, ◌≤◌, ◌+◌, ◌++◌, ◌∷◌, ◌^◌, IfErr, IfOk, OnErr, OnOk, Some, cond, map, option_map, slice_get, vec_capacity, vec_len};
+ghost use Rattle.chr_semantics.specs.Footprint.{Ascends};
 ghost use Rattle.chr_semantics.specs.State.{active as at_occurrence, goal, running, status_at};
 ghost use Rattle.chr_rules.specs.ProgramView.{rules_of};
-ghost use Rattle.chr_rules.specs.RuleView.{goal_view};
+ghost use Rattle.chr_rules.specs.RuleView.{goal_view, rule_view};
+ghost use Rattle.chr_find.specs.SearchView.{IsSearchable};
 ghost use Rattle.chr_term.specs.TermView.{atom_view};
 ghost use Rattle.chr_trace.specs.State.{elem_view, stack_view, status_view};
-ghost use Rattle.chr_base.specs.BaseView.{IsFresh, base_view};
-ghost use Rattle.chr_machine.specs.Firing.{FiresBelow, IsFiring};
+ghost use Rattle.chr_resume.specs.ResumingView.{IsFresh, base_in, program_in};
+ghost use Rattle.chr_machine.specs.Firing.{ComesTo, FindsIds, FiresBelow, IsAt, IsFiring};
 ghost use Rattle.chr_machine.specs.Model.{model_of, state_in, topped};
+ghost use Rattle.chr_machine.specs.Answering.{AnswersStep};
 ghost use Rattle.chr_machine.specs.Step.{IsProper, IsReady, IsSameBelow, Kept, Made};
 
+use crate::answer::Answer;
 use crate::state::Execution;
 use chr_find::Active;
+use chr_resume::Resuming;
 use chr_rules::{Goal, Occurrence, Rule};
 use chr_store::Id;
 use chr_term::{Memory, Sym, Term};
@@ -30,6 +35,32 @@ pub fn put_goals<A: Allocator>(stack: &mut Vec<Elem<A>, A>, mut goals: Vec<Goal<
     }
 }
 
+/// The identities with which the rule can fire first, in head order, in a list whose room is made before the search. Contracts see the same
+/// base, after a refusal too.
+fn search<A: Allocator + Copy>(
+    alloc: A,
+    base: &mut Resuming<'_, A>,
+    active: &Active<'_, A>,
+) -> Result<Option<Vec<u64, A>>, Memory>
+    requires searchable { IsSearchable active.now.rule.now active.now.place }
+    requires of_program { slice_get (rules_of (program_in base.old)) active.now.number
+        ≡ Some (rule_view active.now.rule.now) }
+    ensures same { base_in base.new ≡ base_in base.old }
+    ensures program { program_in base.new ≡ program_in base.old }
+    ensures found { IfOk result
+        (λ found. FindsIds (base_in base.old) active.now (option_map (λ ids. ids.items) found)) }
+{
+    let heads = active.rule.heads.len();
+    let mut ids = Vec::with_capacity(alloc, heads)?;
+    match base.first(active)? {
+        None => Ok(None),
+        Some(found) => {
+            ids.extend_from_slice(&found[..heads])?;
+            Ok(Some(ids))
+        }
+    }
+}
+
 impl<'p, A: Allocator + Copy> Execution<'p, A> {
     /// The line of a firing, and what it changes below the stack, with room on the stack for the goals of the body and one element more.
     fn fire_below(
@@ -42,8 +73,10 @@ impl<'p, A: Allocator + Copy> Execution<'p, A> {
     ) -> Result<Vec<Goal<A>, A>, Memory>
         requires few { self.old.steps < MAX_TRANSITIONS }
         requires room { vec_len self.old.stack < vec_capacity self.old.stack }
-        requires changes { (base_view self.old.base).store.changes + 8 ≤ MAX_CHANGES }
+        requires changes { (base_in self.old.base).store.changes + 8 ≤ MAX_CHANGES }
         requires fresh { IsFresh self.old.base }
+        requires ascends { Ascends 0 (base_in self.old.base).store.rows
+            (base_in self.old.base).store.next_id }
         requires fires { IsFiring (model_of self.old) active.now number (atom_view sym args.now) ids.now }
         ensures ok { IfOk result (λ goals. FiresBelow self.old active.now number (atom_view sym args.now)
             ids.now self.new goals.items) }
@@ -68,8 +101,7 @@ impl<'p, A: Allocator + Copy> Execution<'p, A> {
         self.lines.reserve(1)?;
         self.stack.reserve(goals.len() + 1)?;
         let variables = rule.vars - rule.head_vars();
-        self.base
-            .fire(active.number as usize, ids, rule.kept, variables)?;
+        self.base.fire(active, ids, variables)?;
         self.log(line);
         Ok(goals)
     }
@@ -114,9 +146,9 @@ impl<'p, A: Allocator + Copy> Execution<'p, A> {
     ) -> Result<(), Elem<A>>
         requires few { self.old.steps < MAX_TRANSITIONS }
         requires room { vec_len self.old.stack < vec_capacity self.old.stack }
-        requires changes { (base_view self.old.base).store.changes + 8 ≤ MAX_CHANGES }
+        requires changes { (base_in self.old.base).store.changes + 8 ≤ MAX_CHANGES }
         requires fresh { IsFresh self.old.base }
-        requires proper { IsProper (rules_of self.old.program.now)
+        requires proper { IsProper (rules_of (program_in self.old.base))
             (state_in (topped (at_occurrence active.now.id.0 number (atom_view sym args.items)) (model_of self.old))) }
         requires running { status_view self.old.status ≡ running }
         requires fires { IsFiring (model_of self.old) active.now number (atom_view sym args.items) ids.now }
@@ -137,20 +169,89 @@ impl<'p, A: Allocator + Copy> Execution<'p, A> {
         }
     }
 
-    /// The transition of an active constraint: Drop, Default, Simplify or Propagate.
+    /// What the answer of a search leads to: Default, or the rule fires with these constraints.
+    fn go_on(
+        &mut self,
+        active: &Active<'_, A>,
+        number: u32,
+        sym: Sym,
+        args: Vec<Term<A>, A>,
+        ids: Option<&[u64]>,
+    ) -> Result<(), Elem<A>>
+        requires few { self.old.steps < MAX_TRANSITIONS }
+        requires room { vec_len self.old.stack < vec_capacity self.old.stack }
+        requires changes { (base_in self.old.base).store.changes + 8 ≤ MAX_CHANGES }
+        requires small { number < 2 ^ 31 }
+        requires running { status_view self.old.status ≡ running }
+        requires proper { IsProper (rules_of (program_in self.old.base))
+            (state_in (topped (at_occurrence active.now.id.0 number (atom_view sym args.items)) (model_of self.old))) }
+        requires comes { ComesTo (model_of self.old) active.now number (atom_view sym args.items)
+            (option_map (λ list. list.now) ids) }
+        ensures ok { OnOk result
+            (Made (at_occurrence active.now.id.0 number (atom_view sym args.items)) self.old self.new) }
+        ensures err { IfErr result
+            (λ top. elem_view top ≡ at_occurrence active.now.id.0 number (atom_view sym args.items)) }
+        ensures kept { OnErr result (Kept self.old self.new) }
+        ensures room { OnErr result (vec_len self.new.stack < vec_capacity self.new.stack) }
+    {
+        match ids {
+            None => self.default_active(active.id, number, sym, args),
+            Some(ids) => match self.base.freshen() {
+                Err(_) => Err(Elem::Active(active.id, number, sym, args)),
+                Ok(()) => self.fire(active, number, sym, args, ids),
+            },
+        }
+    }
+
+    /// The transition of an active constraint that lives, at an occurrence that is there, by a search of its own.
+    fn step_own(
+        &mut self,
+        active: &Active<'_, A>,
+        number: u32,
+        sym: Sym,
+        args: Vec<Term<A>, A>,
+    ) -> Result<(), Elem<A>>
+        requires few { self.old.steps < MAX_TRANSITIONS }
+        requires room { vec_len self.old.stack < vec_capacity self.old.stack }
+        requires changes { (base_in self.old.base).store.changes + 8 ≤ MAX_CHANGES }
+        requires small { number < 2 ^ 31 }
+        requires running { status_view self.old.status ≡ running }
+        requires proper { IsProper (rules_of (program_in self.old.base))
+            (state_in (topped (at_occurrence active.now.id.0 number (atom_view sym args.items)) (model_of self.old))) }
+        requires searchable { IsSearchable active.now.rule.now active.now.place }
+        requires at { IsAt (model_of self.old) active.now number (atom_view sym args.items) }
+        ensures ok { OnOk result
+            (Made (at_occurrence active.now.id.0 number (atom_view sym args.items)) self.old self.new) }
+        ensures err { IfErr result
+            (λ top. elem_view top ≡ at_occurrence active.now.id.0 number (atom_view sym args.items)) }
+        ensures kept { OnErr result (Kept self.old self.new) }
+        ensures room { OnErr result (vec_len self.new.stack < vec_capacity self.new.stack) }
+    {
+        match search(self.alloc, &mut self.base, active) {
+            Err(_) => Err(Elem::Active(active.id, number, sym, args)),
+            Ok(None) => self.go_on(active, number, sym, args, None),
+            Ok(Some(ids)) => self.go_on(active, number, sym, args, Some(ids.as_slice())),
+        }
+    }
+
+    /// The transition of an active constraint: Drop, Default, Simplify or Propagate. Where it needs a search, it makes one, unless the answer is
+    /// known.
     pub fn step_active(
         &mut self,
         id: Id,
         number: u32,
         sym: Sym,
         args: Vec<Term<A>, A>,
+        answer: Answer,
     ) -> Result<(), Elem<A>>
         requires room { vec_len self.old.stack < vec_capacity self.old.stack }
         requires few { self.old.steps < MAX_TRANSITIONS }
-        requires changes { (base_view self.old.base).store.changes + 8 ≤ MAX_CHANGES }
+        requires changes { (base_in self.old.base).store.changes + 8 ≤ MAX_CHANGES }
         requires running { status_view self.old.status ≡ running }
-        requires proper { IsProper (rules_of self.old.program.now)
+        requires proper { IsProper (rules_of (program_in self.old.base))
             (state_in (topped (at_occurrence id.0 number (atom_view sym args.items)) (model_of self.old))) }
+        requires answer { AnswersStep
+            (topped (at_occurrence id.0 number (atom_view sym args.items)) (model_of self.old)) answer }
         ensures ok { OnOk result
             (Made (at_occurrence id.0 number (atom_view sym args.items)) self.old self.new) }
         ensures err { IfErr result
@@ -158,17 +259,20 @@ impl<'p, A: Allocator + Copy> Execution<'p, A> {
         ensures kept { OnErr result (Kept self.old self.new) }
         ensures room { OnErr result (vec_len self.new.stack < vec_capacity self.new.stack) }
     {
-        let program = self.program;
+        let program = self.base.program();
         let Some(found) = program.occurrence(sym, number) else {
             return self.drop_active(id, number, sym, args);
         };
+        if !self.base.store().alive(id) {
+            self.base.end_search(id);
+            return self.default_active(id, number, sym, args);
+        }
         let active = Active::at(program, found, id);
-        match self.base.first(&active) {
-            Err(_) => Err(Elem::Active(id, number, sym, args)),
-            Ok(None) => self.default_active(id, number, sym, args),
-            Ok(Some(ids)) => {
-                let heads = active.rule.heads.len();
-                self.fire(&active, number, sym, args, &ids[..heads])
+        match answer {
+            Answer::Missing => self.step_own(&active, number, sym, args),
+            Answer::Nothing => self.go_on(&active, number, sym, args, None),
+            Answer::Firing(ids, count) => {
+                self.go_on(&active, number, sym, args, Some(&ids[..count]))
             }
         }
     }

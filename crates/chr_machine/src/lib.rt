@@ -1,16 +1,21 @@
 //! The machine: the transitions of the refined operational semantics on one thread, and their trace.
 #![tactic(auto)]
 
+mod answer;
 mod firing;
 mod machine;
+mod need;
 mod run;
 mod solving;
 mod state;
 mod steps;
+mod tasks;
 mod waking;
 
 pub use chr_bind::Fault;
-pub use chr_store::{Fired, Id, Row, Store};
+pub use chr_find::{Found, Task};
+pub use chr_store::{Fired, History, Id, Row, Store};
 pub use chr_trace::{Elem, Status};
 pub use machine::Machine;
+pub use need::Need;
 pub use state::Stepped;

@@ -6,16 +6,16 @@ ghost use Rattle.chr_semantics.specs.declared.limits.TheConstants.{MAX_CHANGES, 
 ghost use Rattle.chr_rules.specs.ProgramView.{names_of, rules_of};
 ghost use Rattle.chr_rules.specs.RuleView.{query_view};
 ghost use Rattle.chr_trace.specs.State.{elem_view, status_view};
-ghost use Rattle.chr_base.specs.BaseView.{base_view};
+ghost use Rattle.chr_resume.specs.ResumingView.{base_in, program_in};
+ghost use Rattle.chr_machine.specs.Answering.{AnswersStep};
 ghost use Rattle.chr_machine.specs.MachineView.{Runs, Starts, Steps};
 ghost use Rattle.chr_machine.specs.Model.{model_of, state_in, topped};
 ghost use Rattle.chr_machine.specs.Step.{IsCounted, IsProper, IsReady, Kept, Made};
 
+use crate::answer::Answer;
 use crate::firing::put_goals;
 use crate::state::{Execution, Stepped};
-use chr_base::Base;
-use chr_find::Plan;
-use chr_map::Pointer;
+use chr_resume::Resuming;
 use chr_rules::{Goal, Program, Query};
 use chr_semantics::limits::MAX_TRANSITIONS;
 use chr_term::Memory;
@@ -34,17 +34,15 @@ impl<'p, A: Allocator + Copy> Execution<'p, A> {
             (query_view query) (model_of execution)) }
         ensures ready { IfOk result (λ execution. IsReady execution) }
         ensures counted { IfOk result (λ execution. IsCounted (model_of execution)) }
-        ensures proper { IfOk result (λ execution. IsProper (rules_of execution.program.now)
+        ensures proper { IfOk result (λ execution. IsProper (rules_of (program_in execution.base))
             (state_in (model_of execution))) }
     {
         let _rules = program.rules();
-        let plan = Pointer::new(alloc, Plan::of(alloc, program)?)?;
         let Query { goals, var_names } = query;
-        let base = Base::new(alloc, plan, var_names.len())?;
+        let base = Resuming::new(alloc, program, var_names.len())?;
         let mut stack = Vec::with_capacity(alloc, goals.len())?;
         put_goals(&mut stack, goals);
         let mut execution = Execution {
-            program,
             var_names,
             stack,
             base,
@@ -57,14 +55,15 @@ impl<'p, A: Allocator + Copy> Execution<'p, A> {
         Ok(execution)
     }
 
-    /// The transition of the element that was on top.
-    fn step_top(&mut self, top: Elem<A>) -> Result<(), Elem<A>>
+    /// The transition of the element that was on top. Where it needs a search, it makes one, unless the answer is known.
+    fn step_top(&mut self, top: Elem<A>, answer: Answer) -> Result<(), Elem<A>>
         requires room { vec_len self.old.stack < vec_capacity self.old.stack }
         requires few { self.old.steps < MAX_TRANSITIONS }
         requires running { status_view self.old.status ≡ running }
-        requires changes { (base_view self.old.base).store.changes + 8 ≤ MAX_CHANGES }
-        requires proper { IsProper (rules_of self.old.program.now)
+        requires changes { (base_in self.old.base).store.changes + 8 ≤ MAX_CHANGES }
+        requires proper { IsProper (rules_of (program_in self.old.base))
             (state_in (topped (elem_view top) (model_of self.old))) }
+        requires answer { AnswersStep (topped (elem_view top) (model_of self.old)) answer }
         ensures ok { OnOk result (Made (elem_view top) self.old self.new) }
         ensures err { IfErr result (λ back. elem_view back ≡ elem_view top) }
         ensures kept { OnErr result (Kept self.old self.new) }
@@ -72,7 +71,7 @@ impl<'p, A: Allocator + Copy> Execution<'p, A> {
     {
         match top {
             Elem::Known(id, sym, args) => self.reactivate(id, sym, args),
-            Elem::Active(id, number, sym, args) => self.step_active(id, number, sym, args),
+            Elem::Active(id, number, sym, args) => self.step_active(id, number, sym, args, answer),
             Elem::Goal(goal) => match goal {
                 Goal::Chr(sym, args) => self.activate(sym, args),
                 Goal::BuiltIn(op, left, right) => self.solve(Goal::BuiltIn(op, left, right)),
@@ -81,16 +80,18 @@ impl<'p, A: Allocator + Copy> Execution<'p, A> {
         }
     }
 
-    /// Makes one transition, or answers that the run has ended or that the limit stands. Memory leaves everything as before.
-    pub fn step(&mut self) -> Result<Stepped, Memory>
+    /// Makes one transition, or answers that the run has ended or that the limit stands. Where it needs a search, it makes one, unless the
+    /// answer is known. Memory leaves everything as before.
+    pub fn step(&mut self, answer: Answer) -> Result<Stepped, Memory>
         requires ready { IsReady self.old }
         requires counted { IsCounted (model_of self.old) }
-        requires proper { IsProper (rules_of self.old.program.now) (state_in (model_of self.old)) }
+        requires proper { IsProper (rules_of (program_in self.old.base)) (state_in (model_of self.old)) }
+        requires answer { AnswersStep (model_of self.old) answer }
         ensures ok { IfOk result (λ stepped. Steps stepped (model_of self.old) (model_of self.new)) }
         ensures err { OnErr result (model_of self.new ≡ model_of self.old) }
         ensures ready { IsReady self.new }
         ensures counted { IsCounted (model_of self.new) }
-        ensures proper { IsProper (rules_of self.new.program.now) (state_in (model_of self.new)) }
+        ensures proper { IsProper (rules_of (program_in self.new.base)) (state_in (model_of self.new)) }
     {
         match self.status {
             Status::Done => Ok(Stepped::Ended),
@@ -102,7 +103,7 @@ impl<'p, A: Allocator + Copy> Execution<'p, A> {
                 }
                 match self.stack.pop() {
                     None => unreachable!(),
-                    Some(top) => match self.step_top(top) {
+                    Some(top) => match self.step_top(top, answer) {
                         Ok(()) => Ok(Stepped::Moved),
                         Err(top) => {
                             self.stack.push_reserved(top);
@@ -118,15 +119,15 @@ impl<'p, A: Allocator + Copy> Execution<'p, A> {
     pub fn run_alone(&mut self, n: u64) -> Result<Stepped, Memory>
         requires ready { IsReady self.old }
         requires counted { IsCounted (model_of self.old) }
-        requires proper { IsProper (rules_of self.old.program.now) (state_in (model_of self.old)) }
+        requires proper { IsProper (rules_of (program_in self.old.base)) (state_in (model_of self.old)) }
         ensures runs { Runs result n (model_of self.old) (model_of self.new) }
         ensures ready { IsReady self.new }
         ensures counted { IsCounted (model_of self.new) }
-        ensures proper { IsProper (rules_of self.new.program.now) (state_in (model_of self.new)) }
+        ensures proper { IsProper (rules_of (program_in self.new.base)) (state_in (model_of self.new)) }
     {
         let mut made = 0;
         while made < n {
-            match self.step() {
+            match self.step(Answer::Missing) {
                 Err(error) => return Err(error),
                 Ok(Stepped::Moved) => made += 1,
                 Ok(Stepped::Ended) => return Ok(Stepped::Ended),

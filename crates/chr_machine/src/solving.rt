@@ -16,7 +16,7 @@ ghost use Rattle.chr_bind.specs.Values.{fault_view, value_view};
 ghost use Rattle.chr_rules.specs.RuleView.{builtin_view, goal_view};
 ghost use Rattle.chr_term.specs.TermView.{view};
 ghost use Rattle.chr_trace.specs.State.{elem_view, stack_view, status_view};
-ghost use Rattle.chr_base.specs.BaseView.{base_view};
+ghost use Rattle.chr_resume.specs.ResumingView.{base_in, program_in};
 ghost use Rattle.chr_machine.specs.Model.{model_of};
 ghost use Rattle.chr_machine.specs.Solving.{AreValues, Compares, Evaluates, IsBuiltIn, Logged, Passes, SolvesGoal, Tells, shown};
 ghost use Rattle.chr_machine.specs.Step.{IsSameBelow, Kept, Made};
@@ -73,12 +73,12 @@ impl<'p, A: Allocator + Copy> Execution<'p, A> {
     /// Tells that two terms are equal, for a goal that says so.
     fn tell(&mut self, goal: &Goal<A>, left: &Term<A>, right: &Term<A>) -> Result<Solved, Memory>
         requires few { self.old.steps < MAX_TRANSITIONS }
-        requires ascends { Ascends 0 (base_view self.old.base).store.rows
-            (base_view self.old.base).store.next_id }
+        requires ascends { Ascends 0 (base_in self.old.base).store.rows
+            (base_in self.old.base).store.next_id }
         requires room { vec_len self.old.stack < vec_capacity self.old.stack }
-        requires changes { (base_view self.old.base).store.changes + 8 ≤ MAX_CHANGES }
-        requires left { IsBelow (base_view self.old.base).next_var (view left.now) }
-        requires right { IsBelow (base_view self.old.base).next_var (view right.now) }
+        requires changes { (base_in self.old.base).store.changes + 8 ≤ MAX_CHANGES }
+        requires left { IsBelow (base_in self.old.base).next_var (view left.now) }
+        requires right { IsBelow (base_in self.old.base).next_var (view right.now) }
         ensures ok { IfOk result (λ solved. Tells (goal_view goal.now) self.old self.new solved
             (view left.now) (view right.now)) }
         ensures err { OnErr result (Kept self.old self.new) }
@@ -102,11 +102,11 @@ impl<'p, A: Allocator + Copy> Execution<'p, A> {
         number: i128,
     ) -> Result<Solved, Memory>
         requires few { self.old.steps < MAX_TRANSITIONS }
-        requires ascends { Ascends 0 (base_view self.old.base).store.rows
-            (base_view self.old.base).store.next_id }
+        requires ascends { Ascends 0 (base_in self.old.base).store.rows
+            (base_in self.old.base).store.next_id }
         requires room { vec_len self.old.stack < vec_capacity self.old.stack }
-        requires changes { (base_view self.old.base).store.changes + 8 ≤ MAX_CHANGES }
-        requires left { IsBelow (base_view self.old.base).next_var (view left.now) }
+        requires changes { (base_in self.old.base).store.changes + 8 ≤ MAX_CHANGES }
+        requires left { IsBelow (base_in self.old.base).next_var (view left.now) }
         ensures ok { IfOk result (λ solved. Tells (goal_view goal.now) self.old self.new solved
             (view left.now) (int number)) }
         ensures err { OnErr result (Kept self.old self.new) }
@@ -119,7 +119,7 @@ impl<'p, A: Allocator + Copy> Execution<'p, A> {
     /// The value of a term with the bindings applied.
     fn value_of(&self, term: &Term<A>) -> Result<i128, Fault>
         ensures { value_view result
-            ≡ value_in (apply (base_view self.now.base).subst (view term.now)) }
+            ≡ value_in (apply (base_in self.now.base).subst (view term.now)) }
     {
         self.base.bindings().value(term)
     }
@@ -132,11 +132,11 @@ impl<'p, A: Allocator + Copy> Execution<'p, A> {
         right: &Term<A>,
     ) -> Result<Solved, Memory>
         requires few { self.old.steps < MAX_TRANSITIONS }
-        requires ascends { Ascends 0 (base_view self.old.base).store.rows
-            (base_view self.old.base).store.next_id }
+        requires ascends { Ascends 0 (base_in self.old.base).store.rows
+            (base_in self.old.base).store.next_id }
         requires room { vec_len self.old.stack < vec_capacity self.old.stack }
-        requires changes { (base_view self.old.base).store.changes + 8 ≤ MAX_CHANGES }
-        requires left { IsBelow (base_view self.old.base).next_var (view left.now) }
+        requires changes { (base_in self.old.base).store.changes + 8 ≤ MAX_CHANGES }
+        requires left { IsBelow (base_in self.old.base).next_var (view left.now) }
         ensures ok { IfOk result (λ solved. Evaluates (goal_view goal.now) self.old self.new solved
             (view left.now) (view right.now)) }
         ensures err { OnErr result (Kept self.old self.new) }
@@ -151,8 +151,8 @@ impl<'p, A: Allocator + Copy> Execution<'p, A> {
     /// A comparison holds, and binds nothing.
     fn pass(&mut self, goal: &Goal<A>) -> Result<Solved, Memory>
         requires few { self.old.steps < MAX_TRANSITIONS }
-        requires ascends { Ascends 0 (base_view self.old.base).store.rows
-            (base_view self.old.base).store.next_id }
+        requires ascends { Ascends 0 (base_in self.old.base).store.rows
+            (base_in self.old.base).store.next_id }
         requires room { vec_len self.old.stack < vec_capacity self.old.stack }
         ensures ok { IfOk result (Passes (goal_view goal.now) self.old self.new) }
         ensures err { OnErr result (Kept self.old self.new) }
@@ -165,7 +165,7 @@ impl<'p, A: Allocator + Copy> Execution<'p, A> {
 
     /// The values of both sides, the left one first.
     fn values(&self, left: &Term<A>, right: &Term<A>) -> Result<(i128, i128), Fault>
-        ensures { AreValues (base_view self.now.base).subst (view left.now) (view right.now) result }
+        ensures { AreValues (base_in self.now.base).subst (view left.now) (view right.now) result }
     {
         match self.value_of(left) {
             Err(fault) => Err(fault),
@@ -185,8 +185,8 @@ impl<'p, A: Allocator + Copy> Execution<'p, A> {
         right: &Term<A>,
     ) -> Result<Solved, Memory>
         requires few { self.old.steps < MAX_TRANSITIONS }
-        requires ascends { Ascends 0 (base_view self.old.base).store.rows
-            (base_view self.old.base).store.next_id }
+        requires ascends { Ascends 0 (base_in self.old.base).store.rows
+            (base_in self.old.base).store.next_id }
         requires room { vec_len self.old.stack < vec_capacity self.old.stack }
         ensures ok { IfOk result (λ solved. Compares (goal_view goal.now) self.old self.new solved
             (comparison_view comparison) (view left.now) (view right.now)) }
@@ -214,12 +214,12 @@ impl<'p, A: Allocator + Copy> Execution<'p, A> {
         right: &Term<A>,
     ) -> Result<Solved, Memory>
         requires few { self.old.steps < MAX_TRANSITIONS }
-        requires ascends { Ascends 0 (base_view self.old.base).store.rows
-            (base_view self.old.base).store.next_id }
+        requires ascends { Ascends 0 (base_in self.old.base).store.rows
+            (base_in self.old.base).store.next_id }
         requires room { vec_len self.old.stack < vec_capacity self.old.stack }
-        requires changes { (base_view self.old.base).store.changes + 8 ≤ MAX_CHANGES }
-        requires left { IsBelow (base_view self.old.base).next_var (view left.now) }
-        requires right { IsBelow (base_view self.old.base).next_var (view right.now) }
+        requires changes { (base_in self.old.base).store.changes + 8 ≤ MAX_CHANGES }
+        requires left { IsBelow (base_in self.old.base).next_var (view left.now) }
+        requires right { IsBelow (base_in self.old.base).next_var (view right.now) }
         requires goal { goal_view goal.now ≡ builtin_view op (view left.now) (view right.now) }
         ensures ok { IfOk result (SolvesGoal (goal_view goal.now) self.old self.new) }
         ensures err { OnErr result (Kept self.old self.new) }
@@ -253,11 +253,11 @@ impl<'p, A: Allocator + Copy> Execution<'p, A> {
     /// What comes of the goal, which is a built-in.
     fn attempt_goal(&mut self, goal: &Goal<A>) -> Result<Solved, Memory>
         requires few { self.old.steps < MAX_TRANSITIONS }
-        requires ascends { Ascends 0 (base_view self.old.base).store.rows
-            (base_view self.old.base).store.next_id }
+        requires ascends { Ascends 0 (base_in self.old.base).store.rows
+            (base_in self.old.base).store.next_id }
         requires room { vec_len self.old.stack < vec_capacity self.old.stack }
-        requires changes { (base_view self.old.base).store.changes + 8 ≤ MAX_CHANGES }
-        requires below { IsGoalBelow (base_view self.old.base).next_var (goal_view goal.now) }
+        requires changes { (base_in self.old.base).store.changes + 8 ≤ MAX_CHANGES }
+        requires below { IsGoalBelow (base_in self.old.base).next_var (goal_view goal.now) }
         requires built_in { IsBuiltIn (goal_view goal.now) }
         ensures ok { IfOk result (SolvesGoal (goal_view goal.now) self.old self.new) }
         ensures err { OnErr result (Kept self.old self.new) }
@@ -273,11 +273,11 @@ impl<'p, A: Allocator + Copy> Execution<'p, A> {
     /// Solve: the goal is a built-in.
     pub fn solve(&mut self, goal: Goal<A>) -> Result<(), Elem<A>>
         requires few { self.old.steps < MAX_TRANSITIONS }
-        requires ascends { Ascends 0 (base_view self.old.base).store.rows
-            (base_view self.old.base).store.next_id }
+        requires ascends { Ascends 0 (base_in self.old.base).store.rows
+            (base_in self.old.base).store.next_id }
         requires room { vec_len self.old.stack < vec_capacity self.old.stack }
-        requires changes { (base_view self.old.base).store.changes + 8 ≤ MAX_CHANGES }
-        requires below { IsGoalBelow (base_view self.old.base).next_var (goal_view goal) }
+        requires changes { (base_in self.old.base).store.changes + 8 ≤ MAX_CHANGES }
+        requires below { IsGoalBelow (base_in self.old.base).next_var (goal_view goal) }
         requires built_in { IsBuiltIn (goal_view goal) }
         ensures ok { OnOk result (Made (goal_element (goal_view goal)) self.old self.new) }
         ensures err { IfErr result (λ top. elem_view top ≡ goal_element (goal_view goal)) }

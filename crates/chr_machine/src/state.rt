@@ -1,6 +1,5 @@
 //! The parts of the state of a run.
-use chr_base::Base;
-use chr_rules::Program;
+use chr_resume::Resuming;
 use chr_term::VarNames;
 use chr_trace::{Elem, Status};
 use std::alloc::Allocator;
@@ -16,10 +15,9 @@ pub enum Stepped {
 /// The execution state, with the trace. The top of the stack is its last element.
 #[derive(Drop)]
 pub struct Execution<'p, A: Allocator> {
-    pub program: &'p Program<A>,
     pub var_names: VarNames<A>,
     pub stack: Vec<Elem<A>, A>,
-    pub base: Base<A>,
+    pub base: Resuming<'p, A>,
     pub status: Status,
     pub steps: u64,
     pub lines: Vec<Vec<u8, A>, A>,

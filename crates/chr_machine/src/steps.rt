@@ -11,7 +11,7 @@ ghost use Rattle.chr_rules.specs.ProgramView.{names_of, rules_of};
 ghost use Rattle.chr_term.specs.TermView.{atom_view};
 ghost use Rattle.chr_trace.specs.State.{elem_view, stack_view, status_view};
 ghost use Rattle.chr_trace.specs.Texts.{texts};
-ghost use Rattle.chr_base.specs.BaseView.{base_view};
+ghost use Rattle.chr_resume.specs.ResumingView.{base_in, program_in};
 ghost use Rattle.chr_machine.specs.Model.{model_of, state_in, topped};
 ghost use Rattle.chr_machine.specs.Step.{IsReady, IsSameBelow, Kept, Made};
 
@@ -25,13 +25,13 @@ use std::alloc::Allocator;
 impl<'p, A: Allocator + Copy> Execution<'p, A> {
     /// What the lines of the trace are written with.
     pub fn scribe(&self) -> Scribe<'_, A>
-        ensures names { result.names.now ≡ names_of self.now.program.now }
+        ensures names { result.names.now ≡ names_of (program_in self.now.base) }
         ensures var_names { result.var_names.now ≡ self.now.var_names }
-        ensures subst { result.bindings.now.subst ≡ (base_view self.now.base).subst }
+        ensures subst { result.bindings.now.subst ≡ (base_in self.now.base).subst }
     {
         Scribe {
             alloc: self.alloc,
-            names: self.program.names(),
+            names: self.base.program().names(),
             var_names: &self.var_names,
             bindings: self.base.bindings(),
         }
@@ -73,7 +73,7 @@ impl<'p, A: Allocator + Copy> Execution<'p, A> {
         ensures stack { self.new.stack ≡ self.old.stack }
         ensures status { self.new.status ≡ self.old.status }
         ensures base { self.new.base ≡ self.old.base }
-        ensures program { self.new.program ≡ self.old.program }
+        ensures program { program_in self.new.base ≡ program_in self.old.base }
         ensures var_names { self.new.var_names ≡ self.old.var_names }
     {
         self.lines.push_reserved(line);
@@ -107,7 +107,7 @@ impl<'p, A: Allocator + Copy> Execution<'p, A> {
     pub fn activate(&mut self, sym: Sym, args: Vec<Term<A>, A>) -> Result<(), Elem<A>>
         requires room { vec_len self.old.stack < vec_capacity self.old.stack }
         requires few { self.old.steps < MAX_TRANSITIONS }
-        requires changes { (base_view self.old.base).store.changes + 8 ≤ MAX_CHANGES }
+        requires changes { (base_in self.old.base).store.changes + 8 ≤ MAX_CHANGES }
         ensures ok { OnOk result
             (Made (goal (constraint (atom_view sym args.items))) self.old self.new) }
         ensures err { IfErr result
@@ -148,7 +148,7 @@ impl<'p, A: Allocator + Copy> Execution<'p, A> {
     ) -> Result<(), Elem<A>>
         requires room { vec_len self.old.stack < vec_capacity self.old.stack }
         requires few { self.old.steps < MAX_TRANSITIONS }
-        requires none { search_at (rules_of self.old.program.now)
+        requires none { search_at (rules_of (program_in self.old.base))
             (state_in (topped (active id.0 number (atom_view sym args.items)) (model_of self.old))) id.0 number
             (atom_view sym args.items) ≡ no_occurrence }
         ensures ok { OnOk result
@@ -183,7 +183,7 @@ impl<'p, A: Allocator + Copy> Execution<'p, A> {
         requires room { vec_len self.old.stack < vec_capacity self.old.stack }
         requires few { self.old.steps < MAX_TRANSITIONS }
         requires small { number < 2 ^ 31 }
-        requires none { search_at (rules_of self.old.program.now)
+        requires none { search_at (rules_of (program_in self.old.base))
             (state_in (topped (active id.0 number (atom_view sym args.items)) (model_of self.old))) id.0 number
             (atom_view sym args.items) ≡ no_firing }
         ensures ok { OnOk result

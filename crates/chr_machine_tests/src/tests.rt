@@ -203,5 +203,5 @@ fn assert_ground_end<A: Allocator + Copy>(rt: &impl Abort, machine: &Machine<A>)
     let store = machine.store();
     assert!(rt; !store.alive(Id(1)) && has_row(store, 2, Q, 2) && has_row(store, 3, P, 2));
     assert_eq!(rt; store.next().0, 4);
-    assert!(rt; has_fired(machine.history(), 0, &[1]));
+    assert!(rt; has_fired(machine.history().list(), 0, &[1]));
 }

@@ -104,7 +104,7 @@ fn finish<A: Allocator + Copy, W: Write>(
         stack: machine.stack(),
         store: machine.store(),
         bindings: machine.bindings(),
-        history: machine.history(),
+        history: machine.history().list(),
     };
     buffer.clear();
     let Ok(()) = write_lines(&lines[sent..], buffer) else {

@@ -62,7 +62,7 @@ fn bindings_of_bodies(rt: HostRuntime) -> Result<(), Fail> {
     assert_eq!(&rt; machine.bindings().len(), 0);
     assert_eq!(&rt; run_alone(&mut machine, 100)?, Stepped::Ended);
     assert_bound(&rt, &machine);
-    assert_eq!(&rt; machine.history().len(), 3);
+    assert_eq!(&rt; machine.history().list().len(), 3);
     Ok(())
 }
 
@@ -93,6 +93,6 @@ fn the_second_rule_fires(rt: HostRuntime) -> Result<(), Fail> {
     let mut machine = start(rt.alloc(), &program, query)?;
     assert_eq!(&rt; run_alone(&mut machine, 100)?, Stepped::Ended);
     assert_lines(&rt, &machine, &SECOND_LINES);
-    assert!(&rt; has_fired(machine.history(), 1, &[1]));
+    assert!(&rt; has_fired(machine.history().list(), 1, &[1]));
     Ok(())
 }

@@ -39,7 +39,7 @@ fn sizes_of<A: Allocator + Copy>(machine: &Machine<A>) -> Sizes {
         next: machine.store().next().0,
         changes: machine.store().changes(),
         variables: machine.bindings().len(),
-        history: machine.history().len(),
+        history: machine.history().list().len(),
     }
 }
 

@@ -18,7 +18,7 @@ fn firings_touch(rt: HostRuntime) -> Result<(), Fail> {
     let mut machine = start(rt.alloc(), &program, query)?;
     assert_eq!(&rt; run_alone(&mut machine, 100)?, Stepped::Ended);
     assert_stamps(&rt, &machine, &[3]);
-    assert!(&rt; has_fired(machine.history(), 0, &[1, 2]));
+    assert!(&rt; has_fired(machine.history().list(), 0, &[1, 2]));
     Ok(())
 }
 

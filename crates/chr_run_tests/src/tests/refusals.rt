@@ -92,15 +92,15 @@ fn run_read<A: Allocator + Copy>(
     Ok(run_into(alloc, &program, query, 100, 0, sink))
 }
 
-/// A case, its whole text, and how many of its parts are out where a growth is refused.
+/// A case, its whole text, and how many of its lines are out where a growth is refused.
 #[derive(Drop)]
 struct Trial<'t> {
     case: Case,
     whole: &'t [u8],
-    parts: usize,
+    lines: usize,
 }
 
-/// Whether the run goes through with so many growths. Where it does not, all lines that were made before the last search are out.
+/// Whether the run goes through with so many growths. Where it does not, at most one line more is out than with one growth fewer.
 fn is_run(
     meter: &Meter,
     rt: &impl Abort,
@@ -118,14 +118,14 @@ fn is_run(
     assert_eq!(rt; error, TextError::Run(RunError::Memory), "{left}");
     assert!(rt; trial.whole.starts_with(sink.text.as_slice()), "{left}");
     let lines = lines_in(sink.text.as_slice());
-    if trial.case.parts.get(trial.parts) != Some(&lines) {
-        trial.parts = trial.parts.saturating_add(1);
+    if lines != trial.lines {
+        trial.lines = trial.lines.saturating_add(1);
     }
-    assert_eq!(rt; trial.case.parts.get(trial.parts), Some(&lines), "{left}");
+    assert_eq!(rt; trial.lines, lines, "{left}");
     Ok(false)
 }
 
-/// Each search is refused a growth, and by then the lines before it are out.
+/// Each transition is refused a growth, and by then the lines before it are out.
 #[test]
 fn run_into_refused(rt: HostRuntime) -> Result<(), Fail> {
     let meter = Refusing::new(rt.alloc(), 0);
@@ -134,18 +134,13 @@ fn run_into_refused(rt: HostRuntime) -> Result<(), Fail> {
         let mut trial = Trial {
             case,
             whole: whole.as_slice(),
-            parts: 0,
+            lines: 0,
         };
         let refused = refused_in_turn(MOST, |left| {
             is_run(&meter, &rt, rt.alloc(), &mut trial, left)
         })?;
         assert!(rt; refused > 10 && refused < MOST, "{}", case.query);
-        assert_eq!(rt;
-            trial.parts.saturating_add(1),
-            case.parts.len(),
-            "{}",
-            case.query
-        );
+        assert_eq!(rt; trial.lines, case.lines, "{}", case.query);
     }
     Ok(())
 }

@@ -365,6 +365,6 @@ fn cannot_write(
 #[test]
 fn outputs_that_fail(rt: HostRuntime) -> Result<(), Fail> {
     let words = ["there", GROUND_QUERY];
-    cannot_write(rt.alloc(), &rt, &words, (GROUND_TEXT, 58))?;
+    cannot_write(rt.alloc(), &rt, &words, (GROUND_TEXT, 42))?;
     cannot_write(rt.alloc(), &rt, &["--help"], (HELP, 60))
 }

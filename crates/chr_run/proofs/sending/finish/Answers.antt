@@ -1,7 +1,7 @@
 use Rattle.std.proofs.Common.{◌≡◌, ◌∙◌, ◌++◌, ℕ, List, ap, drop, subst, sym}
 use Rattle.std.specs.Io.KnownBytes.{Appends}
 use Rattle.std.specs.Prelude.{OnErr, OnOk}
-use Rattle.chr_semantics.specs.Changes.{Store}
+use Rattle.chr_semantics.specs.Changes.{Entries, Store}
 use Rattle.chr_semantics.specs.Text.{lines_text, outcome}
 use Rattle.chr_machine.specs.MachineView.{machine_view}
 use Rattle.chr_run.specs.Output.{AppendsPart}
@@ -27,7 +27,7 @@ returns-in-Ok-write-clause-ok g c =
     let st = c.store.ensures in
     let su = c.bindings.ensures.subst in
     let len = c.bindings.ensures.len in
-    let hs = c.history.ensures in
+    let hs = c.list.ensures ∙ ap (λ (e : Entries). e.list) c.history.ensures in
     let ws = c.status.ensures in
     let end : c.write.new.out.items ≡ c.write_lines.new.out.items ++ lines_text (end_lines m) =
     c.in-Ok-write.ensures.ok ∙ λ k. c.write_lines.new.out.items ++ lines_text (outcome (ns k) (vs k) (rs k) (record { stack = es k; store = (let s : Store = st k in s.rows); subst = su k; history = hs k; next_id = (let s : Store = st k in s.next_id); next_var = len k; status = ws k }))
@@ -46,7 +46,7 @@ returns-in-Ok-write-clause-part g c =
     let st = c.store.ensures in
     let su = c.bindings.ensures.subst in
     let len = c.bindings.ensures.len in
-    let hs = c.history.ensures in
+    let hs = c.list.ensures ∙ ap (λ (e : Entries). e.list) c.history.ensures in
     let ws = c.status.ensures in
     let end : c.write.new.out.items ≡ c.write_lines.new.out.items ++ lines_text (end_lines m) =
     c.in-Ok-write.ensures.ok ∙ λ k. c.write_lines.new.out.items ++ lines_text (outcome (ns k) (vs k) (rs k) (record { stack = es k; store = (let s : Store = st k in s.rows); subst = su k; history = hs k; next_id = (let s : Store = st k in s.next_id); next_var = len k; status = ws k }))

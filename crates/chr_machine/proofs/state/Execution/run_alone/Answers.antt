@@ -1,6 +1,6 @@
-use Rattle.std.proofs.Common.{arith, refl}
+use Rattle.std.proofs.Common.{arith}
 use Rattle.chr_machine.specs.Model.{model_of}
-use Rattle.chr_machine.proofs.Runs.{further_more, runs_ended, runs_moved, runs_refused, runs_spent}
+use Rattle.chr_machine.proofs.Runs.{further_more, runs_ended, runs_refused, runs_spent}
 use Rattle.chr_machine.proofs.state.Execution.run_alone.Goals as goal
 
 pub loop-made-preserved : goal.loop-made-preserved

@@ -1,7 +1,7 @@
-use Rattle.std.proofs.Common.{◌≡◌, ap, arith, subst, sym}
-use Rattle.chr_semantics.specs.State.{running}
-use Rattle.chr_trace.specs.State.{elem_view, status_view}
-use Rattle.chr_machine.specs.Model.{Model, model_of, state_in, topped}
+use Rattle.std.proofs.Common.{ap, arith, subst, sym}
+use Rattle.chr_trace.specs.State.{status_view}
+use Rattle.chr_machine.specs.Answering.{AnswersStep}
+use Rattle.chr_machine.specs.Model.{Model, model_of, state_in}
 use Rattle.chr_machine.specs.Step.{IsCounted, IsProper, Makes}
 use Rattle.chr_machine.proofs.Models.{popped, put_back}
 use Rattle.chr_machine.proofs.Moved.{counted_moved, moved, proper_moved}
@@ -9,6 +9,9 @@ use Rattle.chr_machine.proofs.state.Execution.step.Goals as goal
 
 pub step_top-requires-clause-proper : goal.step_top-requires-clause-proper
 step_top-requires-clause-proper g c = subst (λ (m : Model). IsProper m.rules (state_in m)) (popped c.args.self.now c.pop.new.self c.in-Some.top c.in-Some.ensures.items) c.requires.proper
+
+pub step_top-requires-clause-answer : goal.step_top-requires-clause-answer
+step_top-requires-clause-answer g c = subst (λ (m : Model). AnswersStep m c.args.answer) (popped c.args.self.now c.pop.new.self c.in-Some.top c.in-Some.ensures.items) c.requires.answer
 
 pub returns-in-Ok-clause-ok : goal.returns-in-Ok-clause-ok
 returns-in-Ok-clause-ok g c =
