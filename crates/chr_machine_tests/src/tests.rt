@@ -2,6 +2,7 @@ ghost use Rattle.std.specs.Prelude.{IfOk};
 ghost use Rattle.chr_rules.specs.RuleView.{query_view};
 ghost use Rattle.chr_semantics.specs.Bounds.{IsQueryBounded};
 
+use chr_find::{Snapshot, find};
 use chr_machine::*;
 use chr_read::read_query;
 use chr_rules::{Goal, Program, Query};
@@ -11,6 +12,8 @@ use std::alloc::Allocator;
 use std::process::Abort;
 use std::test::Fail;
 
+mod ahead;
+mod answers;
 mod calls;
 mod readers;
 mod refusals;
@@ -103,6 +106,29 @@ const WAKING_ORDER: Example = Example {
     ],
 };
 
+const SPECULATION: Example = Example {
+    program: ":- chr_constraint act/0, q/1, s/1, out/1.
+p1 @ act ==> s(1). r @ act, q(X), s(X) ==> out(X).
+",
+    query: "q(1), act.",
+    lines: &[
+        "1 activate q(1)#1",
+        "2 default q(1)#1:1",
+        "3 drop q(1)#1:2",
+        "4 activate act#2",
+        "5 propagate act#2:1 p1 2",
+        "6 activate s(1)#3",
+        "7 propagate s(1)#3:1 r 2,1,3",
+        "8 activate out(1)#4",
+        "9 drop out(1)#4:1",
+        "10 default s(1)#3:1",
+        "11 drop s(1)#3:2",
+        "12 default act#2:1",
+        "13 default act#2:2",
+        "14 drop act#2:3",
+    ],
+};
+
 /// A program, and a query over it, as a machine takes them.
 fn both_of<A: Allocator + Copy>(
     alloc: A,
@@ -137,6 +163,35 @@ fn step<A: Allocator + Copy>(machine: &mut Machine<A>) -> Result<Stepped, Memory
 
 fn run_alone<A: Allocator + Copy>(machine: &mut Machine<A>, n: u64) -> Result<Stepped, Memory> {
     machine.run_alone(n)
+}
+
+fn tasks<A: Allocator + Copy>(machine: &Machine<A>) -> Result<Vec<Task, A>, Memory> {
+    machine.tasks()
+}
+
+/// The search for a constraint at an occurrence of its symbol.
+fn task((goal, occurrence): (u64, u32)) -> Task {
+    Task {
+        goal: Id(goal),
+        occurrence,
+    }
+}
+
+/// A snapshot of the machine's state for one task.
+fn own<A: Allocator + Copy>(
+    alloc: A,
+    machine: &Machine<A>,
+    task: Task,
+) -> Result<Snapshot<A>, Memory> {
+    let (store, bindings, history) = (machine.store(), machine.bindings(), machine.history());
+    Snapshot::for_task(alloc, machine.program(), store, bindings, history, task)
+}
+
+/// A snapshot of the machine's state with its tasks and its guest.
+fn published<A: Allocator + Copy>(alloc: A, machine: &Machine<A>) -> Result<Snapshot<A>, Memory> {
+    let (store, bindings, history) = (machine.store(), machine.bindings(), machine.history());
+    let (tasks, guest) = (machine.tasks()?, machine.guest());
+    Snapshot::take(alloc, store, bindings, history, tasks, guest)
 }
 
 /// How many transitions were made, and how many elements stand on the stack.

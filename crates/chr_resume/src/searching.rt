@@ -3,23 +3,27 @@ ghost use Rattle.std.specs.Prelude.{◌≡◌, All, IfOk, List, None, OnOk, Some
 ghost use Rattle.chr_semantics.specs.Bounds.{IsBounded};
 ghost use Rattle.chr_semantics.specs.Match.{Row, fits};
 ghost use Rattle.chr_semantics.specs.Search.{atom_of, ids_of};
-ghost use Rattle.chr_semantics.specs.State.{goal};
+ghost use Rattle.chr_semantics.specs.Snapshot.{snapshot_for};
+ghost use Rattle.chr_semantics.specs.State.{State, goal};
 ghost use Rattle.chr_semantics.specs.Step.{body_of};
 ghost use Rattle.chr_semantics.specs.Subst.{Subst};
 ghost use Rattle.chr_rules.specs.ProgramView.{rules_of};
 ghost use Rattle.chr_rules.specs.RuleView.{goal_view, rule_view};
 ghost use Rattle.chr_find.specs.SearchView.{IsSearchable};
+ghost use Rattle.chr_find.specs.SnapshotView.{IsSnapshot, guest_view, tasks_view};
 ghost use Rattle.chr_base.specs.Searching.{FindsFirst, rows_of};
+ghost use Rattle.chr_base.specs.Taking.{IsStateOf};
 
 use crate::Memory;
 use crate::resuming::Resuming;
-use chr_find::{Active, Cursor};
+use chr_find::{Active, Cursor, Snapshot, Task};
 use chr_rules::{Goal, Rule};
 use chr_store::Id;
+use chr_term::{Sym, Term};
 use std::alloc::Allocator;
 
 impl<'p, A: Allocator + Copy> Resuming<'p, A> {
-    ghost use Rattle.chr_resume.specs.ResumingView.{GoesOn, IsFresh, base_in, program_in};
+    ghost use Rattle.chr_resume.specs.ResumingView.{GoesOn, IsFresh, IsShareable, base_in, program_in};
 
     /// Makes the table ready to be searched. Contracts see the same base, after a refusal too.
     pub fn freshen(&mut self) -> Result<(), Memory>
@@ -28,6 +32,30 @@ impl<'p, A: Allocator + Copy> Resuming<'p, A> {
         ensures program { program_in self.new ≡ program_in self.old }
     {
         self.base.freshen()
+    }
+
+    /// Makes the table ready to be shared. The first call costs the store, and each further one what has changed since. Contracts see the
+    /// same base, after a refusal too.
+    pub fn keep_keys(&mut self) -> Result<(), Memory>
+        ensures same { base_in self.new ≡ base_in self.old }
+        ensures ok { OnOk result (IsShareable self.new) }
+        ensures program { program_in self.new ≡ program_in self.old }
+    {
+        self.base.keep_keys()
+    }
+
+    /// The constraints and what has fired, as they stand now, with tasks and a guest, which is given as it stands on the stack. It costs some
+    /// pointers. The only error is want of memory.
+    pub fn snapshot(
+        &self,
+        tasks: Vec<Task, A>,
+        guest: Option<(Sym, &[Term<A>])>,
+    ) -> Result<Snapshot<A>, Memory>
+        requires { IsShareable self.now }
+        ensures { IfOk result (λ shared. (s : State) → IsStateOf (base_in self.now) s →
+            IsSnapshot shared (snapshot_for s (tasks_view tasks.items) (guest_view guest))) }
+    {
+        self.base.snapshot(tasks, guest)
     }
 
     /// The goals of the body of a rule that fires with constraints, given in head order, whose heads fit them.

@@ -1,4 +1,4 @@
-//! What a machine's transitions touch, as the stamps of its store and the entries of its history show it.
+//! What a machine's transitions touch, as the stamps of its store and its history show it.
 use super::*;
 
 /// The stamps of the first symbols that a program declares.
@@ -18,6 +18,7 @@ fn firings_touch(rt: HostRuntime) -> Result<(), Fail> {
     let mut machine = start(rt.alloc(), &program, query)?;
     assert_eq!(&rt; run_alone(&mut machine, 100)?, Stepped::Ended);
     assert_stamps(&rt, &machine, &[3]);
+    assert_eq!(&rt; machine.history().stamp(0), 1);
     assert!(&rt; has_fired(machine.history().list(), 0, &[1, 2]));
     Ok(())
 }
@@ -33,7 +34,7 @@ fn bindings_touch(rt: HostRuntime) -> Result<(), Fail> {
     Ok(())
 }
 
-const BINDING_TOUCHES: &str = ":- chr_constraint p/1, go/1, o/0.
+pub const BINDING_TOUCHES: &str = ":- chr_constraint p/1, go/1, o/0.
 a @ go(Y) ==> Y = 1.
 r @ go(Z), p(1) # passive ==> o.
 ";

@@ -1,0 +1,10 @@
+pub mod Holds
+pub mod Identities
+pub mod Living
+pub mod Newest
+pub mod Places
+pub mod Risen
+pub mod Served
+pub mod Spots
+pub mod Sums
+pub mod SumsLaw
