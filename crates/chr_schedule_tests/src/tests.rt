@@ -158,6 +158,7 @@ fn is_read<B: Allocator>(rt: &impl Abort, memory: &Refusing<B>, left: u64) -> bo
 
 /// Prints after a `>` with so many growths allowed. Whether none was refused.
 fn is_printed<B: Allocator>(
+    alloc: Global,
     rt: &impl Abort,
     memory: &Refusing<B>,
     left: u64,
@@ -170,8 +171,8 @@ fn is_printed<B: Allocator>(
     let is_printed = print_schedule(events, &mut out).is_ok();
     assert_eq!(rt; memory.asked() > left, !is_printed, "{left}");
     let text = if is_printed { MANY_LINES } else { "" };
-    assert_eq!(rt; out.first().copied(), Some(b'>'));
-    assert_eq!(rt; out.get(1..), Some(text.as_bytes()), "{left}");
+    let wanted = format!(in alloc; ">{text}")?;
+    assert_eq!(rt; out.as_slice(), wanted.as_bytes(), "{left}");
     Ok(is_printed)
 }
 
@@ -184,7 +185,9 @@ fn want_of_memory(rt: HostRuntime) -> Result<(), Fail> {
     })?;
     assert!(&rt; refused > 3 && refused < 100, "{refused}");
     let events = read_schedule(rt.alloc(), MANY_LINES.as_bytes())?;
-    let refused = refused_in_turn(100, |left| is_printed(&rt, &memory, left, &events))?;
+    let refused = refused_in_turn(100, |left| {
+        is_printed(rt.alloc(), &rt, &memory, left, &events)
+    })?;
     assert!(&rt; refused > 2 && refused < 100, "{refused}");
     Ok(())
 }
