@@ -58,7 +58,7 @@ impl ScheduleError {
     ghost use Rattle.std.specs.Prelude.{◌≡◌, MatchOption};
     ghost use Rattle.chr_schedule.specs.ErrorView.{kind_view};
 
-    /// What is wrong with a line, or memory was refused there.
+    /// An error of this kind at a line, which `Memory` leaves out.
     pub(crate) fn in_line(kind: ScheduleErrorKind, line: u64) -> ScheduleError
         ensures kind { result.kind ≡ kind }
         ensures line { MatchOption (kind_view kind) (result.line ≡ 0) (λ _. result.line ≡ line) }

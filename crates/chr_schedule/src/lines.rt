@@ -26,7 +26,7 @@ pub fn read_line(line: &[u8]) -> Result<Line, ScheduleErrorKind>
     }
 }
 
-/// A line of one word.
+/// What a line of one word stands for.
 fn publish(word: &[u8]) -> Result<Line, ScheduleErrorKind>
     ensures { IsLine (line_of (word.now ∷ [])) result }
 {
@@ -37,7 +37,7 @@ fn publish(word: &[u8]) -> Result<Line, ScheduleErrorKind>
     }
 }
 
-/// A line of two words.
+/// What a line of two words stands for.
 fn steps(word: &[u8], count: &[u8]) -> Result<Line, ScheduleErrorKind>
     ensures { IsLine (line_of (word.now ∷ count.now ∷ [])) result }
 {
@@ -50,7 +50,7 @@ fn steps(word: &[u8], count: &[u8]) -> Result<Line, ScheduleErrorKind>
     }
 }
 
-/// A line of three words.
+/// What a line of three words stands for.
 fn arrival(word: &[u8], round: &[u8], index: &[u8]) -> Result<Line, ScheduleErrorKind>
     ensures { IsLine (line_of (word.now ∷ round.now ∷ index.now ∷ [])) result }
 {

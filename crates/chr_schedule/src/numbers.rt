@@ -13,14 +13,14 @@ pub fn are_digits(word: &[u8]) -> bool
     !word.is_empty() && all_digits(word)
 }
 
-/// Whether nothing else is there.
+/// Whether nothing but digits is there.
 fn all_digits(word: &[u8]) -> bool
     ensures { result ≡ list_all is_ascii_digit word.now }
 {
     word.iter().all(|byte| byte.is_ascii_digit())
 }
 
-/// The number that digits are. Where a zero leads several, or it is above `MAX_SCHEDULE_NUMBER`, they are none.
+/// The number that digits are. They are none where a zero leads several, or the value is above `MAX_SCHEDULE_NUMBER`.
 pub fn number_of(digits: &[u8]) -> Option<u32>
     ensures { result ≡ number_of digits.now }
 {
@@ -43,7 +43,8 @@ fn value_of(digits: &[u8]) -> Option<u32>
 
 /// The value with a further digit, unless that is above `MAX_SCHEDULE_NUMBER`.
 fn with_digit(value: u32, digit: u8) -> Option<u32>
-    ensures { SomeIff result (value * 10 + (digit - 48) ≤ MAX_SCHEDULE_NUMBER) (value * 10 + (digit - 48)) }
+    ensures { SomeIff result (value * 10 + (digit - 48) ≤ MAX_SCHEDULE_NUMBER)
+        (value * 10 + (digit - 48)) }
 {
     value
         .checked_mul(10)?

@@ -107,7 +107,7 @@ fn schedule_calls(rt: HostRuntime) -> Result<(), Fail> {
     Ok(())
 }
 
-/// So many lines that a look at the whole text for each of them would take hours.
+/// So many lines that a look at the whole text for each of them would take minutes.
 #[test]
 fn many_lines(rt: HostRuntime) -> Result<(), Fail> {
     let mut text = Vec::new(rt.alloc());
