@@ -1,5 +1,4 @@
 pub mod Arguments
-pub mod Barren
 pub mod Collected
 pub mod EnoughRows
 pub mod FiredHistory

@@ -1,6 +1,5 @@
 pub mod AnswerView
 pub mod AtomCode
-pub mod Barren
 pub mod Enough
 pub mod Finding
 pub mod Finds

@@ -1,24 +1,19 @@
 //! The machine: the transitions of the refined operational semantics on one thread, and their trace.
+//!
+//! Today it performs the ground fragment: rules with one removed head and no guard, whose head and body have no variable.
 #![tactic(auto)]
 
-mod answer;
 mod firing;
+mod fragment;
+mod lines;
 mod machine;
-mod need;
-mod outcome;
 mod run;
-mod solving;
 mod state;
 mod steps;
-mod taking;
-mod tasks;
-mod waking;
+mod store;
 
 pub use chr_bind::Fault;
-pub use chr_find::{Found, Snapshot, Task};
-pub use chr_store::{Fired, History, Id, Row, Store};
-pub use chr_trace::{Elem, Status};
+pub use fragment::{is_thin_program, is_thin_query};
 pub use machine::Machine;
-pub use need::Need;
-pub use outcome::Outcome;
-pub use state::Stepped;
+pub use state::{Elem, Fired, Status, Stepped};
+pub use store::{Id, Row, Store};

@@ -1,6 +1,7 @@
 pub mod ErrorText
 pub mod Output
-pub mod Sending
+pub mod Stored
+pub mod Body
 pub mod Run
 pub mod Texts
 pub mod Command

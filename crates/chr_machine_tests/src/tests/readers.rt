@@ -1,5 +1,108 @@
-//! What a machine shows, on values that the specification gives.
+//! Each public call once with ample memory, on values that the specification gives.
 use super::*;
+use std::alloc::Global;
+
+/// Rules that are each outside the fragment in one way: a kept head, two heads, a variable in the head or the body, a guard, a built-in.
+const NOT_THIN: [&str; 7] = [
+    "p(1) ==> true.",
+    "p(1), p(2) <=> true.",
+    "p(X) <=> true.",
+    "p(1) <=> q(X).",
+    "p(1) <=> integer(1) | true.",
+    "p(1) <=> 1 = 1.",
+    "p(1) <=> fail.",
+];
+
+#[test]
+fn programs_that_are_not_thin(rt: HostRuntime) -> Result<(), Fail> {
+    let alloc = rt.alloc();
+    for rule in NOT_THIN {
+        let text = format!(in alloc; "{GROUND_PROGRAM}{rule}")?;
+        assert!(&rt; !is_thin_program(&program_of(alloc, &text)?), "{rule}");
+    }
+    assert!(&rt; is_thin_program(&program_of(alloc, GROUND_PROGRAM)?));
+    assert!(&rt; is_thin_program(&program_of(alloc, "")?));
+    Ok(())
+}
+
+#[test]
+fn queries(rt: HostRuntime) -> Result<(), Fail> {
+    for (text, thin) in [
+        ("true.", true),
+        ("p(1), q(X).", true),
+        ("p(1), fail.", false),
+        ("p(1), 1 < 2.", false),
+    ] {
+        let (_, query) = both_of(rt.alloc(), NO_RULES, text)?;
+        assert_eq!(&rt; is_thin_query(&query), thin, "{text}");
+    }
+    Ok(())
+}
+
+fn add_to(alloc: Global, store: &mut Store, only: Term) -> Result<Id, Memory> {
+    match store.add(P, one(alloc, only)?) {
+        Ok(id) => Ok(id),
+        Err((_, error)) => Err(error),
+    }
+}
+
+fn remove(store: &mut Store, id: u64) -> bool {
+    store.remove(Id(id))
+}
+
+fn assert_next(rt: &impl Abort, store: &Store, wanted: u64) {
+    assert!(rt; store.slots().len() < 100);
+    assert_eq!(rt; store.next().0, wanted);
+}
+
+fn is_alive(store: &Store, id: u64) -> bool {
+    store.alive(Id(id))
+}
+
+/// Whether the slots are filled so.
+fn has_slots(store: &Store, wanted: &[bool]) -> bool {
+    let slots = store.slots();
+    if slots.len() != wanted.len() {
+        return false;
+    }
+    for k in 0..wanted.len() {
+        if slots[k].is_some() != wanted[k] {
+            return false;
+        }
+    }
+    true
+}
+
+/// Asserts which identities have a row, from 0 to one that was not given.
+fn assert_alive(rt: &impl Abort, store: &Store, wanted: &[bool]) {
+    let mut id = 0u64;
+    for alive in wanted {
+        assert_eq!(rt; is_alive(store, id), *alive, "{id}");
+        id = id.saturating_add(1);
+    }
+}
+
+/// Two constraints, of which the first is taken out.
+fn two_rows(alloc: Global, rt: &impl Abort) -> Result<Store, Memory> {
+    let mut store = Store::new(alloc);
+    assert_eq!(rt; add_to(alloc, &mut store, Term::Int(1))?.0, 1);
+    assert_eq!(rt; add_to(alloc, &mut store, Term::Var(0))?.0, 2);
+    assert_alive(rt, &store, &[false, true, true, false]);
+    assert!(rt; remove(&mut store, 1));
+    Ok(store)
+}
+
+#[test]
+fn store_calls(rt: HostRuntime) -> Result<(), Fail> {
+    let mut store = two_rows(rt.alloc(), &rt)?;
+    assert!(&rt; !remove(&mut store, 1));
+    assert_alive(&rt, &store, &[false, false, true, false]);
+    assert_eq!(&rt; add_to(rt.alloc(), &mut store, Term::Int(2))?.0, 3);
+    assert!(&rt; has_row(&store, 3, P, 2));
+    assert!(&rt; has_slots(&store, &[false, true, true]));
+    assert_next(&rt, &store, 4);
+    Ok(())
+}
 
 /// The top of the stack after the first Activate of `ground_rule`, above the goal that waits.
 fn is_active_first<A: Allocator>(stack: &[Elem<A>]) -> bool {
@@ -21,61 +124,22 @@ fn is_active_first<A: Allocator>(stack: &[Elem<A>]) -> bool {
 
 #[test]
 fn the_top_is_last(rt: HostRuntime) -> Result<(), Fail> {
-    let (program, query) = both_of(rt.alloc(), GROUND_RULE.program, GROUND_RULE.query)?;
-    let mut machine = start(rt.alloc(), &program, query)?;
+    let (program, query) = both_of(rt.alloc(), GROUND_PROGRAM, GROUND_QUERY)?;
+    let mut machine = started(rt.alloc(), &rt, &program, query)?;
     assert_eq!(&rt; step(&mut machine)?, Stepped::Moved);
     assert!(&rt; is_active_first(machine.stack()));
     Ok(())
 }
 
-/// Whether these are the constraints that the Solve of `waking_order` wakes: the least identity is on top.
-fn are_woken<A: Allocator>(stack: &[Elem<A>]) -> bool {
-    match stack {
-        [Elem::Known(below, q, _), Elem::Known(top, p, _)] => {
-            *below == Id(2) && *q == Q && *top == Id(1) && *p == P
-        }
-        _ => false,
-    }
-}
-
+/// The first lines of `waking_order`.
 #[test]
-fn the_least_is_on_top(rt: HostRuntime) -> Result<(), Fail> {
-    let (program, query) = both_of(rt.alloc(), WAKING_ORDER.program, WAKING_ORDER.query)?;
-    let mut machine = start(rt.alloc(), &program, query)?;
-    assert_eq!(&rt; run_alone(&mut machine, 5)?, Stepped::Moved);
-    assert!(&rt; are_woken(machine.stack()));
-    Ok(())
-}
-
-/// A query's variables have the first numbers, and those of a firing the next ones.
-fn assert_bound<A: Allocator + Copy>(rt: &impl Abort, machine: &Machine<A>) {
-    let bindings = machine.bindings();
-    assert_eq!(rt; bindings.len(), 2);
-    assert!(rt; bindings.resolves_to(&Term::Var(0), &Term::Int(2)));
-    assert!(rt; bindings.resolves_to(&Term::Var(1), &Term::Int(0)));
-}
-
-#[test]
-fn bindings_of_bodies(rt: HostRuntime) -> Result<(), Fail> {
-    let (program, query) = both_of(rt.alloc(), GCD.program, GCD.query)?;
-    let mut machine = start(rt.alloc(), &program, query)?;
-    assert_eq!(&rt; machine.bindings().len(), 0);
+fn variables_by_name(rt: HostRuntime) -> Result<(), Fail> {
+    let (program, query) = both_of(rt.alloc(), NO_RULES, "p(X).")?;
+    let mut machine = started(rt.alloc(), &rt, &program, query)?;
     assert_eq!(&rt; run_alone(&mut machine, 100)?, Stepped::Ended);
-    assert_bound(&rt, &machine);
-    assert_eq!(&rt; machine.history().list().len(), 3);
-    Ok(())
-}
-
-#[test]
-fn program_and_names(rt: HostRuntime) -> Result<(), Fail> {
-    let (program, query) = both_of(rt.alloc(), NO_RULES, "p(X), q(_), p(Y).")?;
-    let machine = start(rt.alloc(), &program, query)?;
+    assert_eq!(&rt; machine.var_names().len(), 1);
     assert_eq!(&rt; machine.program().rules(), 0);
-    let names = machine.var_names();
-    assert_eq!(&rt; names.len(), 3);
-    for (number, name) in [(0, Some("X")), (1, None), (2, Some("Y"))] {
-        assert_eq!(&rt; names.name(number), name);
-    }
+    assert_lines(&rt, &machine, &["1 activate p(X)#1", "2 drop p(X)#1:1"]);
     Ok(())
 }
 
@@ -90,9 +154,9 @@ const SECOND_LINES: [&str; 3] = [
 #[test]
 fn the_second_rule_fires(rt: HostRuntime) -> Result<(), Fail> {
     let (program, query) = both_of(rt.alloc(), SECOND_FITS, "p(1).")?;
-    let mut machine = start(rt.alloc(), &program, query)?;
+    let mut machine = started(rt.alloc(), &rt, &program, query)?;
     assert_eq!(&rt; run_alone(&mut machine, 100)?, Stepped::Ended);
     assert_lines(&rt, &machine, &SECOND_LINES);
-    assert!(&rt; has_fired(machine.history().list(), 1, &[1]));
+    assert!(&rt; has_fired(machine.history(), 1, 1));
     Ok(())
 }

@@ -1,338 +1,206 @@
-//! Each growth of a call refused in turn: that the refusal is a growth's, that the machine stands as before, and that the call then goes
-//! through.
-use super::ahead::assert_tasks;
-use super::answers::{run_asked, step_asked};
+//! Each growth of a call refused in turn: that the refusal is a growth's, what stands after it, and that the call then goes on.
 use super::*;
 use refusing_alloc::{Refusing, refused_in_turn};
 use std::alloc::Global;
 
-pub type Meter = Refusing<Global>;
-
 /// More growths than a call of these tests asks for.
-pub const AMPLE: u64 = 1_000_000;
+const AMPLE: u64 = 1_000_000;
 
 /// More than a call that is refused in turn asks for.
-const MOST: u64 = 500;
+const MOST: u64 = 200;
 
-const EXAMPLES: [Example; 4] = [GROUND_RULE, GCD, PROPAGATE_THEN_SIMPLIFY, WAKING_ORDER];
+/// On the stack, given identities and entries of the history, before the first transition of `ground_rule` and after each.
+const GROUND_SIZES: [(usize, usize, usize); 8] = [
+    (2, 0, 0),
+    (2, 1, 0),
+    (2, 1, 1),
+    (2, 2, 1),
+    (1, 2, 1),
+    (1, 3, 1),
+    (1, 3, 1),
+    (0, 3, 1),
+];
 
 /// A growth was refused since so many were allowed, or none was.
-fn assert_refused(rt: &impl Abort, meter: &Meter, left: u64, is_refused: bool) {
+fn assert_refused(meter: &Refusing<Global>, rt: &impl Abort, left: u64, is_refused: bool) {
     assert_eq!(rt; meter.asked() > left, is_refused, "{left}");
 }
 
-/// How much a machine has of each of its parts.
-#[derive(Clone, Copy, PartialEq, Eq, Debug, Drop)]
-struct Sizes {
-    steps: u64,
-    lines: usize,
-    stack: usize,
-    next: u64,
-    changes: u64,
-    variables: u64,
-    history: usize,
+fn assert_rows_after<A: Allocator>(rt: &impl Abort, store: &Store<A>, done: usize) {
+    assert_eq!(rt; has_row(store, 1, P, 1), done == 1);
+    assert_eq!(rt; has_row(store, 2, Q, 2), done >= 3);
+    assert_eq!(rt; has_row(store, 3, P, 2), done >= 5);
 }
 
-fn sizes_of<A: Allocator + Copy>(machine: &Machine<A>) -> Sizes {
-    Sizes {
-        steps: machine.steps(),
-        lines: machine.lines().len(),
-        stack: machine.stack().len(),
-        next: machine.store().next().0,
-        changes: machine.store().changes(),
-        variables: machine.bindings().len(),
-        history: machine.history().list().len(),
-    }
+/// Asserts that the machine stands where `ground_rule` does after so many transitions.
+fn assert_after<A: Allocator>(rt: &impl Abort, machine: &Machine<A>, done: usize) {
+    assert!(rt; done <= 7);
+    let status = if done < 7 {
+        Status::Running
+    } else {
+        Status::Done
+    };
+    assert_stands(rt, machine, status, done as u64);
+    assert_lines(rt, machine, &GROUND_LINES[..done]);
+    assert_sizes(rt, machine, GROUND_SIZES[done]);
+    assert_rows_after(rt, machine.store(), done);
 }
 
-/// The lines so far are the first of these.
-fn assert_begun<A: Allocator + Copy>(rt: &impl Abort, machine: &Machine<A>, wanted: &[&str]) {
-    let made = machine.lines().len();
-    assert!(rt; made <= wanted.len(), "{made}");
-    assert_eq!(rt; machine.steps(), made as u64);
-    assert_lines(rt, machine, &wanted[..made]);
-}
-
-/// Makes the rest of the run with ample memory.
-fn go_on<A: Allocator + Copy>(
-    rt: &impl Abort,
-    meter: &Meter,
-    machine: &mut Machine<A>,
-    wanted: &[&str],
-) -> Result<(), Memory> {
-    meter.allow(AMPLE);
-    assert_eq!(rt; run_alone(machine, 100)?, Stepped::Ended);
-    assert_stands(rt, machine, Status::Done, (wanted.len() as u64, 0));
-    assert_lines(rt, machine, wanted);
-    Ok(())
-}
-
-/// How a step is made: with its own search, or as `top` asks.
-#[derive(Clone, Copy, Drop)]
-enum By<A> {
-    Itself,
-    Asking(A),
-}
-
-/// One transition with so many growths.
-fn step_by<A: Allocator + Copy>(
-    by: By<A>,
-    meter: &Meter,
-    machine: &mut Machine<A>,
-    left: u64,
-) -> Result<Stepped, Memory> {
-    match by {
-        By::Itself => {
-            meter.allow(left);
-            step(machine)
-        }
-        By::Asking(alloc) => step_asked(alloc, meter, machine, left),
-    }
-}
-
-/// Whether the next step goes through with so many growths. Refused, it leaves the machine as before, and then goes through with memory.
-fn is_stepped<A: Allocator + Copy>(
-    rt: &impl Abort,
-    by: By<A>,
-    meter: &Meter,
-    machine: &mut Machine<A>,
-    left: u64,
-) -> Result<bool, Memory> {
-    let before = sizes_of(machine);
-    let is_made = step_by(by, meter, machine, left).is_ok();
-    assert_refused(rt, meter, left, !is_made);
-    if !is_made {
-        assert_eq!(rt; sizes_of(machine), before, "{left}");
-        meter.allow(AMPLE);
-        assert_eq!(rt; step_by(by, meter, machine, AMPLE)?, Stepped::Moved);
-    }
-    assert_eq!(rt; machine.steps(), before.steps.saturating_add(1));
-    Ok(is_made)
-}
-
-/// The same of the step after so many, whose run then goes on as ever.
-fn is_stepped_after<A: Allocator + Copy>(
-    rt: &impl Abort,
-    by: By<A>,
-    meter: &Meter,
-    machine: &mut Machine<A>,
-    wanted: &[&str],
-    (done, left): (u64, u64),
-) -> Result<bool, Memory> {
-    run_alone(machine, done)?;
-    let is_made = is_stepped(rt, by, meter, machine, left)?;
-    assert_begun(rt, machine, wanted);
-    go_on(rt, meter, machine, wanted)?;
-    Ok(is_made)
-}
-
-/// Whether `run_alone` goes through with so many growths. Refused, it stands after whole transitions, and the run then goes on as ever.
-fn is_run<A: Allocator + Copy>(
-    rt: &impl Abort,
-    meter: &Meter,
-    machine: &mut Machine<A>,
-    wanted: &[&str],
-    left: u64,
-) -> Result<bool, Memory> {
-    meter.allow(left);
-    let is_made = run_alone(machine, 100).is_ok();
-    assert_refused(rt, meter, left, !is_made);
-    assert_begun(rt, machine, wanted);
-    assert_eq!(rt; machine.status() == Status::Done, is_made, "{left}");
-    go_on(rt, meter, machine, wanted)?;
-    Ok(is_made)
-}
-
-/// Whether `tasks` goes through with so many growths. The machine stands as before, and `tasks` then goes through with memory.
-fn are_told<A: Allocator + Copy>(
-    rt: &impl Abort,
-    meter: &Meter,
-    machine: &mut Machine<A>,
-    (done, left): (u64, u64),
-) -> Result<bool, Memory> {
-    run_alone(machine, done)?;
-    let before = sizes_of(machine);
-    meter.allow(left);
-    let is_made = tasks(machine).is_ok();
-    assert_refused(rt, meter, left, !is_made);
-    assert_eq!(rt; sizes_of(machine), before, "{left}");
-    meter.allow(AMPLE);
-    assert_tasks(rt, machine, &[(3, 1), (2, 1), (2, 2)])?;
-    Ok(is_made)
+/// The number of transitions, with no clause.
+fn steps_of<A: Allocator>(machine: &Machine<A>) -> usize {
+    machine.steps() as usize
 }
 
 /// Whether `Machine::start` goes through with so many growths.
-fn is_started<A: Allocator + Copy>(
-    rt: &impl Abort,
-    alloc: A,
-    meter: &Meter,
-    example: Example,
-    left: u64,
-) -> Result<bool, Fail> {
+fn machine_made(meter: &Refusing<Global>, rt: &impl Abort, left: u64) -> Result<bool, Fail> {
     meter.allow(AMPLE);
-    let (program, query) = both_of(alloc, example.program, example.query)?;
-    let goals = query.goals.len();
+    let (program, query) = both_of(meter, GROUND_PROGRAM, GROUND_QUERY)?;
     meter.allow(left);
-    let made = start(alloc, &program, query);
-    assert_refused(rt, meter, left, made.is_err());
+    let made = started(meter, rt, &program, query);
+    assert_refused(meter, rt, left, made.is_err());
     match made {
         Ok(machine) => {
-            assert_stands(rt, &machine, Status::Running, (0, goals));
+            assert_stands(rt, &machine, Status::Running, 0);
+            assert_sizes(rt, &machine, (2, 0, 0));
             Ok(true)
         }
         Err(_) => Ok(false),
     }
 }
 
-/// A call that is tried with ever more growths.
-#[derive(Clone, Copy, Drop)]
-enum Call {
-    /// After so many transitions.
-    Steps(u64),
-    /// The same, as `top` asks.
-    Asked(u64),
-    /// `tasks`, after so many transitions.
-    Tells(u64),
-    Runs,
-    /// A run as `top` asks, which nothing is refused.
-    RunsAsked,
-    /// The same of `ground_rule`.
-    RunsGround,
-}
-
-/// Whether the call goes through with so many growths, by a machine at its start.
-///
-/// For any allocator, here and above: proofs for the meter as the allocator would take much longer.
-fn is_through<A: Allocator + Copy>(
-    rt: &impl Abort,
-    alloc: A,
-    meter: &Meter,
-    example: Example,
-    (call, left): (Call, u64),
-) -> Result<bool, Fail> {
-    meter.allow(AMPLE);
-    let (program, query) = both_of(alloc, example.program, example.query)?;
-    let mut machine = start(alloc, &program, query)?;
-    let is_made = match call {
-        Call::Steps(done) => {
-            let at = (done, left);
-            is_stepped_after(rt, By::Itself, meter, &mut machine, example.lines, at)?
-        }
-        Call::Asked(done) => {
-            let (by, at) = (By::Asking(alloc), (done, left));
-            is_stepped_after(rt, by, meter, &mut machine, example.lines, at)?
-        }
-        Call::Tells(done) => are_told(rt, meter, &mut machine, (done, left))?,
-        Call::Runs => is_run(rt, meter, &mut machine, example.lines, left)?,
-        Call::RunsAsked => {
-            run_asked(rt, alloc, meter, &mut machine, example.lines)?;
-            true
-        }
-        Call::RunsGround => {
-            run_asked(rt, alloc, meter, &mut machine, example.lines)?;
-            assert_ground_end(rt, &machine);
-            true
-        }
-    };
-    Ok(is_made)
-}
-
-/// That the call is refused at least so often, and goes through in the end. How often it is refused, which is how many growths it asks for.
-fn assert_call(
-    rt: &impl Abort,
-    alloc: Global,
-    example: Example,
-    call: Call,
-    least: u64,
-) -> Result<u64, Fail> {
-    let meter = Refusing::new(alloc, 0);
-    let refused = refused_in_turn(MOST, |left| {
-        is_through(rt, &meter, &meter, example, (call, left))
-    })?;
-    assert!(rt;
-        refused >= least && refused < MOST,
-        "{refused} {}",
-        example.query
-    );
-    Ok(refused)
-}
-
 #[test]
 fn start_refused(rt: HostRuntime) -> Result<(), Fail> {
     let meter = Refusing::new(rt.alloc(), 0);
-    for example in EXAMPLES {
-        let refused = refused_in_turn(MOST, |left| {
-            is_started(&rt, &meter, &meter, example, left)
-        })?;
-        assert!(&rt;
-            refused > 0 && refused < MOST,
-            "{refused} {}",
-            example.query
-        );
-    }
+    let refused = refused_in_turn(MOST, |left| machine_made(&meter, &rt, left))?;
+    assert!(&rt; refused > 0 && refused < MOST, "{refused}");
     Ok(())
 }
 
-/// Each step needs room for its line at least.
+/// Makes the rest of the run with ample memory.
+fn go_on(
+    meter: &Refusing<Global>,
+    rt: &impl Abort,
+    machine: &mut Machine<&Refusing<Global>>,
+) -> Result<(), Memory> {
+    meter.allow(AMPLE);
+    assert_eq!(rt; run_alone(machine, 100)?, Stepped::Ended);
+    assert_ground_end(rt, machine);
+    Ok(())
+}
+
+/// Whether the step after so many transitions goes through with so many growths. The run then ends as ever.
+fn is_stepped(
+    meter: &Refusing<Global>,
+    rt: &impl Abort,
+    machine: &mut Machine<&Refusing<Global>>,
+    done: usize,
+    left: u64,
+) -> Result<bool, Memory> {
+    run_alone(machine, done as u64)?;
+    meter.allow(left);
+    let made = step(machine).is_ok();
+    assert_refused(meter, rt, left, !made);
+    assert_after(rt, machine, done.saturating_add(made as usize));
+    go_on(meter, rt, machine)?;
+    Ok(made)
+}
+
+/// The same with a new machine.
+fn step_made(
+    meter: &Refusing<Global>,
+    rt: &impl Abort,
+    done: usize,
+    left: u64,
+) -> Result<bool, Fail> {
+    meter.allow(AMPLE);
+    let (program, query) = both_of(meter, GROUND_PROGRAM, GROUND_QUERY)?;
+    let mut machine = started(meter, rt, &program, query)?;
+    Ok(is_stepped(meter, rt, &mut machine, done, left)?)
+}
+
 #[test]
 fn step_refused(rt: HostRuntime) -> Result<(), Fail> {
-    for example in EXAMPLES {
-        for done in 0..example.lines.len() {
-            assert_call(&rt, rt.alloc(), example, Call::Steps(done as u64), 1)?;
-        }
+    let meter = Refusing::new(rt.alloc(), 0);
+    for done in 0..7usize {
+        let refused = refused_in_turn(MOST, |left| step_made(&meter, &rt, done, left))?;
+        assert!(&rt; refused > 0 && refused < MOST, "{refused} after {done}");
     }
     Ok(())
 }
 
-/// A step needs room for its line at least, also one without a search or with the answer handed in.
-#[test]
-fn asked_step_refused(rt: HostRuntime) -> Result<(), Fail> {
-    for example in [GCD, WAKING_ORDER] {
-        for done in 0..example.lines.len() {
-            assert_call(&rt, rt.alloc(), example, Call::Asked(done as u64), 1)?;
-        }
-    }
-    Ok(())
+/// Whether `run_alone` goes through with so many growths. It stands after whole transitions, and then ends as ever.
+fn is_run(
+    meter: &Refusing<Global>,
+    rt: &impl Abort,
+    machine: &mut Machine<&Refusing<Global>>,
+    left: u64,
+) -> Result<bool, Memory> {
+    meter.allow(left);
+    let made = run_alone(machine, 100).is_ok();
+    assert_refused(meter, rt, left, !made);
+    let done = steps_of(machine);
+    assert_eq!(rt; made, done == 7);
+    assert_after(rt, machine, done);
+    go_on(meter, rt, machine)?;
+    Ok(made)
 }
 
-/// After six steps of `speculation`.
-#[test]
-fn tasks_refused(rt: HostRuntime) -> Result<(), Fail> {
-    assert_call(&rt, rt.alloc(), SPECULATION, Call::Tells(6), 1)?;
-    Ok(())
-}
-
-/// `ground_rule` by `step_plain`, and by `step_with` of what `find` finds; and the other examples.
-#[test]
-fn runs_as_asked(rt: HostRuntime) -> Result<(), Fail> {
-    assert_call(&rt, rt.alloc(), GROUND_RULE, Call::RunsGround, 0)?;
-    for example in [GCD, PROPAGATE_THEN_SIMPLIFY, WAKING_ORDER, SPECULATION] {
-        assert_call(&rt, rt.alloc(), example, Call::RunsAsked, 0)?;
-    }
-    Ok(())
-}
-
-/// A step that makes its search takes more than one that is handed the answer, whether a firing is found or none is.
-#[test]
-fn own_search_takes_more(rt: HostRuntime) -> Result<(), Fail> {
-    for (example, done) in [
-        (GROUND_RULE, 1),
-        (GROUND_RULE, 5),
-        (SPECULATION, 6),
-        (SPECULATION, 11),
-    ] {
-        let answered = assert_call(&rt, rt.alloc(), example, Call::Asked(done), 1)?;
-        let searched = assert_call(&rt, rt.alloc(), example, Call::Steps(done), 1)?;
-        assert!(&rt; searched > answered, "{searched} {answered} after {done}");
-    }
-    Ok(())
+/// The same with a new machine.
+fn run_made(meter: &Refusing<Global>, rt: &impl Abort, left: u64) -> Result<bool, Fail> {
+    meter.allow(AMPLE);
+    let (program, query) = both_of(meter, GROUND_PROGRAM, GROUND_QUERY)?;
+    let mut machine = started(meter, rt, &program, query)?;
+    Ok(is_run(meter, rt, &mut machine, left)?)
 }
 
 #[test]
 fn run_alone_refused(rt: HostRuntime) -> Result<(), Fail> {
-    for example in EXAMPLES {
-        let least = example.lines.len() as u64;
-        assert_call(&rt, rt.alloc(), example, Call::Runs, least)?;
+    let meter = Refusing::new(rt.alloc(), 0);
+    let refused = refused_in_turn(MOST, |left| run_made(&meter, &rt, left))?;
+    assert!(&rt; refused > 7 && refused < MOST, "{refused}");
+    Ok(())
+}
+
+/// Adds `p(n)` as the constraint n, at first with no growth left, and says whether that was refused.
+fn is_add_refused<'m>(
+    meter: &'m Refusing<Global>,
+    rt: &impl Abort,
+    store: &mut Store<&'m Refusing<Global>>,
+    number: u32,
+) -> Result<bool, Memory> {
+    let given = store.slots().len();
+    meter.allow(AMPLE);
+    let args = one(meter, Term::Int(number as i128))?;
+    meter.allow(0);
+    let added = store.add(P, args);
+    assert_refused(meter, rt, 0, added.is_err());
+    match added {
+        Ok(id) => {
+            assert_eq!(rt; id.0, number as u64);
+            Ok(false)
+        }
+        Err((back, _)) => {
+            assert!(rt; is_number(back.as_slice(), number as i128));
+            assert_eq!(rt; store.slots().len(), given);
+            assert!(rt; !store.alive(Id(number as u64)));
+            meter.allow(1);
+            assert!(rt; store.add(P, back).is_ok());
+            Ok(true)
+        }
     }
+}
+
+#[test]
+fn add_refused(rt: HostRuntime) -> Result<(), Fail> {
+    let meter = Refusing::new(rt.alloc(), 0);
+    let mut store = Store::new(&meter);
+    let mut refused = 0u64;
+    for number in 1..100u32 {
+        if is_add_refused(&meter, &rt, &mut store, number)? {
+            refused = refused.saturating_add(1);
+        }
+        assert!(&rt; has_row(&store, number as u64, P, number as i128));
+    }
+    assert!(&rt; refused > 1 && refused < 99, "{refused}");
     Ok(())
 }

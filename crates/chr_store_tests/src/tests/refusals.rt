@@ -1,7 +1,7 @@
 //! Each growth of a call refused in turn: that the refusal is a growth's, what stands after it, and that the call then goes on.
 use super::*;
 use refusing_alloc::{Refusing, refused_in_turn};
-use std::alloc::{Allocator, Global};
+use std::alloc::Global;
 
 /// More growths than a call of these tests asks for.
 const AMPLE: u64 = 1_000_000;
@@ -10,15 +10,18 @@ const AMPLE: u64 = 1_000_000;
 const MOST: u64 = 60;
 
 /// A store of p(1), of p(X) and of q, from which one of each key can be told.
-fn store_of<M: Allocator + Copy>(alloc: M, rt: &impl Abort) -> Result<Store<M>, Memory> {
-    let mut store = Store::new(alloc);
-    add(rt, &mut store, P, one(alloc, Term::Int(1))?)?;
-    add(rt, &mut store, P, one(alloc, Term::Var(0))?)?;
-    add(rt, &mut store, Q, Vec::new(alloc))?;
+fn store_of<'m>(
+    meter: &'m Refusing<Global>,
+    rt: &impl Abort,
+) -> Result<Store<&'m Refusing<Global>>, Memory> {
+    let mut store = Store::new(meter);
+    add(rt, &mut store, P, one(meter, Term::Int(1))?)?;
+    add(rt, &mut store, P, one(meter, Term::Var(0))?)?;
+    add(rt, &mut store, Q, Vec::new(meter))?;
     Ok(store)
 }
 
-fn assert_before<M: Allocator>(rt: &impl Abort, store: &Store<M>) {
+fn assert_before(rt: &impl Abort, store: &Store<&Refusing<Global>>) {
     assert_ids(rt, store.rows_of(P), &[1, 2]);
     assert_ids(rt, store.rows_of(A), &[]);
     assert_ids(rt, store.rows_keyed(P, None), &[2]);
@@ -30,17 +33,10 @@ fn assert_before<M: Allocator>(rt: &impl Abort, store: &Store<M>) {
 
 /// Whether `add` of a constraint of a new symbol goes through with so many growths. After a refusal the arguments come back, and the
 /// same call with ample memory goes through.
-///
-/// For any allocator, here and below: proofs for the meter as the allocator would take much longer.
-fn is_added<M: Allocator + Copy>(
-    alloc: M,
-    meter: &Refusing<Global>,
-    rt: &impl Abort,
-    left: u64,
-) -> Result<bool, Memory> {
+fn is_added(meter: &Refusing<Global>, rt: &impl Abort, left: u64) -> Result<bool, Memory> {
     meter.allow(AMPLE);
-    let mut store = store_of(alloc, rt)?;
-    let args = one(alloc, Term::Node(Q, one(alloc, Term::Var(0))?))?;
+    let mut store = store_of(meter, rt)?;
+    let args = one(meter, Term::Node(Q, one(meter, Term::Var(0))?))?;
     meter.allow(left);
     assert!(rt; store.changes() < MAX_CHANGES);
     let answer = store.add(A, args);
@@ -63,21 +59,16 @@ fn is_added<M: Allocator + Copy>(
 #[test]
 fn add_refused(rt: HostRuntime) -> Result<(), Fail> {
     let meter = Refusing::new(rt.alloc(), 0);
-    let refused = refused_in_turn(MOST, |left| is_added(&meter, &meter, &rt, left))?;
+    let refused = refused_in_turn(MOST, |left| is_added(&meter, &rt, left))?;
     assert!(&rt; refused > 0 && refused < MOST, "{refused}");
     Ok(())
 }
 
 /// Whether `woken` goes through with so many growths.
-fn are_woken<M: Allocator + Copy>(
-    alloc: M,
-    meter: &Refusing<Global>,
-    rt: &impl Abort,
-    left: u64,
-) -> Result<bool, Memory> {
+fn are_woken(meter: &Refusing<Global>, rt: &impl Abort, left: u64) -> Result<bool, Memory> {
     meter.allow(AMPLE);
-    let store = store_of(alloc, rt)?;
-    let mut bindings = Bindings::new(alloc);
+    let store = store_of(meter, rt)?;
+    let mut bindings = Bindings::new(meter);
     bindings.fresh(1)?;
     meter.allow(left);
     let answer = store.woken(&bindings);
@@ -94,21 +85,16 @@ fn are_woken<M: Allocator + Copy>(
 #[test]
 fn woken_refused(rt: HostRuntime) -> Result<(), Fail> {
     let meter = Refusing::new(rt.alloc(), 0);
-    let refused = refused_in_turn(MOST, |left| are_woken(&meter, &meter, &rt, left))?;
+    let refused = refused_in_turn(MOST, |left| are_woken(&meter, &rt, left))?;
     assert!(&rt; refused > 0 && refused < MOST, "{refused}");
     Ok(())
 }
 
 /// Whether `put` of a firing goes through with so many growths. A refused one counts for nothing.
-fn is_put<M: Allocator + Copy>(
-    alloc: M,
-    meter: &Refusing<Global>,
-    rt: &impl Abort,
-    left: u64,
-) -> Result<bool, Memory> {
+fn is_put(meter: &Refusing<Global>, rt: &impl Abort, left: u64) -> Result<bool, Memory> {
     meter.allow(AMPLE);
-    let mut history = History::new(alloc);
-    let new = fired(alloc, 5, 2, 1)?;
+    let mut history = History::new(meter);
+    let new = fired(meter, 5, 2, 1)?;
     meter.allow(left);
     let answer = history.put(new);
     assert_eq!(rt; meter.asked() > left, answer.is_err(), "{left}");
@@ -116,14 +102,14 @@ fn is_put<M: Allocator + Copy>(
     let done = answer.is_ok();
     assert_eq!(rt; history.stamp(5), u64::from(done));
     assert_eq!(rt; history.list().len(), usize::from(done));
-    assert_eq!(rt; history.put(fired(alloc, 5, 2, 1)?)?, !done);
+    assert_eq!(rt; history.put(fired(meter, 5, 2, 1)?)?, !done);
     Ok(done)
 }
 
 #[test]
 fn put_refused(rt: HostRuntime) -> Result<(), Fail> {
     let meter = Refusing::new(rt.alloc(), 0);
-    let refused = refused_in_turn(MOST, |left| is_put(&meter, &meter, &rt, left))?;
+    let refused = refused_in_turn(MOST, |left| is_put(&meter, &rt, left))?;
     assert!(&rt; refused > 0 && refused < MOST, "{refused}");
     Ok(())
 }

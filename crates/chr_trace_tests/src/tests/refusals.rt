@@ -9,19 +9,16 @@ const AMPLE: u64 = 1_000_000;
 const MOST: u64 = 200;
 
 /// Whether a line goes through with so many growths.
-///
-/// For any allocator, here and below: proofs for the meter as the allocator would take much longer.
-fn is_made<M: Allocator + Copy>(
-    alloc: M,
+fn is_made(
     meter: &Refusing<Global>,
     rt: &impl Abort,
     (kind, wanted): (Kind, &str),
     left: u64,
 ) -> Result<bool, Fail> {
     meter.allow(AMPLE);
-    let scene = scene_of(alloc, rt, QUERY, P)?;
+    let scene = scene_of(meter, rt, QUERY, P)?;
     meter.allow(left);
-    let made = line_of(alloc, rt, &scene, kind);
+    let made = line_of(meter, rt, &scene, kind);
     assert_eq!(rt; meter.asked() > left, made.is_err(), "{left}");
     match made {
         Ok(line) => {
@@ -36,10 +33,7 @@ fn is_made<M: Allocator + Copy>(
 fn line_refused(rt: HostRuntime) -> Result<(), Fail> {
     let meter = Refusing::new(rt.alloc(), 0);
     for (kind, wanted) in LINES {
-        let refused = refused_in_turn(
-            MOST,
-            |left| is_made(&meter, &meter, &rt, (kind, wanted), left),
-        )?;
+        let refused = refused_in_turn(MOST, |left| is_made(&meter, &rt, (kind, wanted), left))?;
         assert!(&rt; refused > 0 && refused < MOST, "{refused} {wanted}");
     }
     Ok(())
@@ -62,16 +56,11 @@ fn ground_line_takes_one_growth(rt: HostRuntime) -> Result<(), Fail> {
 
 /// Whether the ending goes through with so many growths. After a refusal the text is as before, and the same call with ample memory goes
 /// through.
-fn is_ended<M: Allocator + Copy>(
-    alloc: M,
-    meter: &Refusing<Global>,
-    rt: &impl Abort,
-    left: u64,
-) -> Result<bool, Fail> {
+fn is_ended(meter: &Refusing<Global>, rt: &impl Abort, left: u64) -> Result<bool, Fail> {
     meter.allow(AMPLE);
-    let scene = scene_of(alloc, rt, QUERY, P)?;
-    let parts = parts_of(alloc, rt, &scene)?;
-    let mut out = text(alloc, "before\n")?;
+    let scene = scene_of(meter, rt, QUERY, P)?;
+    let parts = parts_of(meter, rt, &scene)?;
+    let mut out = text(meter, "before\n")?;
     meter.allow(left);
     let done = ending(&scene, &parts).write(&mut out).is_ok();
     assert_eq!(rt; meter.asked() > left, !done, "{left}");
@@ -80,7 +69,7 @@ fn is_ended<M: Allocator + Copy>(
         assert_eq!(rt; out.as_slice(), b"before\n".as_slice());
         ending(&scene, &parts).write(&mut out)?;
     }
-    let wanted = format!(in alloc; "before\n{ENDING}")?;
+    let wanted = format!(in meter; "before\n{ENDING}")?;
     assert_eq!(rt; out.as_slice(), wanted.as_bytes());
     Ok(done)
 }
@@ -88,24 +77,19 @@ fn is_ended<M: Allocator + Copy>(
 #[test]
 fn ending_refused(rt: HostRuntime) -> Result<(), Fail> {
     let meter = Refusing::new(rt.alloc(), 0);
-    let refused = refused_in_turn(MOST, |left| is_ended(&meter, &meter, &rt, left))?;
+    let refused = refused_in_turn(MOST, |left| is_ended(&meter, &rt, left))?;
     assert!(&rt; refused > 0 && refused < MOST, "{refused}");
     Ok(())
 }
 
 /// Whether lines go through with so many growths.
-fn are_written<M: Allocator + Copy>(
-    alloc: M,
-    meter: &Refusing<Global>,
-    rt: &impl Abort,
-    left: u64,
-) -> Result<bool, Memory> {
+fn are_written(meter: &Refusing<Global>, rt: &impl Abort, left: u64) -> Result<bool, Memory> {
     meter.allow(AMPLE);
-    let mut lines = Vec::new(alloc);
+    let mut lines = Vec::new(meter);
     for (_, line) in LINES {
-        lines.push(text(alloc, line)?)?;
+        lines.push(text(meter, line)?)?;
     }
-    let mut out = text(alloc, "before\n")?;
+    let mut out = text(meter, "before\n")?;
     meter.allow(left);
     let done = write_lines(lines.as_slice(), &mut out).is_ok();
     assert_eq!(rt; meter.asked() > left, !done, "{left}");
@@ -119,7 +103,7 @@ fn are_written<M: Allocator + Copy>(
 #[test]
 fn write_lines_refused(rt: HostRuntime) -> Result<(), Fail> {
     let meter = Refusing::new(rt.alloc(), 0);
-    let refused = refused_in_turn(MOST, |left| are_written(&meter, &meter, &rt, left))?;
+    let refused = refused_in_turn(MOST, |left| are_written(&meter, &rt, left))?;
     assert!(&rt; refused > 0 && refused < MOST, "{refused}");
     Ok(())
 }

@@ -1,0 +1,21 @@
+-- The slots of a store as the rows that it holds.
+use Rattle.std.specs.Prelude.{◌≡◌, ℕ, ◌+◌, ◌==◌, not, filter, List, [], ◌∷◌, Option, Some, None}
+use Rattle.chr_semantics.specs.Search.{atom_of}
+use Rattle.chr_semantics.specs.Program.{Atom}
+use Rattle.chr_term.specs.TermView.{atom_view}
+use Rattle.chr_semantics.specs.Match as semantics
+use Rattle.chr_machine.specs.declared.store.Row.{Row}
+
+abbrev pub row_atom : {A : Type 0} → Row A → Atom
+row_atom r = atom_view r.sym r.args.items
+
+-- the rows in slots whose first has the identity k
+abbrev pub rows_from : {A : Type 0} → ℕ → List (Option (Row A)) → List semantics.Row
+rows_from k [] = []
+rows_from k (None ∷ slots) = rows_from (k + 1) slots
+rows_from k (Some r ∷ slots) = (k, row_atom r) ∷ rows_from (k + 1) slots
+
+-- no row has the identity
+pub record IsAbsent (rows : List semantics.Row) (i : ℕ) : Type 0 where
+  pub no_atom : atom_of rows i ≡ None
+  pub kept : filter (λ (row : semantics.Row). not (row.0 == i)) rows ≡ rows
