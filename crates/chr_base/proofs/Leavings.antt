@@ -1,14 +1,14 @@
 -- Constraints that leave one after another.
-use Rattle.std.proofs.Common.{◌≡◌, ◌∙◌, ◌≢◌, ◌<◌, ◌≤◌, ◌+◌, ◌-◌, ◌==◌, ℕ, zero, suc, Bool, true, false, true≢false, cond, List, [], ◌∷◌, ◌++◌, Option, Some, None, ap, refl, subst, sym, get_or, drop, take, length, map, min, nat_lt, arith}
+use Rattle.std.proofs.Common.{◌≡◌, ◌∙◌, ◌≢◌, ◌<◌, ◌≤◌, ◌+◌, ◌-◌, ◌==◌, ◌&&◌, ◌||◌, ℕ, zero, suc, Bool, true, false, true≢false, cond, List, [], ◌∷◌, ◌++◌, Option, Some, None, ap, refl, subst, sym, get_or, drop, take, length, map, min, nat_lt, arith}
 use Rattle.std.specs.Prelude.{All, AllPairs, is_some, reverse}
 use Rattle.std.specs.List.{list_all}
-use Rattle.std.proofs.lemmas.Bool.{and_parts, ne_eqb}
+use Rattle.std.proofs.lemmas.Bool.{and_parts, eq-eqb, ne_eqb}
 use Rattle.std.proofs.lemmas.List.{length-append, length-drop, reverse-append}
 use Rattle.std.proofs.lemmas.List.Elements.{All-head, All-tail}
 use Rattle.chr_semantics.proofs.Lists.{AllPairs-head, AllPairs-tail}
 use Rattle.chr_semantics.specs.Changes.{Entries, Store, removed, removed_as}
 use Rattle.chr_semantics.specs.Program.{Atom}
-use Rattle.chr_semantics.specs.Search.{atom_of}
+use Rattle.chr_semantics.specs.Search.{atom_of, has_number}
 use Rattle.chr_semantics.specs.State.{resolved_atom}
 use Rattle.chr_semantics.specs.Subst.{Subst}
 use Rattle.chr_store.specs.Rows.{row_atom}
@@ -27,6 +27,21 @@ pub passes_drop : (test : ℕ → Bool) (k : ℕ) (ids : List ℕ) → list_all 
 passes_drop test zero ids h = h
 passes_drop test (suc k) [] h = h
 passes_drop test (suc k) (i ∷ ids) h = passes_drop test k ids (and_parts (test i) (list_all test ids) h).1
+
+among_more : (j : ℕ) (ids is : List ℕ) → list_all (has_number ids) is ≡ true → list_all (has_number (j ∷ ids)) is ≡ true
+among_more j ids [] h = refl
+among_more j ids (i ∷ is) h =
+    let parts = and_parts (has_number ids i) (list_all (has_number ids) is) h in
+    (λ k. or_right (i == j) (has_number ids i) parts.0 k && among_more j ids is parts.1 k)
+  where
+    or_right : (b d : Bool) → d ≡ true → (b || d) ≡ true
+    or_right true d e = refl
+    or_right false d e = e
+
+-- each of a list is among them
+pub all_among : (ids : List ℕ) → list_all (has_number ids) ids ≡ true
+all_among [] = refl
+all_among (i ∷ ids) = (λ k. (eq-eqb i i refl k || has_number ids i) && among_more i ids ids (all_among ids) k)
 
 pub different_drop : (k : ℕ) (ids : List ℕ) → AllPairs (λ i j. i ≢ j) ids → AllPairs (λ i j. i ≢ j) (drop k ids)
 different_drop zero ids h = h

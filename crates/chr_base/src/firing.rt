@@ -2,7 +2,7 @@
 ghost use Rattle.std.specs.Prelude.{◌≡◌, ◌≢◌, ◌≤◌, ◌<◌, ◌+◌, All, AllPairs, IfOk, ℕ, OnErr, OnOk, drop, false, length, reverse, true};
 ghost use Rattle.std.specs.List.{fold, list_all};
 ghost use Rattle.chr_semantics.specs.Changes.{entered, removed};
-ghost use Rattle.chr_semantics.specs.Search.{fired_before};
+ghost use Rattle.chr_semantics.specs.Search.{fired_before, has_number};
 ghost use Rattle.chr_semantics.specs.declared.limits.TheConstants.{MAX_CHANGES};
 ghost use Rattle.chr_store.specs.Numbers.{numbers};
 ghost use Rattle.chr_store.specs.Rows.{row_atom};
@@ -118,6 +118,79 @@ impl<A: Allocator + Copy> Base<A> {
         Ok(())
     }
 
+    /// The same where one of the constraints is removed: what fired with it is then not in the table, so it is never put there.
+    fn enter_without(
+        &mut self,
+        rule: usize,
+        ids: &[u64],
+        variables: usize,
+        leaving: Leaving<A>,
+    ) -> Result<(), Memory>
+        requires alive { list_all (is_alive (base_view self.old).store) ids.now ≡ true }
+        requires is_new { fired_before (base_view self.old).entries.list rule ids.now ≡ false }
+        requires spare { variables ≤ self.old.bindings.spare }
+        requires few { (base_view self.old).store.changes < MAX_CHANGES }
+        requires room { HasRoom 1 self.old.table }
+        requires there { atom_at self.old.table leaving.id.0 ≡ Some (row_atom leaving.row) }
+        requires among { has_number ids.now leaving.id.0 ≡ true }
+        ensures ok { OnOk result (base_view self.new
+            ≡ record (base_view self.old) {
+              store = removed (base_view self.old).store leaving.id.0;
+              entries = entered (base_view self.old).entries rule ids.now;
+              next_var = (base_view self.old).next_var + variables;
+            }) }
+        ensures err { OnErr result (base_view self.new ≡ base_view self.old) }
+        ensures atoms { OnOk result ((i : ℕ) → atom_at self.new.table i
+            ≡ atoms_with (atom_at self.old.table) leaving.id.0 None i) }
+        ensures room { OnOk result ((n : ℕ) → HasRoom (n + 1) self.old.table → HasRoom n self.new.table) }
+    {
+        let entry = identities(self.alloc, ids)?;
+        self.history.put(Fired { rule, ids: entry })?;
+        match self.bindings.fresh(variables) {
+            Ok(_) => {}
+            Err(_) => unreachable!(),
+        }
+        let Leaving { id, row } = leaving;
+        self.store.remove(id);
+        self.table.remove(id, row);
+        Ok(())
+    }
+
+    /// Enters a firing, makes so many variables, and removes those of its constraints that leave, the last one first, with room for all.
+    fn enter_all(
+        &mut self,
+        rule: usize,
+        ids: &[u64],
+        variables: usize,
+        mut leaving: Vec<Leaving<A>, A>,
+    ) -> Result<(), Memory>
+        requires short { length ids.now ≤ 8 }
+        requires alive { list_all (is_alive (base_view self.old).store) ids.now ≡ true }
+        requires is_new { fired_before (base_view self.old).entries.list rule ids.now ≡ false }
+        requires spare { variables ≤ self.old.bindings.spare }
+        requires few { (base_view self.old).store.changes + length leaving.items ≤ MAX_CHANGES }
+        requires room { HasRoom (length leaving.items + 1) self.old.table }
+        requires there { AreStanding (atom_at self.old.table) (reverse leaving.items) }
+        requires different { AllPairs (λ i j. i ≢ j) (leaving_ids leaving.items) }
+        requires among { list_all (has_number ids.now) (leaving_ids leaving.items) ≡ true }
+        ensures ok { OnOk result (base_view self.new
+            ≡ record (base_view self.old) {
+              store = fold removed (base_view self.old).store (leaving_ids leaving.items);
+              entries = entered (base_view self.old).entries rule ids.now;
+              next_var = (base_view self.old).next_var + variables;
+            }) }
+        ensures err { OnErr result (base_view self.new ≡ base_view self.old) }
+    {
+        match leaving.pop() {
+            None => self.enter(rule, ids, variables),
+            Some(first) => {
+                self.enter_without(rule, ids, variables, first)?;
+                self.take_out_all(leaving);
+                Ok(())
+            }
+        }
+    }
+
     /// A rule fires with constraints, given in head order, of which the first `kept` stay and the others are removed; its body has so
     /// many new variables. Where memory is refused, nothing changes.
     pub fn fire(
@@ -144,8 +217,6 @@ impl<A: Allocator + Copy> Base<A> {
         let leaving = self.leaving(&ids[kept.min(ids.len())..])?;
         self.table.room(leaving.len() + 1)?;
         self.bindings.room(variables)?;
-        self.enter(rule, ids, variables)?;
-        self.take_out_all(leaving);
-        Ok(())
+        self.enter_all(rule, ids, variables, leaving)
     }
 }

@@ -35,7 +35,10 @@ FitsTo result ps ts old new = (m : Subst) → Agrees old m → MatchBool result 
 abbrev pub FitsTermTo : {A : Type 0} → Bool → Tree → Tree → Slots A → Slots A → Type 0
 FitsTermTo result p t old new = (m : Subst) → Agrees old m → MatchBool result ((n : Subst) × (fit p t m ≡ Some n) × Agrees new n) (fit p t m ≡ None)
 
--- where there is an extension of the match, it is the new match, and where there is none, the match is as it was
+-- where there is an extension of the match, it is the new match
+abbrev pub FitsOrSpoils : {A : Type 0} → Bool → Trees → Trees → Match A → Match A → Type 0
+FitsOrSpoils result ps ts old new = (m : Subst) → AgreesWith old m → MatchBool result ((n : Subst) × (fit_all ps ts m ≡ Some n) × AgreesWith new n) (fit_all ps ts m ≡ None)
+
+-- the same, and where there is none, the match is as it was
 abbrev pub FitsAs : {A : Type 0} → Bool → Trees → Trees → Match A → Match A → Type 0
-FitsAs result ps ts old new =
-    ((m : Subst) → AgreesWith old m → MatchBool result ((n : Subst) × (fit_all ps ts m ≡ Some n) × AgreesWith new n) (fit_all ps ts m ≡ None)) × (result ≡ false → new ≡ old)
+FitsAs result ps ts old new = FitsOrSpoils result ps ts old new × (result ≡ false → new ≡ old)

@@ -36,7 +36,7 @@ fn evaluate_node<A: Allocator>(sym: Sym, args: &[Term<A>]) -> Result<i128, Fault
 }
 
 /// The two arguments, where there are two.
-fn pair_of<A: Allocator>(args: &[Term<A>]) -> Option<(&Term<A>, &Term<A>)>
+pub(crate) fn pair_of<A: Allocator>(args: &[Term<A>]) -> Option<(&Term<A>, &Term<A>)>
     ensures { MatchOption result (length args.now ≢ 2)
         (λ pair. args.now ≡ pair.0.now ∷ pair.1.now ∷ []) }
 {
@@ -48,7 +48,7 @@ fn pair_of<A: Allocator>(args: &[Term<A>]) -> Option<(&Term<A>, &Term<A>)>
 }
 
 /// What a symbol gives for two values: nothing but a fault where it is no operator.
-fn evaluate_operator(
+pub(crate) fn evaluate_operator(
     sym: Sym,
     left: Result<i128, Fault>,
     right: Result<i128, Fault>,

@@ -2,13 +2,16 @@
 ghost use Rattle.std.specs.Prelude.{◌≡◌, ◌≤◌, ◌<◌, ◌+◌, ◌^◌, [], IfOk, OnErr, OnOk, IsTrue, ◌↔◌, length, vec_len, vec_capacity};
 ghost use Rattle.chr_semantics.specs.Tree.{is_ground_tree};
 ghost use Rattle.chr_semantics.specs.Subst.{IsSolved, apply, instances, value_at};
+ghost use Rattle.chr_semantics.specs.Value.{value as value_of};
 ghost use Rattle.chr_term.specs.TermView.{trees_view, view};
 ghost use Rattle.chr_semantics.specs.Bounds.{IsBelow};
 ghost use Rattle.chr_bind.specs.Chains.{AreSound, IsSound, Pairs, subst_of};
 ghost use Rattle.chr_bind.specs.Unified.{IsAnswer, IsUnified};
+ghost use Rattle.chr_bind.specs.Values.{value_view};
 
 use crate::Memory;
 use crate::chains::{Chains, Link};
+use crate::fault::Fault;
 use crate::unification::{Additions, take_over, unify_terms};
 use chr_term::Term;
 use std::alloc::{Allocator, Global};
@@ -154,6 +157,13 @@ impl<A: Allocator> Bindings<A> {
         ensures { result ≡ is_ground_tree (apply self.now.subst (view term.now)) }
     {
         self.chains().is_ground(term)
+    }
+
+    /// The value of the term, resolved, for which no term is made.
+    pub fn value(&self, term: &Term<A>) -> Result<i128, Fault>
+        ensures { value_view result ≡ value_of (apply self.now.subst (view term.now)) }
+    {
+        self.chains().number(term)
     }
 
     /// Whether the first term, resolved, is the second.

@@ -2,11 +2,15 @@
 ghost use Rattle.std.specs.Prelude.{◌≡◌, ◌<◌, ◌↔◌, IfOk, IsTrue, Some, ℕ, length, option_map, slice_get};
 ghost use Rattle.chr_semantics.specs.Tree.{Tree, is_ground_tree, is_ground_trees, var as variable};
 ghost use Rattle.chr_semantics.specs.Subst.{apply, occurs, occurs_any, instances, value_at};
+ghost use Rattle.chr_semantics.specs.Value.{node_value, value as value_of, values};
 ghost use Rattle.chr_term.specs.TermView.{trees_view, view};
 ghost use Rattle.chr_bind.specs.Chains.{AreSound, IsEnd, pairs_of, subst_of};
 ghost use Rattle.chr_bind.specs.Root.{IsRoot, IsWrittenRoot};
 ghost use Rattle.chr_bind.specs.Terms.{IsNoVar};
+ghost use Rattle.chr_bind.specs.Values.{value_view};
 
+use crate::arithmetic::{evaluate_operator, pair_of};
+use crate::fault::Fault;
 use chr_term::{Memory, Sym, Term};
 use std::alloc::Allocator;
 
@@ -223,5 +227,33 @@ impl<'l, 't, A: Allocator> Chains<'l, 't, A> {
             }
         }
         false
+    }
+
+    /// The value of what the term stands for.
+    #[cycle(number)]
+    pub fn number(&self, term: &'t Term<A>) -> Result<i128, Fault>
+        requires { AreSound self.now }
+        ensures { value_view result ≡ value_of (apply (subst_of self.now) (view term.now)) }
+    {
+        match self.root(term) {
+            Root::Free(_, _) => Err(Fault::Unbound),
+            Root::Int(z) => Ok(z),
+            Root::Node(sym, args) => self.node_number(sym, args),
+        }
+    }
+
+    #[cycle(number)]
+    fn node_number(&self, sym: Sym, args: &'t [Term<A>]) -> Result<i128, Fault>
+        requires { AreSound self.now }
+        ensures { value_view result
+            ≡ node_value sym.0 (values (instances (value_at (subst_of self.now)) (trees_view args.now))) }
+    {
+        match pair_of(args) {
+            Some((left, right)) => {
+                let left = self.number(left);
+                evaluate_operator(sym, left, self.number(right))
+            }
+            None => Err(Fault::NotNumber),
+        }
     }
 }

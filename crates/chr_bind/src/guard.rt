@@ -2,18 +2,20 @@
 ghost use Rattle.std.specs.Prelude.{◌≡◌, IfOk, map};
 ghost use Rattle.chr_semantics.specs.Guard.{all_entailed, entailed, value_comparison_holds, is_int};
 ghost use Rattle.chr_semantics.specs.Subst.{Subst, apply, instances, value_at};
-ghost use Rattle.chr_semantics.specs.Value.{value as value_of};
+ghost use Rattle.chr_semantics.specs.Value.{node_value, value as value_of, values};
 ghost use Rattle.chr_term.specs.TermView.{trees_view, view};
 ghost use Rattle.chr_bind.specs.Comparison.{comparison_view};
 ghost use Rattle.chr_bind.specs.Guards.{instance_view, test_view};
 ghost use Rattle.chr_bind.specs.Matching.{AgreesWith};
+ghost use Rattle.chr_bind.specs.Values.{value_view};
 
 use crate::Memory;
-use crate::arithmetic::value;
+use crate::arithmetic::{evaluate_operator, pair_of, value};
 use crate::comparison::Comparison;
+use crate::fault::Fault;
 use crate::matching::Match;
 use crate::renaming::are_unifiable;
-use chr_term::{Term, copy, is_ground, same};
+use chr_term::{Sym, Term, copy, is_ground, same};
 use std::alloc::{Allocator, Global};
 
 /// A test of a guard. Its terms are over the variables of the rule's heads.
@@ -117,25 +119,57 @@ fn made_instances<A: Allocator + Copy>(
     Ok(items)
 }
 
+/// The value of a pattern under the match, for which no term is made.
+#[cycle(matched_value)]
+fn value_under<A: Allocator>(matching: &Match<'_, A>, pattern: &Term<A>) -> Result<i128, Fault>
+    ensures { (m : Subst) → AgreesWith matching.now m →
+        value_view result ≡ value_of (apply m (view pattern.now)) }
+{
+    match pattern {
+        Term::Var(x) => match matching.get(*x) {
+            Some(matched) => value(matched),
+            None => Err(Fault::Unbound),
+        },
+        Term::Int(number) => Ok(*number),
+        Term::Node(sym, patterns) => node_value_under(matching, *sym, patterns.as_slice()),
+    }
+}
+
+/// The value of a symbol over patterns under the match.
+#[cycle(matched_value)]
+fn node_value_under<A: Allocator>(
+    matching: &Match<'_, A>,
+    sym: Sym,
+    patterns: &[Term<A>],
+) -> Result<i128, Fault>
+    ensures { (m : Subst) → AgreesWith matching.now m →
+        value_view result ≡ node_value sym.0 (values (instances (value_at m) (trees_view patterns.now))) }
+{
+    match pair_of(patterns) {
+        Some((left, right)) => {
+            let left = value_under(matching, left);
+            evaluate_operator(sym, left, value_under(matching, right))
+        }
+        None => Err(Fault::NotNumber),
+    }
+}
+
 /// Whether both sides have values, and the comparison holds of them.
-fn compares<A: Allocator + Copy>(
-    alloc: A,
+fn compares<A: Allocator>(
     matching: &Match<'_, A>,
     comparison: Comparison,
     left: &Term<A>,
     right: &Term<A>,
-) -> Result<bool, Memory>
-    ensures { IfOk result (λ so. (m : Subst) → AgreesWith matching.now m →
-        so ≡ value_comparison_holds (comparison_view comparison)
-        (value_of (apply m (view left.now))) (value_of (apply m (view right.now)))) }
+) -> bool
+    ensures { (m : Subst) → AgreesWith matching.now m →
+        result ≡ value_comparison_holds (comparison_view comparison)
+        (value_of (apply m (view left.now))) (value_of (apply m (view right.now))) }
 {
-    let left = instance_of(alloc, matching, left)?;
-    let right = instance_of(alloc, matching, right)?;
-    match (value(left.term()), value(right.term())) {
-        (Ok(left), Ok(right)) => Ok(comparison.holds(left, right)),
-        (Ok(_), Err(_)) => Ok(false),
-        (Err(_), Ok(_)) => Ok(false),
-        (Err(_), Err(_)) => Ok(false),
+    match (value_under(matching, left), value_under(matching, right)) {
+        (Ok(left), Ok(right)) => comparison.holds(left, right),
+        (Ok(_), Err(_)) => false,
+        (Err(_), Ok(_)) => false,
+        (Err(_), Err(_)) => false,
     }
 }
 
@@ -170,12 +204,12 @@ pub fn holds<A: Allocator + Copy>(
             let right = instance_of(alloc, matching, right)?;
             Ok(!are_unifiable(alloc, left.term(), right.term())?)
         }
-        Test::Less(left, right) => compares(alloc, matching, Comparison::Less, left, right),
-        Test::Greater(left, right) => compares(alloc, matching, Comparison::Greater, left, right),
-        Test::AtMost(left, right) => compares(alloc, matching, Comparison::AtMost, left, right),
-        Test::AtLeast(left, right) => compares(alloc, matching, Comparison::AtLeast, left, right),
-        Test::Equals(left, right) => compares(alloc, matching, Comparison::Equals, left, right),
-        Test::Differs(left, right) => compares(alloc, matching, Comparison::Differs, left, right),
+        Test::Less(left, right) => Ok(compares(matching, Comparison::Less, left, right)),
+        Test::Greater(left, right) => Ok(compares(matching, Comparison::Greater, left, right)),
+        Test::AtMost(left, right) => Ok(compares(matching, Comparison::AtMost, left, right)),
+        Test::AtLeast(left, right) => Ok(compares(matching, Comparison::AtLeast, left, right)),
+        Test::Equals(left, right) => Ok(compares(matching, Comparison::Equals, left, right)),
+        Test::Differs(left, right) => Ok(compares(matching, Comparison::Differs, left, right)),
         Test::Integer(term) => Ok(is_integer(instance_of(alloc, matching, term)?.term())),
         Test::Ground(term) => Ok(is_ground(instance_of(alloc, matching, term)?.term())),
     }

@@ -19,4 +19,4 @@ pub use chr_term::Memory;
 pub use comparison::Comparison;
 pub use fault::Fault;
 pub use guard::{Test, guard_holds, holds};
-pub use matching::{Match, fit};
+pub use matching::{Match, fit, fit_or_spoil};

@@ -2,7 +2,7 @@
 ghost use Rattle.std.specs.Prelude.{◌≡◌, ◌<◌, [], option_map};
 ghost use Rattle.chr_semantics.specs.Tree.{var as variable};
 ghost use Rattle.chr_term.specs.TermView.{trees_view, view};
-ghost use Rattle.chr_bind.specs.Matching.{Agrees, AgreesWith, FitsAs, FitsTo, FitsTermTo, matched_tree};
+ghost use Rattle.chr_bind.specs.Matching.{Agrees, AgreesWith, FitsAs, FitsOrSpoils, FitsTo, FitsTermTo, matched_tree};
 ghost use Rattle.chr_semantics.specs.Bounds.{AreBelow, IsBelow};
 
 use chr_semantics::limits::MAX_RULE_VARIABLES;
@@ -56,11 +56,24 @@ pub fn fit<'t, A: Allocator + Copy>(
         (trees_view patterns.now) (trees_view terms.now) matching.old matching.new }
 {
     let before = *matching;
-    if fit_all(patterns, terms, &mut matching.slots) {
+    if fit_or_spoil(patterns, terms, matching) {
         return true;
     }
     *matching = before;
     false
+}
+
+/// The same, but where it is not possible, nothing is known of the match any more: for a match that is then not used again.
+pub fn fit_or_spoil<'t, A: Allocator>(
+    patterns: &[Term<A>],
+    terms: &'t [Term<A>],
+    matching: &mut Match<'t, A>,
+) -> bool
+    requires { AreBelow MAX_RULE_VARIABLES (trees_view patterns.now) }
+    ensures { FitsOrSpoils result
+        (trees_view patterns.now) (trees_view terms.now) matching.old matching.new }
+{
+    fit_all(patterns, terms, &mut matching.slots)
 }
 
 /// Matches the patterns, and leaves what was matched where it is not possible.

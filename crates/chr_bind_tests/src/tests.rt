@@ -177,6 +177,24 @@ fn values(rt: HostRuntime) -> Result<(), Fail> {
     Ok(())
 }
 
+/// What variables are bound to counts, and nothing is built for it.
+#[test]
+fn bound_values(rt: HostRuntime) -> Result<(), Fail> {
+    let alloc = rt.alloc();
+    let mut bindings = variables(alloc, 2)?;
+    let four = over(alloc, Sym::PLUS, 1, 3)?;
+    assert_eq!(&rt;
+        unify(&rt, &mut bindings, &Term::Var(0), &four)?,
+        Unified::Bound
+    );
+    let product = node(alloc, Sym::TIMES.0, [Term::Var(0), Term::Int(2)])?;
+    assert_eq!(&rt; bindings.value(&product), Ok(8));
+    assert_eq!(&rt; bindings.value(&Term::Var(1)), Err(Fault::Unbound));
+    let name = node(alloc, A, [])?;
+    assert_eq!(&rt; bindings.value(&name), Err(Fault::NotNumber));
+    Ok(())
+}
+
 #[test]
 fn fault_words(rt: HostRuntime) -> Result<(), Fail> {
     for (fault, word) in [
@@ -235,6 +253,12 @@ fn fit_calls(rt: HostRuntime) -> Result<(), Fail> {
             .is_some_and(|matched| same(matched, &Term::Int::<Global>(3)))
     );
     assert!(&rt; matching.get(2).is_none() && matching.get(64).is_none());
+    let mut spoiled = Match::new();
+    assert!(&rt; are_below(MAX_RULE_VARIABLES as u64, &patterns));
+    assert!(&rt; !fit_or_spoil(&patterns, &others, &mut spoiled));
+    let mut fresh = Match::new();
+    assert!(&rt; fit_or_spoil(&patterns, &terms, &mut fresh));
+    assert!(&rt; fresh.get(0).is_some_and(|matched| same(matched, &terms[0])));
     // What is matched stays, and other terms no longer fit.
     assert!(&rt; fits(&rt, &patterns, &terms, &mut matching));
     assert!(&rt; !fits(&rt, &patterns[..1], &others[..1], &mut matching));

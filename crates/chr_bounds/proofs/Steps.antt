@@ -111,7 +111,7 @@ module _ (Q : Row → Type 0) where
   taken true a rs q h = All-cons Q a [] q (All-nil Q)
   taken false a rs q h = h
 
-  tuples_so : (rs : List Row) (a : Row) (place n : ℕ) (used : List ℕ) (k : ℕ) → Q a → All Q rs → All (All Q) (tuples_from rs a place n used k)
+  pub tuples_so : (rs : List Row) (a : Row) (place n : ℕ) (used : List ℕ) (k : ℕ) → Q a → All Q rs → All (All Q) (tuples_from rs a place n used k)
   tuples_so rs a place zero used k q h = All-cons (All Q) [] [] (All-nil Q) (All-nil (All Q))
   tuples_so rs a place (suc n) used k q h =
       All-flat_map (All Q) _ (cond (k == place) (a ∷ []) rs)
@@ -137,7 +137,7 @@ module _ {X : Type 0} (P : X → Type 0) (p : X → Bool) where
   found_here true x y o is e h k = let same : x ≡ y = cc in (subst (λ (z : X). p z ≡ true) same is, subst P same h)
   found_here false x y o is e h k = k e
 
-  find_so : (xs : List X) (y : X) → All P xs → find p xs ≡ Some y → (p y ≡ true) × P y
+  pub find_so : (xs : List X) (y : X) → All P xs → find p xs ≡ Some y → (p y ≡ true) × P y
   find_so [] y h e = absurd (none_some y e)
     where
       none_some : (x : X) → ◌≡◌ {A = Option X} None (Some x) → ⊥
@@ -154,7 +154,7 @@ IfFiring i n no_occurrence = Unit {0}
 IfFiring i n no_firing = Unit {0}
 IfFiring i n (firing k r place t) = IsBounded r × All (IsRowWithin i n) t × ((m : Subst) × (fits r.heads t ≡ Some m))
 
-passes_some : (r : Rule) (o : Option Subst) → passes_guard r o ≡ true → (m : Subst) × (o ≡ Some m)
+pub passes_some : (r : Rule) (o : Option Subst) → passes_guard r o ≡ true → (m : Subst) × (o ≡ Some m)
 passes_some r None e = absurd (false_true e)
   where
     false_true : ◌≡◌ {A = Bool} false true → ⊥

@@ -1,10 +1,15 @@
-use chr_machine::Status;
-use chr_run::{TextError, run_text};
+use chr_machine::{Fault, Status};
+use chr_read::{ReadError, ReadErrorKind};
+use chr_run::{RunError, TextError, run_text};
 use std::alloc::Global;
 use std::process::Abort;
+use std::test::Fail;
 
-mod fragment;
-mod worked;
+mod firing;
+mod numbers;
+mod programs;
+mod solving;
+mod texts;
 
 /// A program, a query and a budget.
 #[derive(Clone, Copy, Drop)]
@@ -23,29 +28,57 @@ fn ample(program: &'static str, query: &'static str) -> Example {
     }
 }
 
-fn run(alloc: Global, example: Example, out: &mut Vec<u8>) -> Result<Status, TextError> {
+/// Runs it with so many workers.
+fn run_with(
+    alloc: Global,
+    example: Example,
+    workers: u32,
+    out: &mut Vec<u8>,
+) -> Result<Status, TextError> {
     run_text(
         alloc,
         example.program.as_bytes(),
         example.query.as_bytes(),
         example.budget,
-        0,
+        workers,
         out,
     )
 }
 
+/// Runs it, and answers its text.
+fn text_of(alloc: Global, rt: &impl Abort, example: Example, status: Status) -> Vec<u8> {
+    let mut out = Vec::new(alloc);
+    let answer = run_with(alloc, example, 0, &mut out);
+    assert_eq!(rt; answer, Ok(status), "{}", example.query);
+    out
+}
+
 /// The run ends so, and this is its text.
 fn assert_text(alloc: Global, rt: &impl Abort, example: Example, status: Status, text: &str) {
-    let mut out = Vec::new(alloc);
-    let answer = run(alloc, example, &mut out);
-    assert_eq!(rt; answer, Ok(status), "{}", example.query);
+    let out = text_of(alloc, rt, example, status);
     assert_eq!(rt; out.as_slice(), text.as_bytes(), "{}", example.query);
 }
 
-/// Nothing is run, and there is no text.
-fn assert_refused(alloc: Global, rt: &impl Abort, example: Example, error: TextError) {
+/// The run ends so, and its text ends with this: the last line of the trace, with the line feed before it, and what stands after the trace.
+fn assert_end(alloc: Global, rt: &impl Abort, example: Example, status: Status, end: &str) {
+    let out = text_of(alloc, rt, example, status);
+    assert!(rt;
+        out.as_slice().ends_with(end.as_bytes()),
+        "{}",
+        example.query
+    );
+}
+
+/// With so many workers nothing is run, and there is no text.
+fn assert_refused(
+    alloc: Global,
+    rt: &impl Abort,
+    example: Example,
+    workers: u32,
+    error: TextError,
+) {
     let mut out = Vec::new(alloc);
-    let answer = run(alloc, example, &mut out);
+    let answer = run_with(alloc, example, workers, &mut out);
     assert_eq!(rt; answer, Err(error), "{}", example.query);
     assert!(rt; out.is_empty(), "{}", example.query);
 }

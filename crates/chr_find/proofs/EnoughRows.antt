@@ -11,7 +11,7 @@ use Rattle.chr_semantics.proofs.Tests.{eqb_sym}
 use Rattle.chr_semantics.specs.Keys.{arg_at, is_root, pattern_root, root_of}
 use Rattle.chr_semantics.specs.Match.{Row as Constraint, fit_all, fit_atom}
 use Rattle.chr_semantics.specs.Search.{has_number}
-use Rattle.chr_bind.specs.Matching.{AgreesWith, FitsAs}
+use Rattle.chr_bind.specs.Matching.{AgreesWith, FitsOrSpoils}
 use Rattle.chr_bind.specs.declared.matching.Match.{Match}
 use Rattle.chr_store.specs.Rows.{row_atom}
 use Rattle.chr_store.specs.declared.row.Row.{Row}
@@ -57,19 +57,19 @@ pub unused : (i own : ℕ) (used : List ℕ) → has_number used i ≡ false →
 unused i own used others other = let e : (i == own) ≡ false = ne_eqb i own other in rw (e, others) refl
 
 -- the row fits where it is of the head's symbol and its arguments fit
-pub head_fits : {A : Type 0} (fits : Bool) (f : Sym) (args : List (Term A)) (row : Row A) (ts : List (Term A)) (old new : Match A) → ts ≡ row.args.items → (f.0 == row.sym.0) ≡ true → FitsAs fits (trees_view args) (trees_view ts) old new
+pub head_fits : {A : Type 0} (fits : Bool) (f : Sym) (args : List (Term A)) (row : Row A) (ts : List (Term A)) (old new : Match A) → ts ≡ row.args.items → (f.0 == row.sym.0) ≡ true → FitsOrSpoils fits (trees_view args) (trees_view ts) old new
     → FitsHead fits (atom_view f args) (row_atom row) old new
-head_fits {A = A} fits f args row ts old new e same fit = by_fit fits (subst (λ (l : List (Term A)). FitsAs fits (trees_view args) (trees_view l) old new) e fit)
+head_fits {A = A} fits f args row ts old new e same fit = by_fit fits (subst (λ (l : List (Term A)). FitsOrSpoils fits (trees_view args) (trees_view l) old new) e fit)
   where
-    by_fit : (b : Bool) → FitsAs b (trees_view args) (trees_view row.args.items) old new → FitsHead b (atom_view f args) (row_atom row) old new
-    by_fit true g = ((λ m a. let p : (n : Subst) × (fit_all (trees_view args) (trees_view row.args.items) m ≡ Some n) × AgreesWith new n = g.0 m a in (p.0, rw same p.1, p.2)), g.1)
-    by_fit false g = ((λ m a. rw same (g.0 m a)), g.1)
+    by_fit : (b : Bool) → FitsOrSpoils b (trees_view args) (trees_view row.args.items) old new → FitsHead b (atom_view f args) (row_atom row) old new
+    by_fit true g m a = let p : (n : Subst) × (fit_all (trees_view args) (trees_view row.args.items) m ≡ Some n) × AgreesWith new n = g m a in (p.0, rw same p.1, p.2)
+    by_fit false g m a = rw same (g m a)
 
 -- and does not fit where it is of another
-pub head_apart : {A : Type 0} (f : Sym) (args : List (Term A)) (row : Row A) (old new : Match A) → (f.0 == row.sym.0) ≡ false → new ≡ old → FitsHead false (atom_view f args) (row_atom row) old new
-head_apart f args row old new other same = ((λ m a. rw other refl), λ e. same)
+pub head_apart : {A : Type 0} (f : Sym) (args : List (Term A)) (row : Row A) (old new : Match A) → (f.0 == row.sym.0) ≡ false → FitsHead false (atom_view f args) (row_atom row) old new
+head_apart f args row old new other m a = rw other refl
 
 -- the row is taken where it was not used and fits
 pub takes_fit : {A : Type 0} (fits : Bool) (used : List ℕ) (head : Atom) (c : Constraint) (old new : Match A) → has_number used c.0 ≡ false → FitsHead fits head c.1 old new → TakesAs fits used head c old new
-takes_fit true used head c old new unused g = ((λ m a. let p : (n : Subst) × (fit_atom head c.1 m ≡ Some n) × AgreesWith new n = g.0 m a in (p.0, unused, p.1, p.2)), g.1)
-takes_fit false used head c old new unused g = ((λ m a. inr (g.0 m a)), g.1)
+takes_fit true used head c old new unused g m a = let p : (n : Subst) × (fit_atom head c.1 m ≡ Some n) × AgreesWith new n = g m a in (p.0, unused, p.1, p.2)
+takes_fit false used head c old new unused g m a = inr (g m a)

@@ -86,7 +86,7 @@ module _ {A : Type 0} (rows : List Row) (h : History) (r : ℕ) (rule : Rule) (p
   -- a row that is left out
   pub row_out : (c : Row) (next : Match A) (told : ℕ) → told < 2 ^ 64 → TakesAs false (own ∷ take level partners) head c matching next → WalkIs rows h r rule place own level partners matching from quiet gate head (c ∷ []) None told told
   row_out c next told small t a used m owns known agrees q =
-      let e : step_of rows a place (drop (level + 1) rule.heads) used level m head c ≡ [] = left_out rows a place (drop (level + 1) rule.heads) used level m head c (own ∷ take level partners) (known_as a own used (take level partners) owns known c.0) (t.0 m agrees) in
+      let e : step_of rows a place (drop (level + 1) rule.heads) used level m head c ≡ [] = left_out rows a place (drop (level + 1) rule.heads) used level m head c (own ∷ take level partners) (known_as a own used (take level partners) owns known c.0) (t m agrees) in
       finds_same h r rule.guard (take level partners) (length rule.heads) (passed from gate (step_of rows a place (drop (level + 1) rule.heads) used level m head c) ++ []) [] None told told (ap (λ (l : List Joined). passed from gate l ++ []) e)
       (finds_none h r rule.guard (take level partners) (length rule.heads) told small)
 
@@ -95,7 +95,7 @@ module _ {A : Type 0} (rows : List Row) (h : History) (r : ℕ) (rule : Rule) (p
       → JoinIs rows h r rule place own (level + 1) longer next from quiet (next_gate from gate c.0) result told now → WalkIs rows h r rule place own level partners matching from quiet gate head (c ∷ []) result told now
   row_taken c longer next result told now at t j a used m owns known agrees q =
       let hs : List Head = drop (level + 1) rule.heads in
-      let n : (n : Subst) × (has_number (own ∷ take level partners) c.0 ≡ false) × (fit_atom head c.1 m ≡ Some n) × AgreesWith next n = t.0 m agrees in
+      let n : (n : Subst) × (has_number (own ∷ take level partners) c.0 ≡ false) × (fit_atom head c.1 m ≡ Some n) × AgreesWith next n = t m agrees in
       let further : List Joined = joined rows a place hs (c.0 ∷ used) (level + 1) n.0 in
       let e : step_of rows a place hs used level m head c ≡ map (after_row c) further = step_fits rows a place hs used level m n.0 head c (known_as a own used (take level partners) owns known c.0 ∙ n.1) n.2 in
       finds_same h r rule.guard (take level partners) (length rule.heads) (passed from gate (step_of rows a place hs used level m head c) ++ []) (map (after_row c) (passed from (next_gate from gate c.0) further)) result told now

@@ -1,4 +1,5 @@
 pub mod Arguments
+pub mod Barren
 pub mod Collected
 pub mod EnoughRows
 pub mod FiredHistory

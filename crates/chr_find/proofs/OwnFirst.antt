@@ -1,6 +1,7 @@
 -- The whole search, and what it is in the definitions.
-use Rattle.std.proofs.Common.{◌≡◌, ◌^◌, ◌<◌, ◌∙◌, ℕ, ◌+◌, List, [], ◌∷◌, Option, Some, None, option_map, ap, refl, sym}
-use Rattle.std.specs.Prelude.{find, slice_get}
+use Rattle.std.proofs.Common.{◌≡◌, ◌^◌, ◌<◌, ◌∙◌, ◌==◌, ℕ, ◌+◌, false, zero-add, List, [], ◌∷◌, Option, Some, None, option_map, ap, refl, sym}
+use Rattle.std.specs.Prelude.{All, find, slice_get}
+use Rattle.chr_semantics.proofs.Makes.{Extends-itself}
 use Rattle.chr_semantics.proofs.CursorLaw.{cursor_law, gated_law}
 use Rattle.chr_semantics.proofs.JoinLaw.{join_law}
 use Rattle.chr_semantics.proofs.TriesLaw.{tries_law}
@@ -14,6 +15,7 @@ use Rattle.chr_semantics.specs.Tries.{capped, tried, tried_tuples}
 use Rattle.chr_find.specs.Finds.{Finds}
 use Rattle.chr_find.specs.First.{IsFirst}
 use Rattle.chr_find.specs.Gate.{Gate, free, on, passed}
+use Rattle.chr_find.proofs.Barren.{joined_none}
 use Rattle.chr_find.proofs.FoundLists.{finds_none, finds_same}
 
 module _ (rows : List Row) (h : History) (r : ℕ) (rule : Rule) (place : ℕ) (own : Head) (a : Row) (n from : ℕ) where
@@ -27,6 +29,13 @@ module _ (rows : List Row) (h : History) (r : ℕ) (rule : Rule) (place : ℕ) (
   pub own_apart : (gate : Gate) (told : ℕ) → told < 2 ^ 64 → fit_atom own.atom a.1 [] ≡ None → Finds h r rule.guard [] n (passed from gate (own_joined rows rule place own a)) None told told
   own_apart gate told small fit =
       finds_same h r rule.guard [] n _ [] None told told (ap (λ (e : Option Subst). passed from gate (after_own (joined rows a place rule.heads [] 0) e)) fit) (finds_none h r rule.guard [] n told small)
+
+  -- and where another head has no partner
+  pub own_lacking : (gate : Gate) (m : Subst) (k : ℕ) (x : Head) (told : ℕ) → told < 2 ^ 64 → fit_atom own.atom a.1 [] ≡ Some m → slice_get rule.heads k ≡ Some x → (k == place) ≡ false → All (λ (c : Row). fit_atom x.atom c.1 m ≡ None) rows
+      → Finds h r rule.guard [] n (passed from gate (own_joined rows rule place own a)) None told told
+  own_lacking gate m k x told small fit at apart all =
+      own_found gate m None told told fit
+      (finds_same h r rule.guard [] n _ [] None told told (ap (passed from gate) (joined_none rows a place rule.heads [] 0 m m k x at (ap (λ (i : ℕ). i == place) (zero-add k) ∙ apart) (Extends-itself m) all)) (finds_none h r rule.guard [] n told small))
 
   all_pass : (ps : List Joined) → passed from free ps ≡ ps
   all_pass [] = refl

@@ -22,13 +22,13 @@ IsOneOf one other l = (ps : ℕ → List ℕ) (head : Atom) (m : Subst) → IsEn
 abbrev pub StaysEnough : {A : Type 0} → Match A → Atom → ℕ → Listing → Listing → Type 0
 StaysEnough matching head p old new = (ps : ℕ → List ℕ) (m : Subst) → list_any (λ q. q == p) (ps head.sym) ≡ true → AgreesWith matching m → IsEnough ps head m old → IsEnough ps head m new
 
--- the constraint fits the head and the match is the longer one, or it does not fit and the match is as it was
+-- the constraint fits the head and the match is the longer one, or it does not fit
 abbrev pub FitsHead : {A : Type 0} → Bool → Atom → Atom → Match A → Match A → Type 0
 FitsHead result head a old new =
-    ((m : Subst) → AgreesWith old m → MatchBool result ((n : Subst) × (fit_atom head a m ≡ Some n) × AgreesWith new n) (fit_atom head a m ≡ None)) × (result ≡ false → new ≡ old)
+    (m : Subst) → AgreesWith old m → MatchBool result ((n : Subst) × (fit_atom head a m ≡ Some n) × AgreesWith new n) (fit_atom head a m ≡ None)
 
--- the row was not used and fits, and the match is the longer one, or the row is left out and the match as it was
+-- the row was not used and fits, and the match is the longer one, or the row is left out
 abbrev pub TakesAs : {A : Type 0} → Bool → List ℕ → Atom → Row → Match A → Match A → Type 0
 TakesAs result used head c old new =
-    ((m : Subst) → AgreesWith old m → MatchBool result ((n : Subst) × (has_number used c.0 ≡ false) × (fit_atom head c.1 m ≡ Some n) × AgreesWith new n)
-    ((has_number used c.0 ≡ true) ⊎ (fit_atom head c.1 m ≡ None))) × (result ≡ false → new ≡ old)
+    (m : Subst) → AgreesWith old m → MatchBool result ((n : Subst) × (has_number used c.0 ≡ false) × (fit_atom head c.1 m ≡ Some n) × AgreesWith new n)
+    ((has_number used c.0 ≡ true) ⊎ (fit_atom head c.1 m ≡ None))

@@ -1,5 +1,6 @@
 pub mod AnswerView
 pub mod AtomCode
+pub mod Barren
 pub mod Enough
 pub mod Finding
 pub mod Finds

@@ -1,20 +1,49 @@
 //! The whole search of a rule: the own head first, and then the join.
-ghost use Rattle.std.specs.Prelude.{◌<◌, ◌≤◌, IfOk, vec_len};
+ghost use Rattle.std.specs.Prelude.{◌≡◌, ◌<◌, ◌≤◌, IfOk, Some, slice_get, true, vec_len};
 ghost use Rattle.chr_rules.specs.RuleView.{rule_view};
 ghost use Rattle.chr_store.specs.Rows.{row_atom};
+ghost use Rattle.chr_semantics.specs.Program.{Head};
+ghost use Rattle.chr_find.specs.Barren.{IsBarren, LacksPartner};
+ghost use Rattle.chr_find.specs.PlanView.{positions_of};
 ghost use Rattle.chr_find.specs.SearchIs.{OwnFinds};
 ghost use Rattle.chr_find.specs.SearchView.{AreSmall};
+ghost use Rattle.chr_find.specs.Shown.{ForRows};
 
 use crate::Memory;
 use crate::join::{Prefix, Search};
 use crate::mode::Mode;
 use crate::past::Past;
-use crate::search::fits;
+use crate::quiet::has_new;
+use crate::search::{fits, list_for};
 use chr_bind::Match;
 use chr_store::Row;
 use std::alloc::Allocator;
 
 impl<'a, P: Past, A: Allocator + Copy> Search<'a, P, A> {
+    /// Whether no constraint can stand at the head of the level under the match.
+    fn is_barren(&self, level: usize, matching: &Match<'a, A>) -> bool
+        requires { level < vec_len self.now.rule.now.heads }
+        ensures { result ≡ true → (x : Head) → slice_get (rule_view self.now.rule.now).heads level ≡ Some x →
+            ForRows (positions_of self.now.plan.now) self.now.rows.now (λ rows. IsBarren rows matching.now x) }
+    {
+        let (sym, args) = &self.rule.heads[level];
+        let list = list_for(self.plan, self.rows, *sym, args.as_slice(), matching);
+        !has_new(&self.rows.entries(), list, 0)
+    }
+
+    /// Whether that is so of some head but the own one, which tells at once that nothing is found.
+    fn lacks_partner(&self, matching: &Match<'a, A>) -> bool
+        ensures { result ≡ true → ForRows (positions_of self.now.plan.now) self.now.rows.now
+            (λ rows. LacksPartner rows matching.now (rule_view self.now.rule.now).heads self.now.place) }
+    {
+        for level in 0..self.rule.heads.len() {
+            if level != self.place && self.is_barren(level, matching) {
+                return true;
+            }
+        }
+        false
+    }
+
     /// The first list with the own constraint in its place that may fire, and one try more for each complete list.
     pub(crate) fn first(
         &self,
@@ -31,6 +60,10 @@ impl<'a, P: Past, A: Allocator + Copy> Search<'a, P, A> {
         let _so_far = *tries;
         let mut matching = Match::new();
         if !fits(&self.rule.heads[self.place], row, &mut matching) {
+            return Ok(None);
+        }
+        // With one partner the join looks at the same list at once.
+        if self.rule.heads.len() > 2 && self.lacks_partner(&matching) {
             return Ok(None);
         }
         let start = Prefix {

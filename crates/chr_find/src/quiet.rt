@@ -14,7 +14,7 @@ use std::alloc::Allocator;
 use std::cmp::Ordering;
 
 /// Whether a list has a row with an identity that is not below `from`.
-fn has_new<A: Allocator + Copy>(
+pub(crate) fn has_new<A: Allocator + Copy>(
     part: &Part<'_, Place, Pointer<Row<A>, A>, A>,
     list: List,
     from: u64,

@@ -16,7 +16,7 @@ use crate::list::List;
 use crate::lists::Rows;
 use crate::plan::Plan;
 use crate::root::Root;
-use chr_bind::{Match, fit};
+use chr_bind::{Match, fit_or_spoil};
 use chr_semantics::limits::MAX_RULE_VARIABLES;
 use chr_store::Row;
 use chr_term::{Sym, Term};
@@ -105,7 +105,7 @@ fn is_among(ids: &[u64], id: u64) -> bool
     false
 }
 
-/// Extends the match by a row that fits the head, or leaves it as it is.
+/// Extends the match by a row that fits the head. Where it does not, nothing is known of the match any more.
 pub(crate) fn fits<'a, A: Allocator + Copy>(
     head: &(Sym, Vec<Term<A>, A>),
     row: &'a Row<A>,
@@ -117,13 +117,14 @@ pub(crate) fn fits<'a, A: Allocator + Copy>(
 {
     let (sym, args) = head;
     if *sym == row.sym {
-        fit(args.as_slice(), row.args.as_slice(), matching)
+        fit_or_spoil(args.as_slice(), row.args.as_slice(), matching)
     } else {
         false
     }
 }
 
-/// Extends the match by a row that was not used and fits the head, or leaves it as it is. The own constraint is used.
+/// Extends the match by a row that was not used and fits the head. Where it is not taken, nothing is known of the match any more. The own
+/// constraint is used.
 pub(crate) fn takes<'a, A: Allocator + Copy>(
     own: u64,
     used: &[u64],

@@ -1,6 +1,10 @@
-pub mod Rows
-pub mod Slots
-pub mod State
-pub mod Fragment
+pub mod Model
 pub mod Step
+pub mod Proper
+pub mod Waking
+pub mod Solving
+pub mod Firing
+pub mod NeedView
+pub mod Answering
+pub mod Gathering
 pub mod MachineView

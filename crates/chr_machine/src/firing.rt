@@ -1,21 +1,27 @@
 //! The search and the firing of an active constraint.
-ghost use Rattle.chr_semantics.specs.declared.limits.TheConstants.{MAX_TRANSITIONS};
-ghost use Rattle.std.specs.Prelude.{◌≡◌, ◌<◌, ◌≤◌, ◌+◌, ◌++◌, ◌∷◌, ◌==◌, [], IfErr, IfOk, OnErr, OnOk, filter, map, not, vec_capacity, vec_len, true, IsTrue};
-ghost use Rattle.chr_semantics.specs.Search.{atom_of};
-ghost use Rattle.chr_semantics.specs.State.{active, goal, with_stack};
-ghost use Rattle.chr_semantics.specs.Step.{search_at};
-ghost use Rattle.chr_machine.specs.Fragment.{IsFiring, IsThin, IsThinRule, is_fit, is_one_ground_head};
+ghost use Rattle.chr_semantics.specs.declared.limits.TheConstants.{MAX_CHANGES, MAX_TRANSITIONS};
+ghost use Rattle.std.specs.Prelude.{◌≡◌, ◌<◌, ◌≤◌, ◌+◌, ◌++◌, ◌∷◌, ◌^◌, IfErr, IfOk, OnErr, OnOk, Some, cond, map, option_map, slice_get, vec_capacity, vec_len};
+ghost use Rattle.chr_semantics.specs.Footprint.{Ascends};
+ghost use Rattle.chr_semantics.specs.State.{active as at_occurrence, goal, running, status_at};
 ghost use Rattle.chr_rules.specs.ProgramView.{rules_of};
-ghost use Rattle.chr_term.specs.TermView.{atom_view};
 ghost use Rattle.chr_rules.specs.RuleView.{goal_view, rule_view};
-ghost use Rattle.chr_machine.specs.Slots.{next_of, rows_of};
-ghost use Rattle.chr_machine.specs.State.{elem_view, ids_view, stack_view, state_of, texts};
-ghost use Rattle.chr_machine.specs.Step.{IsReady, Kept, Made, SameRun, topped};
+ghost use Rattle.chr_find.specs.SearchView.{IsSearchable};
+ghost use Rattle.chr_term.specs.TermView.{atom_view};
+ghost use Rattle.chr_trace.specs.State.{elem_view, stack_view, status_view};
+ghost use Rattle.chr_resume.specs.ResumingView.{IsFresh, base_in, program_in};
+ghost use Rattle.chr_machine.specs.Firing.{ComesTo, FindsIds, FiresBelow, IsAt, IsFiring};
+ghost use Rattle.chr_machine.specs.Model.{model_of, state_in, topped};
+ghost use Rattle.chr_machine.specs.Answering.{AnswersStep};
+ghost use Rattle.chr_machine.specs.Step.{IsProper, IsReady, IsSameBelow, Kept, Made};
 
-use crate::state::{Elem, Execution, Fired};
-use crate::store::Id;
-use chr_rules::{Goal, Rule, copy_goals};
-use chr_term::{Memory, Sym, Term, same_all};
+use crate::answer::Answer;
+use crate::state::Execution;
+use chr_find::Active;
+use chr_resume::Resuming;
+use chr_rules::{Goal, Occurrence, Rule};
+use chr_store::Id;
+use chr_term::{Memory, Sym, Term};
+use chr_trace::Elem;
 use std::alloc::Allocator;
 
 /// Puts goals on the stack, the first on top, with room for them.
@@ -29,156 +35,245 @@ pub fn put_goals<A: Allocator>(stack: &mut Vec<Elem<A>, A>, mut goals: Vec<Goal<
     }
 }
 
-/// A list of one identity.
-fn one_id<A: Allocator + Copy>(alloc: A, id: Id) -> Result<Vec<Id, A>, Memory>
-    ensures { IfOk result (λ ids. ids_view ids.items ≡ id.0 ∷ []) }
+/// The identities with which the rule can fire first, in head order, in a list whose room is made before the search. Contracts see the same
+/// base, after a refusal too.
+fn search<A: Allocator + Copy>(
+    alloc: A,
+    base: &mut Resuming<'_, A>,
+    active: &Active<'_, A>,
+) -> Result<Option<Vec<u64, A>>, Memory>
+    requires searchable { IsSearchable active.now.rule.now active.now.place }
+    requires of_program { slice_get (rules_of (program_in base.old)) active.now.number
+        ≡ Some (rule_view active.now.rule.now) }
+    ensures same { base_in base.new ≡ base_in base.old }
+    ensures program { program_in base.new ≡ program_in base.old }
+    ensures found { IfOk result
+        (λ found. FindsIds (base_in base.old) active.now (option_map (λ ids. ids.items) found)) }
 {
-    let mut ids = Vec::with_capacity(alloc, 1)?;
-    ids.push(id)?;
-    Ok(ids)
+    let heads = active.rule.heads.len();
+    let mut ids = Vec::with_capacity(alloc, heads)?;
+    match base.first(active)? {
+        None => Ok(None),
+        Some(found) => {
+            ids.extend_from_slice(&found[..heads])?;
+            Ok(Some(ids))
+        }
+    }
 }
 
 impl<'p, A: Allocator + Copy> Execution<'p, A> {
-    /// Whether the rule's one head fits the constraint, which lives.
-    fn fits(&self, id: Id, rule: &Rule<A>) -> bool
-        requires { is_one_ground_head (rule_view rule.now).heads ≡ true }
-        ensures { result
-            ≡ is_fit (rule_view rule.now).heads id.0 (atom_of (rows_of self.now.store) id.0) }
-    {
-        let Some(row) = self.store.row(id) else {
-            return false;
-        };
-        let (sym, args) = &rule.heads[0];
-        *sym == row.sym && same_all(args.as_slice(), row.args.as_slice())
-    }
-
-    /// Simplify by a rule whose one head fits the constraint.
-    fn simplify(
+    /// The line of a firing, and what it changes below the stack, with room on the stack for the goals of the body and one element more.
+    fn fire_below(
         &mut self,
-        id: Id,
+        active: &Active<'_, A>,
         number: u32,
         sym: Sym,
-        args: Vec<Term<A>, A>,
-        index: usize,
-        rule: &Rule<A>,
-    ) -> Result<(), Elem<A>>
-        requires room { vec_len self.old.stack < vec_capacity self.old.stack }
+        args: &[Term<A>],
+        ids: &[u64],
+    ) -> Result<Vec<Goal<A>, A>, Memory>
         requires few { self.old.steps < MAX_TRANSITIONS }
-        requires thin { IsThinRule (rule_view rule.now) }
-        requires found { IsFiring
-            (search_at (rules_of self.old.program.now)
-            (topped (active id.0 number (atom_view sym args.items)) (state_of self.old)) id.0 number
-            (atom_view sym args.items)) index (rule_view rule.now) id.0 }
-        ensures ok { OnOk result
-            (Made (active id.0 number (atom_view sym args.items)) self.old self.new) }
-        ensures err { IfErr result
-            (λ top. elem_view top ≡ active id.0 number (atom_view sym args.items)) }
-        ensures kept { OnErr result (Kept self.old self.new) }
+        requires room { vec_len self.old.stack < vec_capacity self.old.stack }
+        requires changes { (base_in self.old.base).store.changes + 8 ≤ MAX_CHANGES }
+        requires fresh { IsFresh self.old.base }
+        requires ascends { Ascends 0 (base_in self.old.base).store.rows
+            (base_in self.old.base).store.next_id }
+        requires fires { IsFiring (model_of self.old) active.now number (atom_view sym args.now) ids.now }
+        ensures ok { IfOk result (λ goals. FiresBelow self.old active.now number (atom_view sym args.now)
+            ids.now self.new goals.items) }
+        ensures stack { IfOk result
+            (λ goals. vec_len self.new.stack + vec_len goals + 1 ≤ vec_capacity self.new.stack) }
+        ensures err { OnErr result (Kept self.old self.new) }
         ensures room { OnErr result (vec_len self.new.stack < vec_capacity self.new.stack) }
     {
-        let Ok(ids) = one_id(self.alloc, id) else {
-            return Err(Elem::Active(id, number, sym, args));
-        };
-        let Ok(line) = self.simplify_line(id, number, sym, args.as_slice(), rule, ids.as_slice())
-        else {
-            return Err(Elem::Active(id, number, sym, args));
-        };
-        let Ok(goals) = copy_goals(self.alloc, rule.body.as_slice()) else {
-            return Err(Elem::Active(id, number, sym, args));
-        };
-        if !self.room_to_fire(goals.len()) {
-            return Err(Elem::Active(id, number, sym, args));
-        }
-        self.commit(id, index, ids, goals, line);
-        Ok(())
+        let rule = active.rule;
+        let keeps = active.place < rule.kept;
+        let line = self.scribe().fires(
+            self.steps + 1,
+            sym,
+            args,
+            active.id,
+            number,
+            keeps,
+            rule.label.as_str(),
+            ids,
+        )?;
+        let goals = self.base.body(rule, ids)?;
+        self.lines.reserve(1)?;
+        self.stack.reserve(goals.len() + 1)?;
+        let variables = rule.vars - rule.head_vars();
+        self.base.fire(active, ids, variables)?;
+        self.log(line);
+        Ok(goals)
     }
 
-    /// Makes the room that a firing with so many goals takes, and says whether it is there.
-    fn room_to_fire(&mut self, goals: usize) -> bool
-        requires { vec_len self.old.stack < vec_capacity self.old.stack }
-        ensures kept { Kept self.old self.new }
-        ensures store { self.new.store ≡ self.old.store }
-        ensures stack { IsTrue result → vec_len self.new.stack + goals ≤ vec_capacity self.new.stack }
-        ensures lines { IsTrue result → vec_len self.new.lines < vec_capacity self.new.lines }
-        ensures history { IsTrue result → vec_len self.new.history < vec_capacity self.new.history }
-        ensures room { vec_len self.new.stack < vec_capacity self.new.stack }
-    {
-        let Ok(()) = self.lines.reserve(1) else {
-            return false;
-        };
-        let Ok(()) = self.history.reserve(1) else {
-            return false;
-        };
-        match self.stack.reserve(goals) {
-            Ok(()) => true,
-            Err(_) => false,
-        }
-    }
-
-    /// Takes the constraint out of the store, and puts the body in its place.
-    fn commit(
-        &mut self,
-        id: Id,
-        index: usize,
-        ids: Vec<Id, A>,
-        goals: Vec<Goal<A>, A>,
-        line: Vec<u8, A>,
-    )
-        requires stack { vec_len self.old.stack + vec_len goals ≤ vec_capacity self.old.stack }
-        requires lines { vec_len self.old.lines < vec_capacity self.old.lines }
-        requires history { vec_len self.old.history < vec_capacity self.old.history }
-        requires few { self.old.steps < MAX_TRANSITIONS }
-        requires one { ids_view ids.items ≡ id.0 ∷ [] }
-        ensures state { state_of self.new
-            ≡ with_stack
-            (record (state_of self.old) {
-              store = filter (λ row. not (row.0 == id.0))
-                  (rows_of self.old.store);
-              history = (state_of self.old).history ++ (index, id.0 ∷ [])
-                  ∷ [];
-            }) (map (λ g. goal (goal_view g)) goals.items ++ stack_view self.old.stack.items) }
-        ensures lines { texts self.new.lines.items ≡ texts self.old.lines.items ++ line.items ∷ [] }
-        ensures steps { self.new.steps ≡ self.old.steps + 1 }
-        ensures same { SameRun self.old self.new }
-        ensures next { next_of self.new.store ≡ next_of self.old.store }
+    /// The body goes on the stack, with room for it.
+    fn put_body(&mut self, goals: Vec<Goal<A>, A>)
+        requires { vec_len self.old.stack + vec_len goals ≤ vec_capacity self.old.stack }
+        ensures stack { stack_view self.new.stack.items ≡ map (λ g. goal (goal_view g)) goals.items
+            ++ stack_view self.old.stack.items }
+        ensures status { status_view self.new.status ≡ status_at (stack_view self.new.stack.items) }
+        ensures below { IsSameBelow self.old self.new }
         ensures ready { IsReady self.new }
     {
-        self.store.remove(id);
         put_goals(&mut self.stack, goals);
-        self.history.push_reserved(Fired { rule: index, ids });
-        self.lines.push_reserved(line);
-        self.steps += 1;
         self.settle();
     }
 
-    /// The transition of an active constraint: Drop, Default or Simplify.
+    /// The body goes on the stack, above the active constraint or in its place, with room for both.
+    fn put_fired(&mut self, keeps: bool, top: Elem<A>, goals: Vec<Goal<A>, A>)
+        requires { vec_len self.old.stack + vec_len goals + 1 ≤ vec_capacity self.old.stack }
+        ensures stack { stack_view self.new.stack.items ≡ map (λ g. goal (goal_view g)) goals.items
+            ++ cond keeps (elem_view top ∷ stack_view self.old.stack.items) (stack_view self.old.stack.items) }
+        ensures status { status_view self.new.status ≡ status_at (stack_view self.new.stack.items) }
+        ensures below { IsSameBelow self.old self.new }
+        ensures ready { IsReady self.new }
+    {
+        if !keeps {
+            return self.put_body(goals);
+        }
+        self.stack.push_reserved(top);
+        self.put_body(goals);
+    }
+
+    /// Simplify or Propagate: the rule fires with these constraints.
+    fn fire(
+        &mut self,
+        active: &Active<'_, A>,
+        number: u32,
+        sym: Sym,
+        args: Vec<Term<A>, A>,
+        ids: &[u64],
+    ) -> Result<(), Elem<A>>
+        requires few { self.old.steps < MAX_TRANSITIONS }
+        requires room { vec_len self.old.stack < vec_capacity self.old.stack }
+        requires changes { (base_in self.old.base).store.changes + 8 ≤ MAX_CHANGES }
+        requires fresh { IsFresh self.old.base }
+        requires proper { IsProper (rules_of (program_in self.old.base))
+            (state_in (topped (at_occurrence active.now.id.0 number (atom_view sym args.items)) (model_of self.old))) }
+        requires running { status_view self.old.status ≡ running }
+        requires fires { IsFiring (model_of self.old) active.now number (atom_view sym args.items) ids.now }
+        ensures ok { OnOk result
+            (Made (at_occurrence active.now.id.0 number (atom_view sym args.items)) self.old self.new) }
+        ensures err { IfErr result
+            (λ top. elem_view top ≡ at_occurrence active.now.id.0 number (atom_view sym args.items)) }
+        ensures kept { OnErr result (Kept self.old self.new) }
+        ensures room { OnErr result (vec_len self.new.stack < vec_capacity self.new.stack) }
+    {
+        match self.fire_below(active, number, sym, args.as_slice(), ids) {
+            Err(_) => Err(Elem::Active(active.id, number, sym, args)),
+            Ok(goals) => {
+                let keeps = active.place < active.rule.kept;
+                self.put_fired(keeps, Elem::Active(active.id, number, sym, args), goals);
+                Ok(())
+            }
+        }
+    }
+
+    /// What the answer of a search leads to: Default, or the rule fires with these constraints.
+    fn go_on(
+        &mut self,
+        active: &Active<'_, A>,
+        number: u32,
+        sym: Sym,
+        args: Vec<Term<A>, A>,
+        ids: Option<&[u64]>,
+    ) -> Result<(), Elem<A>>
+        requires few { self.old.steps < MAX_TRANSITIONS }
+        requires room { vec_len self.old.stack < vec_capacity self.old.stack }
+        requires changes { (base_in self.old.base).store.changes + 8 ≤ MAX_CHANGES }
+        requires small { number < 2 ^ 31 }
+        requires running { status_view self.old.status ≡ running }
+        requires proper { IsProper (rules_of (program_in self.old.base))
+            (state_in (topped (at_occurrence active.now.id.0 number (atom_view sym args.items)) (model_of self.old))) }
+        requires comes { ComesTo (model_of self.old) active.now number (atom_view sym args.items)
+            (option_map (λ list. list.now) ids) }
+        ensures ok { OnOk result
+            (Made (at_occurrence active.now.id.0 number (atom_view sym args.items)) self.old self.new) }
+        ensures err { IfErr result
+            (λ top. elem_view top ≡ at_occurrence active.now.id.0 number (atom_view sym args.items)) }
+        ensures kept { OnErr result (Kept self.old self.new) }
+        ensures room { OnErr result (vec_len self.new.stack < vec_capacity self.new.stack) }
+    {
+        match ids {
+            None => self.default_active(active.id, number, sym, args),
+            Some(ids) => match self.base.freshen() {
+                Err(_) => Err(Elem::Active(active.id, number, sym, args)),
+                Ok(()) => self.fire(active, number, sym, args, ids),
+            },
+        }
+    }
+
+    /// The transition of an active constraint that lives, at an occurrence that is there, by a search of its own.
+    fn step_own(
+        &mut self,
+        active: &Active<'_, A>,
+        number: u32,
+        sym: Sym,
+        args: Vec<Term<A>, A>,
+    ) -> Result<(), Elem<A>>
+        requires few { self.old.steps < MAX_TRANSITIONS }
+        requires room { vec_len self.old.stack < vec_capacity self.old.stack }
+        requires changes { (base_in self.old.base).store.changes + 8 ≤ MAX_CHANGES }
+        requires small { number < 2 ^ 31 }
+        requires running { status_view self.old.status ≡ running }
+        requires proper { IsProper (rules_of (program_in self.old.base))
+            (state_in (topped (at_occurrence active.now.id.0 number (atom_view sym args.items)) (model_of self.old))) }
+        requires searchable { IsSearchable active.now.rule.now active.now.place }
+        requires at { IsAt (model_of self.old) active.now number (atom_view sym args.items) }
+        ensures ok { OnOk result
+            (Made (at_occurrence active.now.id.0 number (atom_view sym args.items)) self.old self.new) }
+        ensures err { IfErr result
+            (λ top. elem_view top ≡ at_occurrence active.now.id.0 number (atom_view sym args.items)) }
+        ensures kept { OnErr result (Kept self.old self.new) }
+        ensures room { OnErr result (vec_len self.new.stack < vec_capacity self.new.stack) }
+    {
+        match search(self.alloc, &mut self.base, active) {
+            Err(_) => Err(Elem::Active(active.id, number, sym, args)),
+            Ok(None) => self.go_on(active, number, sym, args, None),
+            Ok(Some(ids)) => self.go_on(active, number, sym, args, Some(ids.as_slice())),
+        }
+    }
+
+    /// The transition of an active constraint: Drop, Default, Simplify or Propagate. Where it needs a search, it makes one, unless the answer is
+    /// known.
     pub fn step_active(
         &mut self,
         id: Id,
         number: u32,
         sym: Sym,
         args: Vec<Term<A>, A>,
+        answer: Answer,
     ) -> Result<(), Elem<A>>
         requires room { vec_len self.old.stack < vec_capacity self.old.stack }
         requires few { self.old.steps < MAX_TRANSITIONS }
-        requires thin { IsThin (rules_of self.old.program.now)
-            (topped (active id.0 number (atom_view sym args.items)) (state_of self.old)) }
+        requires changes { (base_in self.old.base).store.changes + 8 ≤ MAX_CHANGES }
+        requires running { status_view self.old.status ≡ running }
+        requires proper { IsProper (rules_of (program_in self.old.base))
+            (state_in (topped (at_occurrence id.0 number (atom_view sym args.items)) (model_of self.old))) }
+        requires answer { AnswersStep
+            (topped (at_occurrence id.0 number (atom_view sym args.items)) (model_of self.old)) answer }
         ensures ok { OnOk result
-            (Made (active id.0 number (atom_view sym args.items)) self.old self.new) }
+            (Made (at_occurrence id.0 number (atom_view sym args.items)) self.old self.new) }
         ensures err { IfErr result
-            (λ top. elem_view top ≡ active id.0 number (atom_view sym args.items)) }
+            (λ top. elem_view top ≡ at_occurrence id.0 number (atom_view sym args.items)) }
         ensures kept { OnErr result (Kept self.old self.new) }
         ensures room { OnErr result (vec_len self.new.stack < vec_capacity self.new.stack) }
     {
-        let program = self.program;
+        let program = self.base.program();
         let Some(found) = program.occurrence(sym, number) else {
             return self.drop_active(id, number, sym, args);
         };
-        let rule = program.rule(found.rule);
-        if self.fits(id, rule) {
-            self.simplify(id, number, sym, args, found.rule, rule)
-        } else {
-            self.default_active(id, number, sym, args)
+        if !self.base.store().alive(id) {
+            self.base.end_search(id);
+            return self.default_active(id, number, sym, args);
+        }
+        let active = Active::at(program, found, id);
+        match answer {
+            Answer::Missing => self.step_own(&active, number, sym, args),
+            Answer::Nothing => self.go_on(&active, number, sym, args, None),
+            Answer::Firing(ids, count) => {
+                self.go_on(&active, number, sym, args, Some(&ids[..count]))
+            }
         }
     }
 }

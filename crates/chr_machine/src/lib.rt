@@ -1,19 +1,21 @@
 //! The machine: the transitions of the refined operational semantics on one thread, and their trace.
-//!
-//! Today it performs the ground fragment: rules with one removed head and no guard, whose head and body have no variable.
 #![tactic(auto)]
 
+mod answer;
 mod firing;
-mod fragment;
-mod lines;
 mod machine;
+mod need;
 mod run;
+mod solving;
 mod state;
 mod steps;
-mod store;
+mod tasks;
+mod waking;
 
 pub use chr_bind::Fault;
-pub use fragment::{is_thin_program, is_thin_query};
+pub use chr_find::{Found, Task};
+pub use chr_store::{Fired, History, Id, Row, Store};
+pub use chr_trace::{Elem, Status};
 pub use machine::Machine;
-pub use state::{Elem, Fired, Status, Stepped};
-pub use store::{Id, Row, Store};
+pub use need::Need;
+pub use state::Stepped;

@@ -1,18 +1,32 @@
 //! The machine as its callers see it.
+ghost use Rattle.std.specs.Prelude.{◌≡◌, ◌≤◌, IfOk, OnErr, option_map};
+ghost use Rattle.chr_semantics.specs.Bounds.{IsQueryBounded};
+ghost use Rattle.chr_semantics.specs.Tasks.{guest, tasks};
 ghost use Rattle.chr_semantics.specs.declared.limits.TheConstants.{MAX_TRANSITIONS};
-ghost use Rattle.std.specs.Prelude.{◌≡◌, ◌≤◌, ◌<◌, ◌+◌, ◌-◌, ◌^◌, [], IfOk, OnErr, map, length, true};
-ghost use Rattle.chr_semantics.specs.State.{start};
-ghost use Rattle.chr_machine.specs.Fragment.{IsThin, is_thin_program, is_thin_query};
 ghost use Rattle.chr_rules.specs.ProgramView.{names_of, rules_of};
-ghost use Rattle.chr_rules.specs.RuleView.{goal_view, query_view};
-ghost use Rattle.chr_machine.specs.Slots.{next_of, rows_of};
-ghost use Rattle.chr_machine.specs.State.{fired_view, stack_view, state_of, status_view, texts};
-ghost use Rattle.chr_machine.specs.Step.{IsReady};
+ghost use Rattle.chr_rules.specs.RuleView.{query_view};
+ghost use Rattle.chr_store.specs.HistoryView.{entries_view};
+ghost use Rattle.chr_store.specs.Numbers.{numbers};
+ghost use Rattle.chr_store.specs.StoreView.{store_view};
+ghost use Rattle.chr_find.specs.SnapshotView.{guest_view, tasks_view};
+ghost use Rattle.chr_trace.specs.State.{stack_view, status_view};
+ghost use Rattle.chr_trace.specs.Texts.{texts};
+ghost use Rattle.chr_resume.specs.ResumingView.{program_in};
+ghost use Rattle.chr_machine.specs.Model.{model_of, state_in};
+ghost use Rattle.chr_machine.specs.NeedView.{Answers, need, need_view, plain};
+ghost use Rattle.chr_machine.specs.Proper.{propers};
+ghost use Rattle.chr_machine.specs.Step.{IsCounted, IsProper, IsReady};
 
-use crate::state::{Elem, Execution, Fired, Status, Stepped};
-use crate::store::Store;
+use crate::answer::Answer;
+use crate::need::Need;
+use crate::state::{Execution, Stepped};
+use chr_bind::Bindings;
+use chr_find::{Found, Task};
 use chr_rules::{Program, Query};
-use chr_term::{Memory, VarNames};
+use chr_store::{History, Id, Store};
+use chr_term::{Memory, Sym, Term, VarNames};
+use chr_trace::{Elem, Status};
+use smallvec::SmallVec;
 use std::alloc::{Allocator, Global};
 
 /// A run of a query under a program, a transition at a time, with its trace.
@@ -20,13 +34,12 @@ use std::alloc::{Allocator, Global};
 pub struct Machine<'p, A: Allocator = Global> {
     execution: Execution<'p, A>,
     ghost ready: { IsReady execution },
-    ghost small: { next_of execution.store ≤ execution.steps + 1 },
-    ghost limit: { execution.steps ≤ MAX_TRANSITIONS },
-    ghost thin: { IsThin (rules_of execution.program.now) (state_of execution) },
+    ghost counted: { IsCounted (model_of execution) },
+    ghost proper: { IsProper (rules_of (program_in execution.base)) (state_in (model_of execution)) } by { Prim.hlevel propers },
 }
 
 impl<'p, A: Allocator + Copy> Machine<'p, A> {
-    ghost use Rattle.chr_machine.specs.MachineView.{Runs, Same, Starts, Steps, machine_view};
+    ghost use Rattle.chr_machine.specs.MachineView.{Runs, Starts, Steps, machine_view};
 
     /// The machine before the first transition of the query, which was read for this program.
     pub fn start(
@@ -34,8 +47,7 @@ impl<'p, A: Allocator + Copy> Machine<'p, A> {
         program: &'p Program<A>,
         query: Query<A>,
     ) -> Result<Machine<'p, A>, Memory>
-        requires program { is_thin_program (rules_of program.now) ≡ true }
-        requires query { is_thin_query (query_view query) ≡ true }
+        requires { IsQueryBounded (query_view query) }
         ensures { IfOk result
             (λ machine. Starts (names_of program.now) (rules_of program.now) (query_view query)
             (machine_view machine)) }
@@ -49,9 +61,44 @@ impl<'p, A: Allocator + Copy> Machine<'p, A> {
     pub fn step(&mut self) -> Result<Stepped, Memory>
         ensures ok { IfOk result
             (λ stepped. Steps stepped (machine_view self.old) (machine_view self.new)) }
-        ensures err { OnErr result (Same (machine_view self.old) (machine_view self.new)) }
+        ensures err { OnErr result (machine_view self.new ≡ machine_view self.old) }
     {
-        self.execution.step()
+        self.execution.step(Answer::Missing)
+    }
+
+    /// Makes one transition that asks for no search. It answers Spent where 1,000,000 transitions were made; this and Memory leave the
+    /// machine as before.
+    pub fn step_plain(&mut self) -> Result<Stepped, Memory>
+        requires { need (machine_view self.old) ≡ plain }
+        ensures ok { IfOk result
+            (λ stepped. Steps stepped (machine_view self.old) (machine_view self.new)) }
+        ensures err { OnErr result (machine_view self.new ≡ machine_view self.old) }
+    {
+        self.step()
+    }
+
+    /// Makes one transition that asks for a search, with the answer of that search, and makes none itself. It answers Spent where 1,000,000
+    /// transitions were made; this and Memory leave the machine as before.
+    pub fn step_with(&mut self, found: Found<SmallVec<Id, 8, A>>) -> Result<Stepped, Memory>
+        requires { Answers (machine_view self.old) (option_map (λ ids. numbers ids.items) found.ids) }
+        ensures ok { IfOk result
+            (λ stepped. Steps stepped (machine_view self.old) (machine_view self.new)) }
+        ensures err { OnErr result (machine_view self.new ≡ machine_view self.old) }
+    {
+        match &found.ids {
+            None => self.step_answered(None),
+            Some(ids) => self.step_answered(Some(ids.as_slice())),
+        }
+    }
+
+    /// The same with the identities that the answer has.
+    pub fn step_answered(&mut self, ids: Option<&[Id]>) -> Result<Stepped, Memory>
+        requires { Answers (machine_view self.old) (option_map (λ list. numbers list.now) ids) }
+        ensures ok { IfOk result
+            (λ stepped. Steps stepped (machine_view self.old) (machine_view self.new)) }
+        ensures err { OnErr result (machine_view self.new ≡ machine_view self.old) }
+    {
+        self.execution.step(Answer::of(ids))
     }
 
     /// Makes transitions until it has made n, the run has ended or 1,000,000 stand. It answers Ended where the run has ended then, Spent
@@ -63,8 +110,33 @@ impl<'p, A: Allocator + Copy> Machine<'p, A> {
     }
 }
 
-impl<'p, A: Allocator> Machine<'p, A> {
+impl<'p, A: Allocator + Copy> Machine<'p, A> {
     ghost use Rattle.chr_machine.specs.MachineView.{machine_view};
+
+    /// What the next step asks for: the search of a task, no search, or nothing, since the run has ended.
+    pub fn top(&self) -> Need
+        ensures { need_view result ≡ need (machine_view self.now) }
+    {
+        self.execution.need()
+    }
+
+    /// The guest, as it stands on the stack: where a constraint is active on top and lives, the topmost goal below it that is a constraint
+    /// which is not yet active.
+    pub fn guest(&self) -> Option<(Sym, &[Term<A>])>
+        ensures { guest_view result ≡ guest (state_in (machine_view self.now)) }
+    {
+        self.execution.guest()
+    }
+
+    /// The searches that are worth making ahead, at most 64: those of the constraint that is active on top, where it lives, then those of the first
+    /// eight living constraints below it, then those of the guest, under the next identity. It costs the stack only as far as these reach. The
+    /// only error is want of memory.
+    pub fn tasks(&self) -> Result<Vec<Task, A>, Memory>
+        ensures { IfOk result (λ list. tasks_view list.items
+            ≡ tasks (machine_view self.now).rules (state_in (machine_view self.now))) }
+    {
+        self.execution.tasks()
+    }
 
     /// The number of transitions that were made.
     pub fn steps(&self) -> u64
@@ -76,30 +148,36 @@ impl<'p, A: Allocator> Machine<'p, A> {
 
     /// The goal stack, its top last.
     pub fn stack(&self) -> &[Elem<A>]
-        ensures { stack_view result.now ≡ (machine_view self.now).state.stack }
+        ensures { stack_view result.now ≡ (machine_view self.now).stack }
     {
         self.execution.stack.as_slice()
     }
 
     /// The constraints with their identities.
     pub fn store(&self) -> &Store<A>
-        ensures rows { rows_of result.now ≡ (machine_view self.now).state.store }
-        ensures next { next_of result.now ≡ (machine_view self.now).state.next_id }
-        ensures small { next_of result.now ≤ 1000001 }
+        ensures { store_view result.now ≡ (machine_view self.now).base.store }
     {
-        &self.execution.store
+        self.execution.base.store()
     }
 
-    /// The propagation history, in order of entry.
-    pub fn history(&self) -> &[Fired<A>]
-        ensures { map fired_view result.now ≡ (machine_view self.now).state.history }
+    /// The bindings.
+    pub fn bindings(&self) -> &Bindings<A>
+        ensures subst { result.now.subst ≡ (machine_view self.now).base.subst }
+        ensures len { result.now.len ≡ (machine_view self.now).base.next_var }
     {
-        self.execution.history.as_slice()
+        self.execution.base.bindings()
+    }
+
+    /// The propagation history.
+    pub fn history(&self) -> &History<A>
+        ensures { entries_view result.now ≡ (machine_view self.now).base.entries }
+    {
+        self.execution.base.history()
     }
 
     /// How the run stands.
     pub fn status(&self) -> Status
-        ensures { status_view result ≡ (machine_view self.now).state.status }
+        ensures { status_view result ≡ (machine_view self.now).status }
     {
         self.execution.status
     }
@@ -116,7 +194,7 @@ impl<'p, A: Allocator> Machine<'p, A> {
         ensures names { names_of result.now ≡ (machine_view self.now).names }
         ensures rules { rules_of result.now ≡ (machine_view self.now).rules }
     {
-        self.execution.program
+        self.execution.base.program()
     }
 
     /// The names of the query's variables.

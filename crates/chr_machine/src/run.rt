@@ -1,19 +1,25 @@
 //! A step, and a run.
-ghost use Rattle.std.specs.Prelude.{◌≡◌, ◌<◌, ◌≤◌, ◌+◌, ◌-◌, ◌^◌, [], IfErr, IfOk, OnErr, OnOk, vec_capacity, vec_len};
-ghost use Rattle.chr_semantics.specs.State.{start};
-ghost use Rattle.chr_machine.specs.Fragment.{IsThin};
-ghost use Rattle.chr_rules.specs.ProgramView.{rules_of};
+ghost use Rattle.std.specs.Prelude.{◌≡◌, ◌<◌, ◌≤◌, ◌+◌, ◌-◌, [], IfErr, IfOk, OnErr, OnOk, vec_capacity, vec_len};
+ghost use Rattle.chr_semantics.specs.Bounds.{IsQueryBounded};
+ghost use Rattle.chr_semantics.specs.State.{running, start};
+ghost use Rattle.chr_semantics.specs.declared.limits.TheConstants.{MAX_CHANGES, MAX_TRANSITIONS};
+ghost use Rattle.chr_rules.specs.ProgramView.{names_of, rules_of};
 ghost use Rattle.chr_rules.specs.RuleView.{query_view};
-ghost use Rattle.chr_machine.specs.Slots.{next_of};
-ghost use Rattle.chr_machine.specs.State.{elem_view, state_of};
-ghost use Rattle.chr_machine.specs.Step.{IsReady, Kept, Made, Ran, RunIs, StepIs, topped};
+ghost use Rattle.chr_trace.specs.State.{elem_view, status_view};
+ghost use Rattle.chr_resume.specs.ResumingView.{base_in, program_in};
+ghost use Rattle.chr_machine.specs.Answering.{AnswersStep};
+ghost use Rattle.chr_machine.specs.MachineView.{Runs, Starts, Steps};
+ghost use Rattle.chr_machine.specs.Model.{model_of, state_in, topped};
+ghost use Rattle.chr_machine.specs.Step.{IsCounted, IsProper, IsReady, Kept, Made};
 
+use crate::answer::Answer;
 use crate::firing::put_goals;
-use crate::state::{Elem, Execution, Status, Stepped};
-use crate::store::Store;
+use crate::state::{Execution, Stepped};
+use chr_resume::Resuming;
 use chr_rules::{Goal, Program, Query};
 use chr_semantics::limits::MAX_TRANSITIONS;
 use chr_term::Memory;
+use chr_trace::{Elem, Status};
 use std::alloc::{AllocError, Allocator};
 
 impl<'p, A: Allocator + Copy> Execution<'p, A> {
@@ -23,22 +29,23 @@ impl<'p, A: Allocator + Copy> Execution<'p, A> {
         program: &'p Program<A>,
         query: Query<A>,
     ) -> Result<Execution<'p, A>, Memory>
-        ensures state { IfOk result (λ execution. state_of execution ≡ start (query_view query)) }
-        ensures program { IfOk result (λ execution. execution.program ≡ program.entry) }
-        ensures var_names { IfOk result (λ execution. execution.var_names ≡ query.var_names) }
-        ensures steps { IfOk result (λ execution. execution.steps ≡ 0) }
-        ensures lines { IfOk result (λ execution. execution.lines.items ≡ []) }
+        requires { IsQueryBounded (query_view query) }
+        ensures starts { IfOk result (λ execution. Starts (names_of program.now) (rules_of program.now)
+            (query_view query) (model_of execution)) }
         ensures ready { IfOk result (λ execution. IsReady execution) }
+        ensures counted { IfOk result (λ execution. IsCounted (model_of execution)) }
+        ensures proper { IfOk result (λ execution. IsProper (rules_of (program_in execution.base))
+            (state_in (model_of execution))) }
     {
+        let _rules = program.rules();
         let Query { goals, var_names } = query;
+        let base = Resuming::new(alloc, program, var_names.len())?;
         let mut stack = Vec::with_capacity(alloc, goals.len())?;
         put_goals(&mut stack, goals);
         let mut execution = Execution {
-            program,
             var_names,
             stack,
-            store: Store::new(alloc),
-            history: Vec::new(alloc),
+            base,
             status: Status::Running,
             steps: 0,
             lines: Vec::new(alloc),
@@ -48,13 +55,15 @@ impl<'p, A: Allocator + Copy> Execution<'p, A> {
         Ok(execution)
     }
 
-    /// The transition of the element that was on top.
-    fn step_top(&mut self, top: Elem<A>) -> Result<(), Elem<A>>
+    /// The transition of the element that was on top. Where it needs a search, it makes one, unless the answer is known.
+    fn step_top(&mut self, top: Elem<A>, answer: Answer) -> Result<(), Elem<A>>
         requires room { vec_len self.old.stack < vec_capacity self.old.stack }
         requires few { self.old.steps < MAX_TRANSITIONS }
-        requires small { next_of self.old.store < 2 ^ 63 }
-        requires thin { IsThin (rules_of self.old.program.now)
-            (topped (elem_view top) (state_of self.old)) }
+        requires running { status_view self.old.status ≡ running }
+        requires changes { (base_in self.old.base).store.changes + 8 ≤ MAX_CHANGES }
+        requires proper { IsProper (rules_of (program_in self.old.base))
+            (state_in (topped (elem_view top) (model_of self.old))) }
+        requires answer { AnswersStep (topped (elem_view top) (model_of self.old)) answer }
         ensures ok { OnOk result (Made (elem_view top) self.old self.new) }
         ensures err { IfErr result (λ back. elem_view back ≡ elem_view top) }
         ensures kept { OnErr result (Kept self.old self.new) }
@@ -62,25 +71,27 @@ impl<'p, A: Allocator + Copy> Execution<'p, A> {
     {
         match top {
             Elem::Known(id, sym, args) => self.reactivate(id, sym, args),
-            Elem::Active(id, number, sym, args) => self.step_active(id, number, sym, args),
+            Elem::Active(id, number, sym, args) => self.step_active(id, number, sym, args, answer),
             Elem::Goal(goal) => match goal {
                 Goal::Chr(sym, args) => self.activate(sym, args),
-                Goal::BuiltIn(_, _, _) => unreachable!(),
-                Goal::Fail => unreachable!(),
+                Goal::BuiltIn(op, left, right) => self.solve(Goal::BuiltIn(op, left, right)),
+                Goal::Fail => self.solve(Goal::Fail),
             },
         }
     }
 
-    /// Makes one transition, or answers that the run has ended or that the limit stands. Memory leaves everything as before.
-    pub fn step(&mut self) -> Result<Stepped, Memory>
+    /// Makes one transition, or answers that the run has ended or that the limit stands. Where it needs a search, it makes one, unless the
+    /// answer is known. Memory leaves everything as before.
+    pub fn step(&mut self, answer: Answer) -> Result<Stepped, Memory>
         requires ready { IsReady self.old }
-        requires small { next_of self.old.store < 2 ^ 63 }
-        requires thin { IsThin (rules_of self.old.program.now) (state_of self.old) }
-        ensures ok { IfOk result (λ stepped. StepIs stepped self.old self.new) }
-        ensures err { OnErr result (Kept self.old self.new) }
+        requires counted { IsCounted (model_of self.old) }
+        requires proper { IsProper (rules_of (program_in self.old.base)) (state_in (model_of self.old)) }
+        requires answer { AnswersStep (model_of self.old) answer }
+        ensures ok { IfOk result (λ stepped. Steps stepped (model_of self.old) (model_of self.new)) }
+        ensures err { OnErr result (model_of self.new ≡ model_of self.old) }
         ensures ready { IsReady self.new }
-        ensures next { next_of self.new.store ≤ next_of self.old.store + 1 }
-        ensures thin { IsThin (rules_of self.new.program.now) (state_of self.new) }
+        ensures counted { IsCounted (model_of self.new) }
+        ensures proper { IsProper (rules_of (program_in self.new.base)) (state_in (model_of self.new)) }
     {
         match self.status {
             Status::Done => Ok(Stepped::Ended),
@@ -92,7 +103,7 @@ impl<'p, A: Allocator + Copy> Execution<'p, A> {
                 }
                 match self.stack.pop() {
                     None => unreachable!(),
-                    Some(top) => match self.step_top(top) {
+                    Some(top) => match self.step_top(top, answer) {
                         Ok(()) => Ok(Stepped::Moved),
                         Err(top) => {
                             self.stack.push_reserved(top);
@@ -107,24 +118,20 @@ impl<'p, A: Allocator + Copy> Execution<'p, A> {
     /// Makes n transitions, or fewer where the run ends or the limit stands. Memory leaves the whole steps before it.
     pub fn run_alone(&mut self, n: u64) -> Result<Stepped, Memory>
         requires ready { IsReady self.old }
-        requires limit { self.old.steps ≤ MAX_TRANSITIONS }
-        requires small { next_of self.old.store ≤ self.old.steps + 1 }
-        requires thin { IsThin (rules_of self.old.program.now) (state_of self.old) }
-        ensures ran { Ran (self.new.steps - self.old.steps) self.old self.new }
-        ensures ok { IfOk result
-            (λ stepped. RunIs stepped n (self.new.steps - self.old.steps) self.old self.new) }
-        ensures err { OnErr result (self.new.steps - self.old.steps < n) }
+        requires counted { IsCounted (model_of self.old) }
+        requires proper { IsProper (rules_of (program_in self.old.base)) (state_in (model_of self.old)) }
+        ensures runs { Runs result n (model_of self.old) (model_of self.new) }
         ensures ready { IsReady self.new }
-        ensures limit { self.new.steps ≤ MAX_TRANSITIONS }
-        ensures small { next_of self.new.store ≤ self.new.steps + 1 }
-        ensures thin { IsThin (rules_of self.new.program.now) (state_of self.new) }
+        ensures counted { IsCounted (model_of self.new) }
+        ensures proper { IsProper (rules_of (program_in self.new.base)) (state_in (model_of self.new)) }
     {
         let mut made = 0;
         while made < n {
-            match self.step()? {
-                Stepped::Moved => made += 1,
-                Stepped::Ended => return Ok(Stepped::Ended),
-                Stepped::Spent => return Ok(Stepped::Spent),
+            match self.step(Answer::Missing) {
+                Err(error) => return Err(error),
+                Ok(Stepped::Moved) => made += 1,
+                Ok(Stepped::Ended) => return Ok(Stepped::Ended),
+                Ok(Stepped::Spent) => return Ok(Stepped::Spent),
             }
         }
         match self.status {

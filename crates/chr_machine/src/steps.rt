@@ -1,36 +1,49 @@
-//! The transitions, each for the element that was taken off the top of the stack.
+//! The transitions of constraints, each for the element that was taken off the top of the stack.
 //!
 //! A transition makes all its growths first. Where one is refused, it gives the top back and has changed nothing.
-ghost use Rattle.chr_semantics.specs.declared.limits.TheConstants.{MAX_TRANSITIONS};
-ghost use Rattle.std.specs.Prelude.{◌≡◌, ◌<◌, ◌≤◌, ◌+◌, ◌++◌, ◌∷◌, ◌^◌, [], IfErr, OnErr, OnOk, IsTrue, Some, None, vec_capacity, vec_len, is_some, map, slice_get, length};
-ghost use Rattle.chr_semantics.specs.Program.{constraint, occurrence};
-ghost use Rattle.chr_semantics.specs.Search.{atom_of, firing, no_firing, no_occurrence};
-ghost use Rattle.chr_semantics.specs.State.{active, goal, known, with_stack};
+ghost use Rattle.chr_semantics.specs.declared.limits.TheConstants.{MAX_CHANGES, MAX_TRANSITIONS};
+ghost use Rattle.std.specs.Prelude.{◌≡◌, ◌<◌, ◌≤◌, ◌+◌, ◌++◌, ◌∷◌, ◌^◌, [], IfErr, OnErr, OnOk, vec_capacity, vec_len};
+ghost use Rattle.chr_semantics.specs.Program.{constraint};
+ghost use Rattle.chr_semantics.specs.Search.{no_firing, no_occurrence};
+ghost use Rattle.chr_semantics.specs.State.{active, goal, known, running, status_at};
 ghost use Rattle.chr_semantics.specs.Step.{search_at};
-ghost use Rattle.chr_machine.specs.Fragment.{IsThin};
-ghost use Rattle.chr_rules.specs.ProgramView.{rules_of};
+ghost use Rattle.chr_rules.specs.ProgramView.{names_of, rules_of};
 ghost use Rattle.chr_term.specs.TermView.{atom_view};
-ghost use Rattle.chr_rules.specs.RuleView.{rule_view};
-ghost use Rattle.chr_machine.specs.Slots.{next_of, rows_of};
-ghost use Rattle.chr_machine.specs.State.{elem_view, stack_view, state_of, texts};
-ghost use Rattle.chr_machine.specs.Step.{IsReady, Kept, Made, SameRun, topped};
+ghost use Rattle.chr_trace.specs.State.{elem_view, stack_view, status_view};
+ghost use Rattle.chr_trace.specs.Texts.{texts};
+ghost use Rattle.chr_resume.specs.ResumingView.{base_in, program_in};
+ghost use Rattle.chr_machine.specs.Model.{model_of, state_in, topped};
+ghost use Rattle.chr_machine.specs.Step.{IsReady, IsSameBelow, Kept, Made};
 
-use crate::state::{Elem, Execution, Status};
-use crate::store::Id;
+use crate::state::Execution;
 use chr_rules::Goal;
+use chr_store::Id;
 use chr_term::{Sym, Term, copy_all};
+use chr_trace::{Elem, Scribe, Status};
 use std::alloc::Allocator;
 
 impl<'p, A: Allocator + Copy> Execution<'p, A> {
+    /// What the lines of the trace are written with.
+    pub fn scribe(&self) -> Scribe<'_, A>
+        ensures names { result.names.now ≡ names_of (program_in self.now.base) }
+        ensures var_names { result.var_names.now ≡ self.now.var_names }
+        ensures subst { result.bindings.now.subst ≡ (base_in self.now.base).subst }
+    {
+        Scribe {
+            alloc: self.alloc,
+            names: self.base.program().names(),
+            var_names: &self.var_names,
+            bindings: self.base.bindings(),
+        }
+    }
+
     /// Puts an element on the stack, with room for it.
-    fn put(&mut self, elem: Elem<A>)
+    pub fn put(&mut self, elem: Elem<A>)
         requires { vec_len self.old.stack < vec_capacity self.old.stack }
-        ensures state { state_of self.new
-            ≡ with_stack (state_of self.old) (elem_view elem ∷ stack_view self.old.stack.items) }
-        ensures lines { self.new.lines ≡ self.old.lines }
-        ensures steps { self.new.steps ≡ self.old.steps }
-        ensures same { SameRun self.old self.new }
-        ensures store { self.new.store ≡ self.old.store }
+        ensures stack { stack_view self.new.stack.items
+            ≡ elem_view elem ∷ stack_view self.old.stack.items }
+        ensures status { status_view self.new.status ≡ running }
+        ensures below { IsSameBelow self.old self.new }
         ensures ready { IsReady self.new }
     {
         self.stack.push_reserved(elem);
@@ -39,12 +52,9 @@ impl<'p, A: Allocator + Copy> Execution<'p, A> {
 
     /// Says how the run stands where nothing was put.
     pub fn settle(&mut self)
-        ensures state { state_of self.new
-            ≡ with_stack (state_of self.old) (stack_view self.old.stack.items) }
-        ensures lines { self.new.lines ≡ self.old.lines }
-        ensures steps { self.new.steps ≡ self.old.steps }
-        ensures same { SameRun self.old self.new }
-        ensures store { self.new.store ≡ self.old.store }
+        ensures stack { stack_view self.new.stack.items ≡ stack_view self.old.stack.items }
+        ensures status { status_view self.new.status ≡ status_at (stack_view self.old.stack.items) }
+        ensures below { IsSameBelow self.old self.new }
         ensures ready { IsReady self.new }
     {
         if self.stack.len() == 0 {
@@ -52,6 +62,22 @@ impl<'p, A: Allocator + Copy> Execution<'p, A> {
         } else {
             self.status = Status::Running;
         }
+    }
+
+    /// Appends the line of the transition, with room for it.
+    pub fn log(&mut self, line: Vec<u8, A>)
+        requires few { self.old.steps < MAX_TRANSITIONS }
+        requires room { vec_len self.old.lines < vec_capacity self.old.lines }
+        ensures lines { texts self.new.lines.items ≡ texts self.old.lines.items ++ line.items ∷ [] }
+        ensures steps { self.new.steps ≡ self.old.steps + 1 }
+        ensures stack { self.new.stack ≡ self.old.stack }
+        ensures status { self.new.status ≡ self.old.status }
+        ensures base { self.new.base ≡ self.old.base }
+        ensures program { program_in self.new.base ≡ program_in self.old.base }
+        ensures var_names { self.new.var_names ≡ self.old.var_names }
+    {
+        self.lines.push_reserved(line);
+        self.steps += 1;
     }
 
     /// Reactivate: the constraint is active at its first occurrence.
@@ -63,14 +89,16 @@ impl<'p, A: Allocator + Copy> Execution<'p, A> {
         ensures kept { OnErr result (Kept self.old self.new) }
         ensures room { OnErr result (vec_len self.new.stack < vec_capacity self.new.stack) }
     {
-        let Ok(line) = self.reactivate_line(id, sym, args.as_slice()) else {
+        let Ok(line) = self
+            .scribe()
+            .reactivates(self.steps + 1, sym, args.as_slice(), id)
+        else {
             return Err(Elem::Known(id, sym, args));
         };
         let Ok(()) = self.lines.reserve(1) else {
             return Err(Elem::Known(id, sym, args));
         };
-        self.lines.push_reserved(line);
-        self.steps += 1;
+        self.log(line);
         self.put(Elem::Active(id, 1, sym, args));
         Ok(())
     }
@@ -79,7 +107,7 @@ impl<'p, A: Allocator + Copy> Execution<'p, A> {
     pub fn activate(&mut self, sym: Sym, args: Vec<Term<A>, A>) -> Result<(), Elem<A>>
         requires room { vec_len self.old.stack < vec_capacity self.old.stack }
         requires few { self.old.steps < MAX_TRANSITIONS }
-        requires small { next_of self.old.store < 2 ^ 63 }
+        requires changes { (base_in self.old.base).store.changes + 8 ≤ MAX_CHANGES }
         ensures ok { OnOk result
             (Made (goal (constraint (atom_view sym args.items))) self.old self.new) }
         ensures err { IfErr result
@@ -87,24 +115,27 @@ impl<'p, A: Allocator + Copy> Execution<'p, A> {
         ensures kept { OnErr result (Kept self.old self.new) }
         ensures room { OnErr result (vec_len self.new.stack < vec_capacity self.new.stack) }
     {
-        let next = self.store.next();
-        let Ok(line) = self.activate_line(next, sym, args.as_slice()) else {
+        let next = self.base.store().next();
+        let Ok(line) = self
+            .scribe()
+            .activates(self.steps + 1, sym, args.as_slice(), next)
+        else {
             return Err(Elem::Goal(Goal::Chr(sym, args)));
         };
-        let Ok(stored) = copy_all(self.alloc, args.as_slice()) else {
+        let Ok(shown) = copy_all(self.alloc, args.as_slice()) else {
             return Err(Elem::Goal(Goal::Chr(sym, args)));
         };
         let Ok(()) = self.lines.reserve(1) else {
             return Err(Elem::Goal(Goal::Chr(sym, args)));
         };
-        let Ok(()) = self.store.room() else {
-            return Err(Elem::Goal(Goal::Chr(sym, args)));
-        };
-        self.lines.push_reserved(line);
-        self.steps += 1;
-        let id = self.store.add_reserved(sym, stored);
-        self.put(Elem::Active(id, 1, sym, args));
-        Ok(())
+        match self.base.add(sym, args) {
+            Err((args, _)) => Err(Elem::Goal(Goal::Chr(sym, args))),
+            Ok(id) => {
+                self.log(line);
+                self.put(Elem::Active(id, 1, sym, shown));
+                Ok(())
+            }
+        }
     }
 
     /// Drop: the constraint has no such occurrence.
@@ -117,8 +148,8 @@ impl<'p, A: Allocator + Copy> Execution<'p, A> {
     ) -> Result<(), Elem<A>>
         requires room { vec_len self.old.stack < vec_capacity self.old.stack }
         requires few { self.old.steps < MAX_TRANSITIONS }
-        requires none { search_at (rules_of self.old.program.now)
-            (topped (active id.0 number (atom_view sym args.items)) (state_of self.old)) id.0 number
+        requires none { search_at (rules_of (program_in self.old.base))
+            (state_in (topped (active id.0 number (atom_view sym args.items)) (model_of self.old))) id.0 number
             (atom_view sym args.items) ≡ no_occurrence }
         ensures ok { OnOk result
             (Made (active id.0 number (atom_view sym args.items)) self.old self.new) }
@@ -127,14 +158,16 @@ impl<'p, A: Allocator + Copy> Execution<'p, A> {
         ensures kept { OnErr result (Kept self.old self.new) }
         ensures room { OnErr result (vec_len self.new.stack < vec_capacity self.new.stack) }
     {
-        let Ok(line) = self.drop_line(id, number, sym, args.as_slice()) else {
+        let Ok(line) = self
+            .scribe()
+            .drops(self.steps + 1, sym, args.as_slice(), id, number)
+        else {
             return Err(Elem::Active(id, number, sym, args));
         };
         let Ok(()) = self.lines.reserve(1) else {
             return Err(Elem::Active(id, number, sym, args));
         };
-        self.lines.push_reserved(line);
-        self.steps += 1;
+        self.log(line);
         self.settle();
         Ok(())
     }
@@ -150,8 +183,8 @@ impl<'p, A: Allocator + Copy> Execution<'p, A> {
         requires room { vec_len self.old.stack < vec_capacity self.old.stack }
         requires few { self.old.steps < MAX_TRANSITIONS }
         requires small { number < 2 ^ 31 }
-        requires none { search_at (rules_of self.old.program.now)
-            (topped (active id.0 number (atom_view sym args.items)) (state_of self.old)) id.0 number
+        requires none { search_at (rules_of (program_in self.old.base))
+            (state_in (topped (active id.0 number (atom_view sym args.items)) (model_of self.old))) id.0 number
             (atom_view sym args.items) ≡ no_firing }
         ensures ok { OnOk result
             (Made (active id.0 number (atom_view sym args.items)) self.old self.new) }
@@ -160,14 +193,16 @@ impl<'p, A: Allocator + Copy> Execution<'p, A> {
         ensures kept { OnErr result (Kept self.old self.new) }
         ensures room { OnErr result (vec_len self.new.stack < vec_capacity self.new.stack) }
     {
-        let Ok(line) = self.default_line(id, number, sym, args.as_slice()) else {
+        let Ok(line) = self
+            .scribe()
+            .defaults(self.steps + 1, sym, args.as_slice(), id, number)
+        else {
             return Err(Elem::Active(id, number, sym, args));
         };
         let Ok(()) = self.lines.reserve(1) else {
             return Err(Elem::Active(id, number, sym, args));
         };
-        self.lines.push_reserved(line);
-        self.steps += 1;
+        self.log(line);
         self.put(Elem::Active(id, number + 1, sym, args));
         Ok(())
     }

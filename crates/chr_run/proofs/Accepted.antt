@@ -1,11 +1,11 @@
 -- The answers of a run of two texts.
-use Rattle.std.proofs.Common.{◌≡◌, ℕ, true, List, Option, Result, Ok, Err}
+use Rattle.std.proofs.Common.{ℕ, List, Option, Result, Ok, Err}
 use Rattle.chr_semantics.specs.Accepted.{IsAccepted}
 use Rattle.chr_semantics.specs.Names.{Names}
 use Rattle.chr_semantics.specs.Program.{Program as Rules, Query as Goals}
-use Rattle.chr_machine.specs.declared.state.Status.{Status}
+use Rattle.chr_trace.specs.declared.state.Status.{Status}
 use Rattle.chr_run.specs.Run.{IsInto, PastLimits}
-use Rattle.chr_run.specs.Texts.{IsTextRun, is_performed}
+use Rattle.chr_run.specs.Texts.{IsTextRun}
 use Rattle.chr_run.proofs.Parts.{keeps_same}
 use Rattle.chr_run.specs.declared.error.RunError.{RunError}
 use Rattle.chr_run.specs.declared.error.RunError.TheVariants.{BudgetTooLarge, TooManyWorkers, Memory}
@@ -20,14 +20,13 @@ limits_refuse program query n workers old Memory h = absurd h
 
 -- the run of what is accepted is the run of the texts
 pub accepted_run : (program query : List ℕ) (names : Names) (rules : Rules) (q : Goals) (n workers : ℕ) (old new : Option (List ℕ)) (result : Result Status TextError)
-    → IsAccepted program query names rules q → is_performed rules q ≡ true → IsInto names rules q n workers old new result → IsTextRun program query n workers old new result
-accepted_run program query names rules q n workers old new (Ok status) a p h = record { names = names; rules = rules; q = q; accepted = a; performed = p; into = h }
-accepted_run program query names rules q n workers old new (Err error.Write) a p h = record { names = names; rules = rules; q = q; accepted = a; performed = p; into = h }
-accepted_run program query names rules q n workers old new (Err (error.Run Memory)) a p h = record { names = names; rules = rules; q = q; accepted = a; performed = p; into = h }
-accepted_run program query names rules q n workers old new (Err (error.Run BudgetTooLarge)) a p h = h
-accepted_run program query names rules q n workers old new (Err (error.Run TooManyWorkers)) a p h = h
-accepted_run program query names rules q n workers old new (Err (error.Program e)) a p h = absurd h
-accepted_run program query names rules q n workers old new (Err (error.Rules e)) a p h = absurd h
-accepted_run program query names rules q n workers old new (Err (error.Query e)) a p h = absurd h
-accepted_run program query names rules q n workers old new (Err (error.Goals e)) a p h = absurd h
-accepted_run program query names rules q n workers old new (Err error.NotYet) a p h = absurd h
+    → IsAccepted program query names rules q → IsInto names rules q n workers old new result → IsTextRun program query n workers old new result
+accepted_run program query names rules q n workers old new (Ok status) a h = record { names = names; rules = rules; q = q; accepted = a; into = h }
+accepted_run program query names rules q n workers old new (Err error.Write) a h = record { names = names; rules = rules; q = q; accepted = a; into = h }
+accepted_run program query names rules q n workers old new (Err (error.Run Memory)) a h = record { names = names; rules = rules; q = q; accepted = a; into = h }
+accepted_run program query names rules q n workers old new (Err (error.Run BudgetTooLarge)) a h = h
+accepted_run program query names rules q n workers old new (Err (error.Run TooManyWorkers)) a h = h
+accepted_run program query names rules q n workers old new (Err (error.Program e)) a h = absurd h.1.0
+accepted_run program query names rules q n workers old new (Err (error.Rules e)) a h = absurd h.1.0
+accepted_run program query names rules q n workers old new (Err (error.Query e)) a h = absurd h.1.0
+accepted_run program query names rules q n workers old new (Err (error.Goals e)) a h = absurd h.1.0

@@ -1,5 +1,7 @@
 -- A run that has ended stays as it is, so that a budget above its transitions gives the same text.
-use Rattle.std.proofs.Common.{◌≡◌, ◌≢◌, ◌∙◌, ℕ, zero, suc, ◌+◌, ◌-◌, ◌≤◌, ◌++◌, [], refl, ap, sym, arith, append-nil, append_assoc, None}
+use Rattle.std.proofs.Common.{◌≡◌, ◌≢◌, ◌⊎◌, inl, inr, ◌∙◌, ℕ, zero, suc, ◌+◌, ◌-◌, ◌≤◌, ◌++◌, [], ◌∷◌, List, drop, take, refl, ap, sym, arith, append-nil, append_assoc, None}
+use Rattle.std.proofs.lemmas.Grind.{flat_map-append}
+use Rattle.std.proofs.lemmas.List.{take-append-drop}
 use Rattle.chr_semantics.specs.Names.{Names, VarNames}
 use Rattle.chr_semantics.specs.Program.{Program, Query}
 use Rattle.chr_semantics.specs.State.{State, Status, running, done, failed, faulted, start}
@@ -7,9 +9,9 @@ use Rattle.chr_semantics.specs.Step.{step, step_at, after}
 use Rattle.chr_semantics.specs.Trace.{line, line_at}
 use Rattle.chr_semantics.specs.Text.{line_texts, trace, outcome, lines_text, text}
 use Rattle.chr_semantics.proofs.Counts.{after-add}
-use Rattle.chr_machine.specs.MachineView.{MachineModel, Starts, Further, Stops}
-use Rattle.chr_machine.specs.declared.state.Stepped.{Stepped}
-use Rattle.chr_machine.specs.declared.state.Stepped.TheVariants.{Moved, Ended, Spent}
+use Rattle.chr_machine.specs.MachineView.{Starts, Further}
+use Rattle.chr_machine.specs.Model.{Model, state_in}
+use Rattle.chr_run.specs.Sending.{end_lines, rest_text}
 
 step_ended : (p : Program) (s : State) (w : Status) → w ≢ running → step_at p s w ≡ s
 step_ended p s running h = absurd (h refl)
@@ -66,49 +68,67 @@ covers_ended p s k n within ended =
     }
 
 -- how far a machine has come, from its start
-pub record HasRun (names : Names) (p : Program) (q : Query) (k : ℕ) (s : MachineModel) : Type 0 where
-  pub state : s.state ≡ after p (start q) k
-  pub lines : s.lines ≡ trace names q.var_names p (start q) 1 k
-  pub names_are : s.names ≡ names
-  pub rules_are : s.rules ≡ p
-  pub var_names_are : s.var_names ≡ q.var_names
-  pub steps_are : s.steps ≡ k
+pub record HasRun (names : Names) (p : Program) (q : Query) (k : ℕ) (m : Model) : Type 0 where
+  pub state : state_in m ≡ after p (start q) k
+  pub lines : m.lines ≡ trace names q.var_names p (start q) 1 k
+  pub names_are : m.names ≡ names
+  pub rules_are : m.rules ≡ p
+  pub var_names_are : m.var_names ≡ q.var_names
 
-pub has_run : (names : Names) (p : Program) (q : Query) (k : ℕ) (old new : MachineModel) → Starts names p q old → Further k old new → HasRun names p q k new
+pub has_run : (names : Names) (p : Program) (q : Query) (k : ℕ) (old new : Model) → Starts names p q old → Further k old new → HasRun names p q k new
 has_run names p q k old new at far = record {
-  state = far.state_is ∙ (ap (λ r. after r old.state k) at.rules_are ∙ ap (λ t. after p t k) at.state_is);
-  lines =
-      far.lines_are
-      ∙ (ap (λ ls. ls ++ trace old.names old.var_names old.rules old.state (old.steps + 1) k) at.lines_are
-      ∙ (ap (λ m. trace m old.var_names old.rules old.state (old.steps + 1) k) at.names_are
-      ∙ (ap (λ m. trace names m old.rules old.state (old.steps + 1) k) at.var_names_are
-      ∙ (ap (λ m. trace names q.var_names m old.state (old.steps + 1) k) at.rules_are
-      ∙ (ap (λ m. trace names q.var_names p m (old.steps + 1) k) at.state_is ∙ ap (λ m. trace names q.var_names p (start q) (m + 1) k) at.steps_are)))));
-  names_are = far.names_are ∙ at.names_are;
-  rules_are = far.rules_are ∙ at.rules_are;
-  var_names_are = far.var_names_are ∙ at.var_names_are;
-  steps_are = omega (arith, far.steps_are, at.steps_are);
+  state = far.state_is ∙ λ i. after (at.rules_are i) (at.state_is i) k;
+  lines = far.lines_are ∙ λ i. at.lines_are i ++ trace (at.names_are i) (at.var_names_are i) (at.rules_are i) (at.state_is i) (at.steps_are i + 1) k;
+  names_are = far.same.names ∙ at.names_are;
+  rules_are = far.same.rules ∙ at.rules_are;
+  var_names_are = far.same.var_names ∙ at.var_names_are;
 }
 
-covers_stopped : (p : Program) (s : State) (k n : ℕ) (r : Stepped) (old new : MachineModel) → new.state ≡ after p s k → new.steps ≡ k → n ≤ 1000000 → Stops r n k old new → Covers p s k n
-covers_stopped p s k n Moved old new state steps limit h = covers_same p s k n h.0
-covers_stopped p s k n Ended old new state steps limit h = covers_ended p s k n h.0 (λ e. h.2 (ap (λ (t : State). t.status) state ∙ e))
-covers_stopped p s k n Spent old new state steps limit h = absurd (omega (arith, h.0, h.2, steps, limit))
+covers_performed : (p : Program) (s : State) (k n : ℕ) (m : Model) → state_in m ≡ after p s k → k ≤ n → (k ≡ n) ⊎ (m.status ≢ running) → Covers p s k n
+covers_performed p s k n m is within (inl e) = covers_same p s k n e
+covers_performed p s k n m is within (inr ended) = covers_ended p s k n within (λ e. ended (ap (λ (t : State). t.status) is ∙ e))
 
--- where it stopped for a budget of n, it shows the text and the status of n transitions
-pub record Shows (names : Names) (p : Program) (q : Query) (n : ℕ) (s : MachineModel) : Type 0 where
-  pub text_is : lines_text (s.lines ++ outcome s.names s.var_names s.rules s.state) ≡ text names p q n
-  pub status_is : s.state.status ≡ (after p (start q) n).status
+pub lines_text-append : (ls ms : List (List ℕ)) → lines_text (ls ++ ms) ≡ lines_text ls ++ lines_text ms
+lines_text-append ls ms = flat_map-append (λ (l : List ℕ). l ++ 10 ∷ []) ls ms
 
-pub shows : (names : Names) (p : Program) (q : Query) (k n : ℕ) (r : Stepped) (old s : MachineModel) → HasRun names p q k s → n ≤ 1000000 → Stops r n k old s → Shows names p q n s
-shows names p q k n r old s ran limit h =
-    let covers = covers_stopped p (start q) k n r old s ran.state ran.steps_are limit h in
+-- the text of a run is what was made of it, and a rest
+pub record Begins (names : Names) (p : Program) (q : Query) (n : ℕ) (m : Model) : Type 0 where
+  pub rest : List ℕ
+  pub whole : text names p q n ≡ lines_text m.lines ++ rest
+
+pub begins : (names : Names) (p : Program) (q : Query) (k n : ℕ) (m : Model) → HasRun names p q k m → k ≤ n → Begins names p q n m
+begins names p q k n m ran within =
+    let s = start q in
+    let split : n ≡ k + (n - k) = omega arith in
+    let later = trace names q.var_names p (after p s k) (1 + k) (n - k) in
+    let end = outcome names q.var_names p (after p s n) in
+    let lines : trace names q.var_names p s 1 n ≡ m.lines ++ later = ap (trace names q.var_names p s 1) split ∙ (trace-add names q.var_names p s 1 k (n - k) ∙ ap (λ ls. ls ++ later) (sym ran.lines)) in
+    record {
+      rest = lines_text (later ++ end);
+      whole = ap (λ ls. lines_text (ls ++ end)) lines ∙ (ap lines_text (append_assoc m.lines later end) ∙ lines_text-append m.lines (later ++ end));
+    }
+
+-- where all of it was made, the rest is what stands after the trace
+pub record IsWhole (names : Names) (p : Program) (q : Query) (n : ℕ) (m : Model) : Type 0 where
+  pub text_is : text names p q n ≡ lines_text (m.lines ++ end_lines m)
+  pub status_is : m.status ≡ (after p (start q) n).status
+
+pub is_whole : (names : Names) (p : Program) (q : Query) (k n : ℕ) (m : Model) → HasRun names p q k m → k ≤ n → (k ≡ n) ⊎ (m.status ≢ running) → IsWhole names p q n m
+is_whole names p q k n m ran within all =
+    let covers = covers_performed p (start q) k n m ran.state within all in
+    let state : after p (start q) n ≡ state_in m = covers.state ∙ sym ran.state in
+    let lines : trace names q.var_names p (start q) 1 n ≡ m.lines = covers.lines names q.var_names ∙ sym ran.lines in
     record {
       text_is =
-          ap (λ ls. lines_text (ls ++ outcome s.names s.var_names s.rules s.state)) (ran.lines ∙ sym (covers.lines names q.var_names))
-          ∙ (ap (λ m. lines_text (trace names q.var_names p (start q) 1 n ++ outcome m s.var_names s.rules s.state)) ran.names_are
-          ∙ (ap (λ m. lines_text (trace names q.var_names p (start q) 1 n ++ outcome names m s.rules s.state)) ran.var_names_are
-          ∙ (ap (λ m. lines_text (trace names q.var_names p (start q) 1 n ++ outcome names q.var_names m s.state)) ran.rules_are
-          ∙ ap (λ m. lines_text (trace names q.var_names p (start q) 1 n ++ outcome names q.var_names p m)) (ran.state ∙ sym covers.state))));
-      status_is = ap (λ (t : State). t.status) (ran.state ∙ sym covers.state);
+          let ns = sym ran.names_are in
+          let vs = sym ran.var_names_are in
+          let rs = sym ran.rules_are in
+          λ i. lines_text (lines i ++ outcome (ns i) (vs i) (rs i) (state i));
+      status_is = ap (λ (t : State). t.status) (sym state);
     }
+
+-- the first lines and the rest are all lines
+pub sent_and_rest : (m : Model) (sent : ℕ) → lines_text (m.lines ++ end_lines m) ≡ lines_text (take sent m.lines) ++ rest_text m sent
+sent_and_rest m sent =
+    ap (λ ls. lines_text (ls ++ end_lines m)) (sym (take-append-drop sent m.lines))
+    ∙ (ap lines_text (append_assoc (take sent m.lines) (drop sent m.lines) (end_lines m)) ∙ lines_text-append (take sent m.lines) (drop sent m.lines ++ end_lines m))

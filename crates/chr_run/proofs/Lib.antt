@@ -1,6 +1,6 @@
 pub mod Parts
-pub mod Lines
-pub mod Bodies
 pub mod Ends
+pub mod Sent
+pub mod Sends
 pub mod Inputs
 pub mod Accepted

@@ -5,11 +5,11 @@ use Rattle.std.specs.List.{concat}
 use Rattle.std.specs.Io.KnownBytes.{Appends, Keeps}
 use Rattle.chr_run.specs.Output.{IsOut, AppendsPart}
 
-appends-none : (old : Option (List ℕ)) → Appends old old []
+pub appends-none : (old : Option (List ℕ)) → Appends old old []
 appends-none None = tt
 appends-none (Some xs) = sym (append-nil xs)
 
-appends-both : (old mid new : Option (List ℕ)) (a b : List ℕ) → Appends old mid a → Appends mid new b → Appends old new (a ++ b)
+pub appends-both : (old mid new : Option (List ℕ)) (a b : List ℕ) → Appends old mid a → Appends mid new b → Appends old new (a ++ b)
 appends-both None mid new a b h k = tt
 appends-both (Some xs) None new a b h k = absurd h
 appends-both (Some xs) (Some ys) None a b h k = absurd k

@@ -2,8 +2,8 @@
 use Rattle.std.specs.Prelude.{◌≡◌, ◌⊎◌, ◌++◌, ℕ, ◌==◌, if◌then◌else◌, List, [], ◌∷◌, codes, Option, Some, None, IfSome, Result, Ok, Err}
 use Rattle.std.specs.Str.{byte}
 use Rattle.std.specs.Io.KnownBytes.{Appends, Keeps}
-use Rattle.chr_machine.specs.declared.state.Status.{Status}
-use Rattle.chr_machine.specs.declared.state.Status.TheVariants.{Running, Done, Failed, Faulted}
+use Rattle.chr_trace.specs.declared.state.Status.{Status}
+use Rattle.chr_trace.specs.declared.state.Status.TheVariants.{Running, Done, Failed, Faulted}
 use Rattle.chr_words.specs.Answer.{budget_of}
 use Rattle.chr_words.specs.Words.{Asks, run, help, refused, asks_of}
 use Rattle.chr_run.specs.ErrorText.{text_error_text}

@@ -6,7 +6,7 @@ use Rattle.chr_rules.specs.ErrorText.{rule_error_kind_text, rule_error_text}
 use Rattle.chr_run.specs.declared.error.RunError.{RunError}
 use Rattle.chr_run.specs.declared.error.RunError.TheVariants.{BudgetTooLarge, TooManyWorkers, Memory}
 use Rattle.chr_run.specs.declared.error.TextError.{TextError}
-use Rattle.chr_run.specs.declared.error.TextError.TheVariants.{Run, Program, Rules, Query, Goals, NotYet, Write}
+use Rattle.chr_run.specs.declared.error.TextError.TheVariants.{Run, Program, Rules, Query, Goals, Write}
 
 abbrev pub run_error_text : RunError → List ℕ
 run_error_text BudgetTooLarge = codes "BudgetTooLarge"
@@ -19,5 +19,4 @@ text_error_text (Program e) = codes "program " ++ read_error_text e
 text_error_text (Rules e) = codes "program " ++ rule_error_text e
 text_error_text (Query e) = codes "query " ++ read_error_text e
 text_error_text (Goals e) = codes "query line " ++ decimal e.line ++ codes ": " ++ rule_error_kind_text e.kind
-text_error_text NotYet = codes "NotYet"
 text_error_text Write = codes "cannot write"

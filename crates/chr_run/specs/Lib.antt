@@ -1,7 +1,6 @@
 pub mod ErrorText
 pub mod Output
-pub mod Stored
-pub mod Body
+pub mod Sending
 pub mod Run
 pub mod Texts
 pub mod Command

@@ -7,13 +7,14 @@ use Rattle.chr_semantics.specs.Program as semantics
 use Rattle.chr_semantics.specs.State.{start}
 use Rattle.chr_semantics.specs.Step.{after}
 use Rattle.chr_semantics.specs.Text.{text}
-use Rattle.chr_machine.specs.State.{status_view}
-use Rattle.chr_machine.specs.declared.state.Status.{Status}
+use Rattle.chr_trace.specs.State.{status_view}
+use Rattle.chr_trace.specs.declared.state.Status.{Status}
 use Rattle.chr_run.specs.Output.{AppendsPart}
+use Rattle.chr_run.specs.Sending.{IsCut}
 use Rattle.chr_run.specs.declared.error.RunError.{RunError}
 use Rattle.chr_run.specs.declared.error.RunError.TheVariants.{BudgetTooLarge, TooManyWorkers, Memory}
 use Rattle.chr_run.specs.declared.error.TextError.{TextError}
-use Rattle.chr_run.specs.declared.error.TextError.TheVariants.{Run, Write}
+use Rattle.chr_run.specs.declared.error.TextError.TheVariants.{Run}
 
 -- the budget is at most 1,000,000, and there is no worker
 abbrev pub WithinLimits : ℕ → ℕ → Type 0
@@ -25,15 +26,14 @@ PastLimits n workers BudgetTooLarge = MAX_TRANSITIONS < n
 PastLimits n workers TooManyWorkers = (n ≤ MAX_TRANSITIONS) × (0 < workers)
 PastLimits n workers Memory = ⊥
 
--- when each refusal of a run comes: both limits are looked at before memory is asked for
-abbrev pub RefusedRun : ℕ → ℕ → RunError → Type 0
-RefusedRun n workers Memory = WithinLimits n workers
-RefusedRun n workers e = PastLimits n workers e
+-- What an answer of a run of n transitions says of the bytes that the writer tells: all of its text and its status, or a first part of it
+-- after Write and want of memory.
+abbrev pub Sends : Names → semantics.Program → semantics.Query → ℕ → Option (List ℕ) → Option (List ℕ) → Result Status TextError → Type 0
+Sends names p q n old new (Ok status) = Appends old new (text names p q n) × (status_view status ≡ (after p (start q) n).status)
+Sends names p q n old new (Err e) = IsCut e × AppendsPart old new (text names p q n)
 
--- what an answer says of the bytes that the writer tells: all of the text of n transitions and its status, a first part of it after
--- Write, and nothing after another refusal; a program and a query that are there are never refused as texts
+-- the same of a run that the limits may refuse: then nothing goes out; a program and a query that are there are never refused as texts
 abbrev pub IsInto : Names → semantics.Program → semantics.Query → ℕ → ℕ → Option (List ℕ) → Option (List ℕ) → Result Status TextError → Type 0
-IsInto names p q n workers old new (Ok status) = WithinLimits n workers × Appends old new (text names p q n) × (status_view status ≡ (after p (start q) n).status)
-IsInto names p q n workers old new (Err (Run e)) = RefusedRun n workers e × Keeps old new
-IsInto names p q n workers old new (Err Write) = WithinLimits n workers × AppendsPart old new (text names p q n)
-IsInto names p q n workers old new (Err _) = ⊥
+IsInto names p q n workers old new (Err (Run BudgetTooLarge)) = PastLimits n workers BudgetTooLarge × Keeps old new
+IsInto names p q n workers old new (Err (Run TooManyWorkers)) = PastLimits n workers TooManyWorkers × Keeps old new
+IsInto names p q n workers old new r = WithinLimits n workers × Sends names p q n old new r

@@ -1,5 +1,5 @@
 -- What the run of two texts answers, and what goes out.
-use Rattle.std.specs.Prelude.{◌≡◌, ℕ, Bool, false, ◌&&◌, true, List, Option, Result, Ok, Err}
+use Rattle.std.specs.Prelude.{ℕ, List, Option, Result, Ok, Err}
 use Rattle.std.specs.Io.KnownBytes.{Keeps}
 use Rattle.chr_semantics.specs.Accepted.{IsAcceptedProgram, IsAccepted}
 use Rattle.chr_semantics.specs.Checked.{Checked, checked, checked_query}
@@ -10,16 +10,11 @@ use Rattle.chr_semantics.specs.Reading.{IsRead}
 use Rattle.chr_semantics.specs.Syntax as syntax
 use Rattle.chr_read.specs.Refusals.{IsRefusal}
 use Rattle.chr_rules.specs.Checks.{IsError}
-use Rattle.chr_machine.specs.Fragment.{is_thin_program, is_thin_query}
-use Rattle.chr_machine.specs.declared.state.Status.{Status}
+use Rattle.chr_trace.specs.declared.state.Status.{Status}
 use Rattle.chr_run.specs.Run.{WithinLimits, PastLimits, IsInto}
 use Rattle.chr_run.specs.declared.error.RunError.TheVariants.{Memory}
 use Rattle.chr_run.specs.declared.error.TextError.{TextError}
 use Rattle.chr_run.specs.declared.error.TextError.TheVariants as error
-
--- the machine performs them today
-abbrev pub is_performed : Rules → Goals → Bool
-is_performed rules q = is_thin_program rules && is_thin_query q
 
 -- the text of a program is not read so, or it is read and there is this mistake
 abbrev pub IsProgramError : List ℕ → TextError → Type 0
@@ -33,13 +28,12 @@ IsQueryError c text (error.Query e) = IsRefusal IsQuery text e
 IsQueryError c text (error.Goals e) = (spelled : syntax.Query) × IsRead IsQuery text spelled × IsError e (checked_query c spelled)
 IsQueryError c text _ = ⊥
 
--- Why two texts are not run: the program is looked at first, then the query over it, and then whether the machine performs them today.
+-- Why two texts are not run: the program is looked at first, then the query over it.
 abbrev pub IsTextError : List ℕ → List ℕ → TextError → Type 0
 IsTextError program query (error.Program e) = IsProgramError program (error.Program e)
 IsTextError program query (error.Rules e) = IsProgramError program (error.Rules e)
 IsTextError program query (error.Query e) = (c : Checked) × IsAcceptedProgram program c × IsQueryError c query (error.Query e)
 IsTextError program query (error.Goals e) = (c : Checked) × IsAcceptedProgram program c × IsQueryError c query (error.Goals e)
-IsTextError program query error.NotYet = (names : Names) × (rules : Rules) × (q : Goals) × IsAccepted program query names rules q × (is_performed rules q ≡ false)
 IsTextError program query _ = ⊥
 
 -- the texts are accepted, and the run of what they stand for answers so
@@ -48,7 +42,6 @@ pub record IsAcceptedRun (program query : List ℕ) (n workers : ℕ) (old new :
   pub rules : Rules
   pub q : Goals
   pub accepted : IsAccepted program query names rules q
-  pub performed : is_performed rules q ≡ true
   pub into : IsInto names rules q n workers old new result
 
 -- What an answer says of the texts and of the bytes that the writer tells. The limits are looked at before the texts.

@@ -57,8 +57,6 @@ pub enum TextError {
     Query(ReadError),
     /// There is a mistake in the query.
     Goals(RuleError),
-    /// The texts are accepted, but some of their transitions are not there yet.
-    NotYet,
     /// The writer failed, or took no byte of some that were left.
     Write,
 }
@@ -76,7 +74,6 @@ impl fmt::Display for TextError {
             TextError::Rules(error) => write!(f, "program {error}"),
             TextError::Query(error) => write!(f, "query {error}"),
             TextError::Goals(error) => write!(f, "query line {}: {}", error.line, error.kind),
-            TextError::NotYet => f.write_str("NotYet"),
             TextError::Write => f.write_str("cannot write"),
         }
     }

@@ -6,7 +6,7 @@ mod error;
 mod output;
 mod refusal;
 mod runs;
-mod text;
+mod sending;
 
 pub use command_line::command;
 pub use error::{RunError, TextError};

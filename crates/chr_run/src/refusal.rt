@@ -94,7 +94,6 @@ pub fn say_refusal<E: Write>(error: &mut E, refusal: TextError)
         TextError::Rules(wrong) => say_rule(error, wrong),
         TextError::Query(unread) => say_place(error, "query ", unread),
         TextError::Goals(wrong) => say_query(error, wrong),
-        TextError::NotYet => say(error, &["chr: NotYet\n"]),
         TextError::Write => say(error, &["chr: cannot write\n"]),
     }
 }

@@ -13,6 +13,7 @@ mod depth;
 mod lines;
 mod refusals;
 mod words;
+mod writes;
 
 const GROUND_PROGRAM: &str = ":- chr_constraint p/1, q/1.\nr @ p(1) <=> q(2).\n";
 
@@ -21,19 +22,39 @@ const GROUND_QUERY: &str = "p(1), p(2).";
 const GROUND_TEXT: &str =
     "1 activate p(1)#1\n2 simplify p(1)#1:1 r 1\n3 activate q(2)#2\n4 drop q(2)#2:1\n5 activate p(2)#3\n6 default p(2)#3:1\n7 drop p(2)#3:2\nend done\nstack 0\nstore 2\nq(2)#2\np(2)#3\nbindings 0\nhistory 1\nr 1\n";
 
-/// What a run is asked of.
-#[derive(Drop)]
+/// A program, a query over it, and how many transitions it makes until it is done.
+#[derive(Clone, Copy, Drop)]
 struct Case {
     program: &'static str,
     query: &'static str,
-    budget: u64,
+    lines: usize,
 }
 
 const GROUND_RULE: Case = Case {
     program: GROUND_PROGRAM,
     query: GROUND_QUERY,
-    budget: 100_000,
+    lines: 7,
 };
+
+const GCD: Case = Case {
+    program: ":- chr_constraint gcd/1.
+gcd1 @ gcd(0) <=> true.
+gcd2 @ gcd(N) \\ gcd(M) <=> M >= N | L is M-N, gcd(L).
+",
+    query: "gcd(4), gcd(2).",
+    lines: 18,
+};
+
+const SPECULATION: Case = Case {
+    program: ":- chr_constraint act/0, q/1, s/1, out/1.
+p1 @ act ==> s(1).
+r @ act, q(X), s(X) ==> out(X).
+",
+    query: "q(1), act.",
+    lines: 14,
+};
+
+const CASES: [Case; 3] = [GROUND_RULE, GCD, SPECULATION];
 
 /// Keeps what is written. It takes at most `step` bytes at a call, and fails once `calls` of them were made.
 #[derive(Drop)]
@@ -110,34 +131,29 @@ impl Read for Endless {
 
 fn run_case<A: Allocator + Copy>(
     alloc: A,
-    case: &Case,
+    case: Case,
     sink: &mut Sink,
 ) -> Result<Status, TextError> {
     run_text(
         alloc,
         case.program.as_bytes(),
         case.query.as_bytes(),
-        case.budget,
+        100,
         0,
         sink,
     )
 }
 
-/// The run of the texts has this status and this text.
-fn shows(alloc: Global, rt: &impl Abort, case: &Case, status: Status, text: &str) {
+/// The whole text of a run to its end.
+fn text_of(alloc: Global, rt: &impl Abort, case: Case) -> Vec<u8> {
     let mut sink = Sink::open(alloc);
-    assert_eq!(rt;
-        run_case(alloc, case, &mut sink),
-        Ok(status),
-        "{}",
-        case.query
-    );
-    assert_eq!(rt; sink.text.as_slice(), text.as_bytes(), "{}", case.query);
+    let answer = run_case(alloc, case, &mut sink);
+    assert_eq!(rt; answer, Ok(Status::Done), "{}", case.query);
+    sink.text
 }
 
-#[test]
-fn ground_rule(rt: HostRuntime) {
-    shows(rt.alloc(), &rt, &GROUND_RULE, Status::Done, GROUND_TEXT);
+fn lines_in(text: &[u8]) -> usize {
+    text.iter().filter(|c| **c == b'\n').count()
 }
 
 /// The texts are refused so, and nothing goes out.
@@ -161,7 +177,6 @@ fn mistaken(kind: RuleErrorKind, line: u64, rule: usize) -> RuleError {
 fn texts_in_order(rt: HostRuntime) {
     let declared = ":- chr_constraint p/1.\n";
     let mistake = ":- chr_constraint p/1.\np(1) <=> q.\n";
-    let performed_never = ":- chr_constraint p/1.\np(X) <=> true.\n";
     for (program, query, error) in [
         (
             "p(",
@@ -183,12 +198,6 @@ fn texts_in_order(rt: HostRuntime) {
             "q(1).",
             TextError::Goals(mistaken(RuleErrorKind::Undeclared, 1, 0)),
         ),
-        (
-            performed_never,
-            "q.",
-            TextError::Goals(mistaken(RuleErrorKind::Undeclared, 1, 0)),
-        ),
-        (performed_never, "p(1).", TextError::NotYet),
     ] {
         refuses(rt.alloc(), &rt, program.as_bytes(), query.as_bytes(), error);
     }
@@ -196,7 +205,7 @@ fn texts_in_order(rt: HostRuntime) {
 
 /// The limits are looked at before the texts, the budget first.
 #[test]
-fn limits_and_workers(rt: HostRuntime) {
+fn limits_first(rt: HostRuntime) {
     for (program, query) in [(GROUND_PROGRAM, GROUND_QUERY), ("!", "!")] {
         for (budget, workers, error) in [
             (1_000_001, 0, RunError::BudgetTooLarge),
@@ -218,35 +227,4 @@ fn limits_and_workers(rt: HostRuntime) {
             assert!(rt; sink.text.is_empty());
         }
     }
-    let greatest = Case {
-        program: GROUND_PROGRAM,
-        query: GROUND_QUERY,
-        budget: 1_000_000,
-    };
-    shows(rt.alloc(), &rt, &greatest, Status::Done, GROUND_TEXT);
-}
-
-/// A writer that takes a byte at a call gets the whole text; where one of its calls fails, it has what it took before.
-#[test]
-fn failing_writes(rt: HostRuntime) {
-    let whole = GROUND_TEXT.as_bytes();
-    for calls in 0..whole.len() {
-        let mut sink = Sink::new(rt.alloc(), 1, calls as u64);
-        let answer = run_case(rt.alloc(), &GROUND_RULE, &mut sink);
-        assert_eq!(rt; answer, Err(TextError::Write), "{calls}");
-        assert_eq!(rt; sink.text.len(), calls);
-        assert!(rt; whole.starts_with(sink.text.as_slice()), "{calls}");
-    }
-    let mut sink = Sink::new(rt.alloc(), 1, whole.len() as u64);
-    let answer = run_case(rt.alloc(), &GROUND_RULE, &mut sink);
-    assert_eq!(rt; answer, Ok(Status::Done));
-    assert_eq!(rt; sink.text.as_slice(), whole);
-}
-
-#[test]
-fn writer_takes_nothing(rt: HostRuntime) {
-    let mut sink = Sink::new(rt.alloc(), 0, u64::MAX);
-    let answer = run_case(rt.alloc(), &GROUND_RULE, &mut sink);
-    assert_eq!(rt; answer, Err(TextError::Write));
-    assert!(rt; sink.text.is_empty());
 }

@@ -228,14 +228,11 @@ fn a_comment_is_no_program(rt: HostRuntime) -> Result<(), Fail> {
     Ok(())
 }
 
-/// The limits, `limits_and_workers`, and what the machine does not perform yet.
+/// A limit is looked at before the texts.
 #[test]
 fn run_errors(rt: HostRuntime) -> Result<(), Fail> {
-    let program = DECLARED.as_bytes();
     let words = ["there", "p.", "--budget=1000001"];
     let answer = answer_to_file(rt.alloc(), &words, b"!".as_slice())?;
     assert_refuses(&rt, &answer, "chr: BudgetTooLarge\n");
-    let answer = answer_to_file(rt.alloc(), &["there", "X = 1."], program)?;
-    assert_refuses(&rt, &answer, "chr: NotYet\n");
     Ok(())
 }

@@ -1,7 +1,14 @@
 //! Each growth of a run refused in turn.
+ghost use Rattle.std.specs.Prelude.{IfOk};
+ghost use Rattle.chr_rules.specs.RuleView.{query_view};
+ghost use Rattle.chr_semantics.specs.Bounds.{IsQueryBounded};
+
 use super::*;
-use chr_machine::{is_thin_program, is_thin_query};
-use chr_texts::both_of;
+use chr_read::read_query;
+use chr_rules::{Program, Query};
+use chr_texts::program_of;
+
+type Meter = Refusing<Global>;
 
 /// More growths than a run of these tests asks for.
 const MOST: u64 = 10_000;
@@ -18,24 +25,35 @@ fn place_of(error: TextError) -> Option<usize> {
     places.iter().position(|place| *place == error)
 }
 
-/// Nothing goes out before the run has all its memory, and what comes first in the texts asks for it first.
+/// Where the run of the texts is refused with so many growths. Nothing goes out before the texts are accepted; then a first part does.
+fn refused_at(meter: &Meter, rt: &impl Abort, alloc: Global, left: u64) -> Option<usize> {
+    let mut sink = Sink::open(alloc);
+    meter.allow(left);
+    let ran = run_case(meter, GROUND_RULE, &mut sink);
+    assert_eq!(rt; meter.asked() > left, ran.is_err(), "{left}");
+    let Err(error) = ran else {
+        assert_eq!(rt; sink.text.as_slice(), GROUND_TEXT.as_bytes());
+        return None;
+    };
+    let place = place_of(error);
+    assert!(rt; place == Some(4) || sink.text.is_empty(), "{left}");
+    assert!(rt;
+        GROUND_TEXT.as_bytes().starts_with(sink.text.as_slice()),
+        "{left}"
+    );
+    place
+}
+
+/// What comes first in the texts asks for its memory first.
 #[test]
 fn refused_growths(rt: HostRuntime) {
     let meter = Refusing::new(rt.alloc(), 0);
     let mut refused = [0u64; 5];
-    let mut sink = Sink::open(rt.alloc());
     let mut last = 0;
     let all = refused_in_turn(MOST, |left| -> Result<bool, Memory> {
-        meter.allow(left);
-        let ran = run_case(&meter, &GROUND_RULE, &mut sink);
-        assert_eq!(rt; meter.asked() > left, ran.is_err(), "{left}");
-        let Err(error) = ran else {
+        let Some(place) = refused_at(&meter, &rt, rt.alloc(), left) else {
             return Ok(true);
         };
-        let Some(place) = place_of(error) else {
-            panic!(rt; "{left}");
-        };
-        assert!(rt; sink.text.is_empty(), "{left}");
         assert!(rt; last <= place && place < 5, "{left}");
         refused[place] = refused[place].saturating_add(1);
         last = place;
@@ -45,38 +63,64 @@ fn refused_growths(rt: HostRuntime) {
     for count in refused {
         assert!(rt; count > 1 && count < MOST);
     }
-    assert_eq!(rt; sink.text.as_slice(), GROUND_TEXT.as_bytes());
+}
+
+/// A program, and a query over it, as a run takes them.
+fn both_of<A: Allocator + Copy>(
+    alloc: A,
+    program: &str,
+    query: &str,
+) -> Result<(Program<A>, Query<A>), Fail>
+    ensures { IfOk result (λ both. IsQueryBounded (query_view both.1)) }
+{
+    let mut program = program_of(alloc, program)?;
+    let query = program.goals_of_query(read_query(alloc, query.as_bytes())?)?;
+    Ok((program, query))
 }
 
 /// Runs by `run_into` what was read with all the memory that it wants.
-fn run_read(
-    meter: &Refusing<Global>,
-    rt: &impl Abort,
+fn run_read<A: Allocator + Copy>(
+    alloc: A,
+    meter: &Meter,
+    case: Case,
     left: u64,
     sink: &mut Sink,
-) -> Option<Result<Status, TextError>> {
+) -> Result<Result<Status, TextError>, Fail> {
     meter.allow(u64::MAX);
-    let (program, query) = both_of(meter, GROUND_PROGRAM, GROUND_QUERY).ok()?;
-    assert!(rt; is_thin_program(&program));
-    assert!(rt; is_thin_query(&query));
+    let (program, query) = both_of(alloc, case.program, case.query)?;
     meter.allow(left);
-    let ran = run_into(meter, &program, query, 100, 0, sink);
+    Ok(run_into(alloc, &program, query, 100, 0, sink))
+}
+
+/// Whether the run goes through with so many growths. Where it does not, a first part of the text is out, of whole lines.
+fn is_run(
+    meter: &Meter,
+    rt: &impl Abort,
+    alloc: Global,
+    case: Case,
+    left: u64,
+) -> Result<bool, Fail> {
+    let whole = text_of(alloc, rt, case);
+    let mut sink = Sink::open(alloc);
+    let ran = run_read(meter, meter, case, left, &mut sink)?;
+    let text = sink.text.as_slice();
     assert_eq!(rt; meter.asked() > left, ran.is_err(), "{left}");
-    Some(ran)
+    assert!(rt; whole.as_slice().starts_with(text), "{left}");
+    let Err(error) = ran else {
+        assert_eq!(rt; text.len(), whole.len());
+        return Ok(true);
+    };
+    assert_eq!(rt; error, TextError::Run(RunError::Memory), "{left}");
+    assert!(rt; text.is_empty() || text.last() == Some(&b'\n'), "{left}");
+    Ok(false)
 }
 
 #[test]
-fn run_into_refused(rt: HostRuntime) {
+fn run_into_refused(rt: HostRuntime) -> Result<(), Fail> {
     let meter = Refusing::new(rt.alloc(), 0);
-    let mut sink = Sink::open(rt.alloc());
-    let refused = refused_in_turn(MOST, |left| -> Result<bool, Memory> {
-        if let Some(Err(error)) = run_read(&meter, &rt, left, &mut sink) {
-            assert_eq!(rt; error, TextError::Run(RunError::Memory), "{left}");
-            assert!(rt; sink.text.is_empty(), "{left}");
-            return Ok(false);
-        }
-        Ok(true)
-    });
-    assert!(rt; refused.is_ok_and(|refused| refused > 10 && refused < MOST));
-    assert_eq!(rt; sink.text.as_slice(), GROUND_TEXT.as_bytes());
+    for case in CASES {
+        let refused = refused_in_turn(MOST, |left| is_run(&meter, &rt, rt.alloc(), case, left))?;
+        assert!(&rt; refused > 10 && refused < MOST, "{}", case.query);
+    }
+    Ok(())
 }

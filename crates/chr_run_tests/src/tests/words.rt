@@ -196,6 +196,37 @@ fn no_budget(rt: HostRuntime) -> Result<(), Fail> {
     Ok(())
 }
 
+const FAILED_TEXT: &str = "1 solve X = f(X) fails
+end failed
+stack 1
+X = f(X)
+store 0
+bindings 0
+history 0
+";
+
+const FAULT_TEXT: &str = "1 solve X is 1//0 fault zero_divisor
+end fault zero_divisor
+stack 1
+X is 1//0
+store 0
+bindings 0
+history 0
+";
+
+/// A run that fails, and one with a fault, have their text and a status of their own.
+#[test]
+fn failures_and_faults(rt: HostRuntime) -> Result<(), Fail> {
+    for (query, status, text) in [
+        ("X = f(X).", 3, FAILED_TEXT),
+        ("X is 1 // 0.", 4, FAULT_TEXT),
+    ] {
+        let answer = answer_to_file(rt.alloc(), &["there", query], b"".as_slice())?;
+        assert_runs(&rt, &answer, status, text);
+    }
+    Ok(())
+}
+
 /// With no `--budget` it is 100,000.
 #[test]
 fn the_budget_is_used_up(rt: HostRuntime) -> Result<(), Fail> {
@@ -208,8 +239,7 @@ fn the_budget_is_used_up(rt: HostRuntime) -> Result<(), Fail> {
     assert!(rt; output.starts_with(start.as_bytes()));
     assert!(rt; output.ends_with(b"#1 49999\n#1 50000\n".as_slice()));
     // The lines of the trace and of the history, and `end`, `stack` with `p`, `store`, `bindings` and `history`.
-    let lines = output.iter().filter(|c| **c == b'\n').count();
-    assert_eq!(rt; lines, 150_006);
+    assert_eq!(rt; lines_in(output), 150_006);
     Ok(())
 }
 
@@ -296,8 +326,14 @@ fn words_that_are_refused(rt: HostRuntime) -> Result<(), Fail> {
     Ok(())
 }
 
-/// A first part of the text goes out, and a failed write to the error output changes nothing.
-fn cannot_write(alloc: Global, rt: &impl Abort, words: &[&str], text: &str) -> Result<(), Fail> {
+/// Three writes, each of at most 20 bytes, go through: a first part of the text, of so many bytes. A failed write to the error output
+/// changes nothing.
+fn cannot_write(
+    alloc: Global,
+    rt: &impl Abort,
+    words: &[&str],
+    (text, sent): (&str, usize),
+) -> Result<(), Fail> {
     let words = owned(alloc, words)?;
     let files = Files {
         text: GROUND_PROGRAM.as_bytes(),
@@ -317,7 +353,7 @@ fn cannot_write(alloc: Global, rt: &impl Abort, words: &[&str], text: &str) -> R
             &mut error,
         );
         assert_eq!(rt; status, 2);
-        assert_eq!(rt; output.text.len(), 60);
+        assert_eq!(rt; output.text.len(), sent);
         assert!(rt; text.as_bytes().starts_with(output.text.as_slice()));
         assert_eq!(rt; error.text.len(), line.len().min(calls as usize));
         assert!(rt; line.as_bytes().starts_with(error.text.as_slice()));
@@ -325,8 +361,10 @@ fn cannot_write(alloc: Global, rt: &impl Abort, words: &[&str], text: &str) -> R
     Ok(())
 }
 
+/// The first line of the run has 18 bytes, and is written alone.
 #[test]
 fn outputs_that_fail(rt: HostRuntime) -> Result<(), Fail> {
-    cannot_write(rt.alloc(), &rt, &["there", GROUND_QUERY], GROUND_TEXT)?;
-    cannot_write(rt.alloc(), &rt, &["--help"], HELP)
+    let words = ["there", GROUND_QUERY];
+    cannot_write(rt.alloc(), &rt, &words, (GROUND_TEXT, 42))?;
+    cannot_write(rt.alloc(), &rt, &["--help"], (HELP, 60))
 }

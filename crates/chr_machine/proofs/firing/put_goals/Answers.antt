@@ -1,5 +1,5 @@
 use Rattle.std.proofs.Common.{◌∙◌, arith}
-use Rattle.chr_machine.proofs.Stacks.{stack_put, goals_put}
+use Rattle.chr_trace.proofs.Stacks.{stack_put, goals_put}
 use Rattle.chr_machine.proofs.firing.put_goals.Goals as goal
 
 pub loop-goal-preserved : goal.loop-goal-preserved

@@ -1,7 +1,7 @@
 use Rattle.std.proofs.Common.{◌≡◌, ◌≤◌, ◌+◌, ◌++◌, map, vec_len, vec_capacity}
 use Rattle.chr_semantics.specs.State.{goal as goal_element}
 use Rattle.chr_rules.specs.RuleView.{goal_view}
-use Rattle.chr_machine.specs.State.{stack_view}
+use Rattle.chr_trace.specs.State.{stack_view}
 use Rattle.chr_machine.proofs.firing.put_goals.Given as goal
 
 abbrev pub invariant-loop-goal : goal.invariant-loop-goal

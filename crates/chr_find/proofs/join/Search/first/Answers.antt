@@ -11,7 +11,7 @@ use Rattle.chr_store.specs.Rows.{row_atom}
 use Rattle.chr_term.specs.TermView.{atom_view}
 use Rattle.chr_find.specs.Enough.{FitsHead}
 use Rattle.chr_find.specs.ModeView.{gate_of}
-use Rattle.chr_find.proofs.OwnFirst.{own_apart, own_found}
+use Rattle.chr_find.proofs.OwnFirst.{own_apart, own_found, own_lacking}
 use Rattle.chr_find.proofs.RuleHeads.{head_at, head_is}
 use Rattle.chr_find.proofs.SearchParts.{ok_more}
 use Rattle.chr_find.proofs.join.Search.first.Goals as goal
@@ -30,7 +30,20 @@ returns-then-not-fits g c x at rows shown quiet =
     subst (λ (h : Atom). FitsHead false h (row_atom c.args.row.now) c.new-matching.result c.fits.new.matching) (sym head)
     (subst (λ (b : Bool). FitsHead b (atom_view c.index.result.now.0 c.index.result.now.1.items) (row_atom c.args.row.now) c.new-matching.result c.fits.new.matching) c.if-not-fits.true c.fits.ensures) in
     own_apart rows (g.P.Past.history s.past.now) s.number (rule_view s.rule.now) s.place x (s.own, row_atom c.args.row.now) (length (rule_view s.rule.now).heads) s.from (gate_of c.args.mode s.after.now) c.args.tries.now (omega arith)
-    (out.0 [] c.new-matching.ensures)
+    (out [] c.new-matching.ensures)
+
+pub returns-then-lacks_partner : goal.returns-then-lacks_partner
+returns-then-lacks_partner g c x at rows shown quiet =
+    let s = c.args.self.now in
+    let a = row_atom c.args.row.now in
+    let head : x.atom ≡ atom_view c.index.result.now.0 c.index.result.now.1.items = head_is s.rule.now.heads.items s.rule.now.passive.items s.place c.index.result.now x (omega (arith, c.requires.inside)) c.index.ensures at in
+    let taken : FitsHead true x.atom a c.new-matching.result c.fits.new.matching =
+    subst (λ (e : Atom). FitsHead true e a c.new-matching.result c.fits.new.matching) (sym head)
+    (subst (λ (b : Bool). FitsHead b (atom_view c.index.result.now.0 c.index.result.now.1.items) a c.new-matching.result c.fits.new.matching) c.if-not-fits.false c.fits.ensures) in
+    let matched : (m : Subst) × (fit_atom x.atom a [] ≡ Some m) × AgreesWith c.fits.new.matching m = taken [] c.new-matching.ensures in
+    let lacks = c.lacks_partner.ensures c.if-lacks_partner.true rows shown in
+    own_lacking rows (g.P.Past.history s.past.now) s.number (rule_view s.rule.now) s.place x (s.own, a) (length (rule_view s.rule.now).heads) s.from (gate_of c.args.mode s.after.now) matched.0 lacks.0 lacks.1 c.args.tries.now (omega arith) matched.1 lacks.2 lacks.3
+    (lacks.4 matched.0 matched.2)
 
 pub returns : goal.returns
 returns g c =
@@ -44,7 +57,7 @@ returns g c =
     let taken : FitsHead true x.atom a c.new-matching.result c.fits.new.matching =
     subst (λ (e : Atom). FitsHead true e a c.new-matching.result c.fits.new.matching) (sym head)
     (subst (λ (b : Bool). FitsHead b (atom_view c.index.result.now.0 c.index.result.now.1.items) a c.new-matching.result c.fits.new.matching) c.if-not-fits.false c.fits.ensures) in
-    let matched : (m : Subst) × (fit_atom x.atom a [] ≡ Some m) × AgreesWith c.fits.new.matching m = taken.0 [] c.new-matching.ensures in
+    let matched : (m : Subst) × (fit_atom x.atom a [] ≡ Some m) × AgreesWith c.fits.new.matching m = taken [] c.new-matching.ensures in
     own_found rows h s.number rule s.place x (s.own, a) (length rule.heads) s.from (gate_of c.args.mode s.after.now) matched.0 found c.args.tries.now c.join.new.tries matched.1
     (j rows shown (s.own, a) [] matched.0 refl (λ i. refl) matched.2 quiet))
     c.join.ensures

@@ -1,28 +1,28 @@
-use Rattle.std.proofs.Common.{◌≡◌, ◌≤◌, ◌∙◌, ◌-◌, ap, arith, sym}
-use Rattle.chr_semantics.specs.State.{State, running}
-use Rattle.chr_rules.specs.ProgramView.{rules_of}
-use Rattle.chr_machine.specs.State.{state_of}
-use Rattle.chr_machine.proofs.Runs.{ran-kept, ran-more, steps-all}
+use Rattle.std.proofs.Common.{arith}
+use Rattle.chr_machine.specs.Model.{model_of}
+use Rattle.chr_machine.proofs.Runs.{further_more, runs_ended, runs_refused, runs_spent}
 use Rattle.chr_machine.proofs.state.Execution.run_alone.Goals as goal
 
 pub loop-made-preserved : goal.loop-made-preserved
 loop-made-preserved g c =
-    let moves = rw c.in-Moved.is at c.in_ok-step.ensures.ok in
+    let moves = rw c.in-Ok-Moved.field-0-is at c.in-Ok-Moved.ensures.ok in
     record {
       within = omega arith;
-      ran = ran-more c.loop-made.made c.args.self.now c.loop-made.self c.step.new.self c.loop-made.invariant.ran moves;
-      limit = omega (arith, moves.few, moves.steps);
-      small = omega (arith, moves.steps, moves.next);
+      further = further_more c.loop-made.made (model_of c.args.self.now) (model_of c.loop-made.self) (model_of c.step.new.self) c.loop-made.invariant.further moves;
       ready = c.step.ensures.ready;
-      thin = c.step.ensures.thin;
+      counted = c.step.ensures.counted;
+      proper = c.step.ensures.proper;
     }
 
--- where the run has ended, the steps that are left make no transition
-pub returns-in-Ended-clause-ok : goal.returns-in-Ended-clause-ok
-returns-in-Ended-clause-ok g c =
-    let ended = rw c.in-Ended.is at c.in_ok-step.ensures.ok in
-    let ran = ran-kept c.loop-made.made c.args.self.now c.loop-made.self c.step.new.self c.loop-made.invariant.ran ended.1 in
-    let count : c.step.new.self.steps - c.args.self.now.steps ≡ c.loop-made.made = omega (arith, ran.steps) in
-    let status = λ (h : (state_of c.step.new.self).status ≡ running). ended.0 (ap (λ (s : State). s.status) (sym ended.1.state) ∙ h) in
-    let within : c.loop-made.made ≤ c.args.n = c.loop-made.invariant.within in
-    rw count (within, steps-all (rules_of c.args.self.now.program.now) (state_of c.args.self.now) (state_of c.step.new.self) c.loop-made.made c.args.n within ran.made ran.state status, status)
+pub returns-in-Ok-Ended-clause-runs : goal.returns-in-Ok-Ended-clause-runs
+returns-in-Ok-Ended-clause-runs g c =
+    let ended = rw c.in-Ok-Ended.field-0-is at c.in-Ok-Ended.ensures.ok in
+    runs_ended c.args.n c.loop-made.made (model_of c.args.self.now) (model_of c.loop-made.self) (model_of c.step.new.self) c.loop-made.invariant.further ended.1 c.loop-made.invariant.within ended.0
+
+pub returns-in-Ok-Spent-clause-runs : goal.returns-in-Ok-Spent-clause-runs
+returns-in-Ok-Spent-clause-runs g c =
+    let spent = rw c.in-Ok-Spent.field-0-is at c.in-Ok-Spent.ensures.ok in
+    runs_spent c.args.n c.loop-made.made (model_of c.args.self.now) (model_of c.loop-made.self) (model_of c.step.new.self) c.loop-made.invariant.further spent.2 (omega arith) spent.0 spent.1
+
+pub returns-in-Err-clause-runs : goal.returns-in-Err-clause-runs
+returns-in-Err-clause-runs g c = runs_refused c.args.n c.loop-made.made (model_of c.args.self.now) (model_of c.loop-made.self) (model_of c.step.new.self) c.loop-made.invariant.further c.in-Err.ensures.err (omega arith) c.in-Err.error

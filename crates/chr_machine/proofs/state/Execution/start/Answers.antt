@@ -1,8 +1,22 @@
-use Rattle.std.proofs.Common.{ap, map}
-use Rattle.chr_semantics.specs.State.{running}
-use Rattle.chr_machine.specs.State.{fired_view}
-use Rattle.chr_machine.proofs.Runs.{start_state}
+use Rattle.std.proofs.Common.{◌∙◌, ap}
+use Rattle.chr_rules.specs.ProgramView.{names_of, rules_of}
+use Rattle.chr_rules.specs.RuleView.{query_view}
+use Rattle.chr_trace.specs.Texts.{texts}
+use Rattle.chr_base.specs.BaseView.{BaseModel}
+use Rattle.chr_resume.specs.ResumingView.{base_in}
+use Rattle.chr_machine.specs.Model.{model_of}
+use Rattle.chr_machine.proofs.Starts.{proper_start, started}
 use Rattle.chr_machine.proofs.state.Execution.start.Goals as goal
 
-pub returns-clause-state : goal.returns-clause-state
-returns-clause-state g c = start_state c.args.query.goals.items c.args.query.var_names _ _ _ _ _ running c.settle.ensures.state (rw c.in_ok-stack.ensures.items at c.put_goals.ensures) c.new.ensures.rows c.new.ensures.next (ap (map fired_view) c.new-2.ensures.items)
+pub returns-clause-starts : goal.returns-clause-starts
+returns-clause-starts g c =
+    let below = c.settle.ensures.below in
+    let base = ap base_in below.base in
+    let made = c.in_ok-base.ensures in
+    let program = below.program ∙ made.program in
+    started (names_of c.args.program.now) (rules_of c.args.program.now) c.args.query.goals.items c.args.query.var_names (model_of c.settle.new.self) (ap names_of program) (ap rules_of program) below.var_names
+    (c.settle.ensures.stack ∙ rw c.in_ok-stack.ensures.items at c.put_goals.ensures) (rw (← c.settle.ensures.stack) at c.settle.ensures.status) (ap (λ (b : BaseModel). b.store) base ∙ made.store) (ap (λ (b : BaseModel). b.entries) base ∙ made.entries)
+    (ap (λ (b : BaseModel). b.subst) base ∙ made.subst) (ap (λ (b : BaseModel). b.next_var) base ∙ (made.next_var ∙ c.len.ensures)) below.steps (ap (λ v. texts v.items) below.lines ∙ ap texts c.new-2.ensures.items)
+
+pub returns-clause-proper : goal.returns-clause-proper
+returns-clause-proper g c = proper_start (names_of c.args.program.now) (rules_of c.args.program.now) (query_view c.args.query) (model_of c.settle.new.self) c.rules-rules.ensures.bounded c.requires (returns-clause-starts g c)

@@ -1,0 +1,36 @@
+use Rattle.std.proofs.Common.{◌≡◌, ◌∙◌, ℕ, List, ap, inl, inr, subst}
+use Rattle.chr_bind.specs.declared.bindings.Unified.{Unified}
+use Rattle.chr_semantics.specs.Changes.{rebound}
+use Rattle.chr_rules.specs.RuleView.{goal_view}
+use Rattle.chr_store.specs.Numbers.{numbers}
+use Rattle.chr_term.specs.TermView.{view}
+use Rattle.chr_base.specs.BaseView.{BaseModel}
+use Rattle.chr_resume.specs.ResumingView.{base_in}
+use Rattle.chr_base.specs.Told.{IsTold}
+use Rattle.chr_machine.specs.Model.{model_of}
+use Rattle.chr_machine.proofs.Solved.{after_woken, told_bound, told_same}
+use Rattle.chr_machine.proofs.state.Execution.tell.Goals as goal
+
+pub returns-in-Same-clause-ok : goal.returns-in-Same-clause-ok
+returns-in-Same-clause-ok g c =
+    let old = c.args.self.now in
+    let w = goal_view c.args.goal.now in
+    let t = view c.args.left.now in
+    let u = view c.args.right.now in
+    let before = base_in c.prepare.new.self.base in
+    let after = base_in c.tell.new.self in
+    let kept = c.in_ok-waking.ensures.kept in
+    let ids = numbers c.as_slice.result.now in
+    let ids_are = ap numbers c.as_slice.ensures.value ∙ c.in_ok-waking.ensures.ids in
+    let at = λ (b : BaseModel) (base : base_in c.wake.new.self.base ≡ b).
+    after_woken old c.prepare.new.self c.wake.new.self w c.in_ok-waking.waking.elems.items c.in_ok-waking.waking.line.items b kept c.in_ok-waking.ensures.elems c.wake.ensures.stack c.wake.ensures.status base c.wake.ensures.lines c.in_ok-waking.ensures.line c.wake.ensures.steps (c.wake.ensures.program ∙ c.tell.ensures.program) c.wake.ensures.var_names
+    in
+    let told = subst (λ (b : BaseModel). IsTold t u ids c.in_ok-tell.field-0 b after) kept.base c.in_ok-tell.ensures.told in (
+      elim c.in-Same.is [
+        | inl e ↦ (let is = subst (λ (v : Unified). IsTold t u ids v (base_in old.base) after) e told in told_same (model_of old) (model_of c.wake.new.self) w t u is.0 (at (base_in old.base) (ap base_in c.wake.ensures.base ∙ is.1)))
+        | inr e ↦ (let is = subst (λ (v : Unified). IsTold t u ids v (base_in old.base) after) e told in
+            told_bound (model_of old) (model_of c.wake.new.self) w t u after.subst is.0 is.1
+            (at _ (ap base_in c.wake.ensures.base ∙ (is.2 ∙ ap (λ (is : List ℕ). record (base_in old.base) { store = rebound (base_in old.base).store is; subst = after.subst }) ids_are))))
+      ],
+      c.wake.ensures.ready,
+    )

@@ -1,0 +1,121 @@
+//! Which constraints a Solve wakes.
+ghost use Rattle.chr_semantics.specs.declared.limits.TheConstants.{MAX_TRANSITIONS};
+ghost use Rattle.std.specs.Prelude.{◌≡◌, ◌<◌, ◌≤◌, ◌+◌, ◌++◌, ◌∷◌, [], IfOk, OnOk, map, vec_capacity, vec_len};
+ghost use Rattle.chr_semantics.specs.Changes.{woken};
+ghost use Rattle.chr_semantics.specs.Footprint.{Ascends};
+ghost use Rattle.chr_semantics.specs.State.{status_at};
+ghost use Rattle.chr_semantics.specs.Step.{woken_elements};
+ghost use Rattle.chr_semantics.specs.Text.{line_text};
+ghost use Rattle.chr_semantics.specs.Trace.{solves};
+ghost use Rattle.chr_rules.specs.ProgramView.{names_of};
+ghost use Rattle.chr_rules.specs.RuleView.{goal_view};
+ghost use Rattle.chr_store.specs.Numbers.{numbers};
+ghost use Rattle.chr_trace.specs.State.{elem_view, stack_view, status_view};
+ghost use Rattle.chr_trace.specs.Texts.{texts};
+ghost use Rattle.chr_resume.specs.ResumingView.{base_in, program_in};
+ghost use Rattle.chr_machine.specs.Model.{model_of, state_in};
+ghost use Rattle.chr_machine.specs.Solving.{shown};
+ghost use Rattle.chr_machine.specs.Step.{IsReady, Kept};
+ghost use Rattle.chr_machine.specs.Waking.{element_at, elements_at};
+
+use crate::state::Execution;
+use chr_rules::Goal;
+use chr_store::Id;
+use chr_term::{Memory, copy_all};
+use chr_trace::Elem;
+use std::alloc::Allocator;
+
+/// What a Solve that holds has made ready: its line, and the constraints that wake, by ascending identity, and as elements of the stack.
+#[derive(Drop)]
+pub struct Waking<A: Allocator> {
+    pub line: Vec<u8, A>,
+    pub ids: Vec<Id, A>,
+    pub elems: Vec<Elem<A>, A>,
+}
+
+/// Puts elements on the stack, the first on top, with room for them.
+pub fn put_elems<A: Allocator>(stack: &mut Vec<Elem<A>, A>, mut elems: Vec<Elem<A>, A>)
+    requires { vec_len stack.old + vec_len elems ≤ vec_capacity stack.old }
+    ensures { stack_view stack.new.items ≡ map elem_view elems.items ++ stack_view stack.old.items }
+{
+    while let Some(elem) = elems.pop() {
+        stack.push_reserved(elem);
+    }
+}
+
+impl<'p, A: Allocator + Copy> Execution<'p, A> {
+    /// Appends the element of a constraint, where it lives.
+    fn push_element(&self, id: Id, elems: &mut Vec<Elem<A>, A>) -> Result<(), Memory>
+        ensures { OnOk result (map elem_view elems.new.items ≡ map elem_view elems.old.items
+            ++ element_at (base_in self.now.base).store.rows id.0) }
+    {
+        match self.base.store().row(id) {
+            None => Ok(()),
+            Some(row) => {
+                let args = copy_all(self.alloc, row.args.as_slice())?;
+                elems.push(Elem::Known(id, row.sym, args))?;
+                Ok(())
+            }
+        }
+    }
+
+    /// The elements of constraints of the store.
+    fn elements(&self, ids: &[Id]) -> Result<Vec<Elem<A>, A>, Memory>
+        ensures { IfOk result (λ elems. map elem_view elems.items
+            ≡ elements_at (base_in self.now.base).store.rows ids.now) }
+    {
+        let mut elems = Vec::with_capacity(self.alloc, ids.len())?;
+        for id in ids {
+            self.push_element(*id, &mut elems)?;
+        }
+        Ok(elems)
+    }
+
+    /// Makes all growths of a Solve of the goal that holds. Contracts see the same execution.
+    pub fn prepare(&mut self, goal: &Goal<A>) -> Result<Waking<A>, Memory>
+        requires few { self.old.steps < MAX_TRANSITIONS }
+        requires ascends { Ascends 0 (base_in self.old.base).store.rows
+            (base_in self.old.base).store.next_id }
+        requires room { vec_len self.old.stack < vec_capacity self.old.stack }
+        ensures kept { Kept self.old self.new }
+        ensures lines { OnOk result (vec_len self.new.lines < vec_capacity self.new.lines) }
+        ensures stack { IfOk result (λ waking. vec_len self.new.stack + vec_len waking.elems + 1
+            ≤ vec_capacity self.new.stack) }
+        ensures room { vec_len self.new.stack < vec_capacity self.new.stack }
+        ensures line { IfOk result (λ waking. waking.line.items
+            ≡ line_text (names_of (program_in self.old.base)) self.old.var_names (self.old.steps + 1)
+            (solves (shown (model_of self.old) (goal_view goal.now)))) }
+        ensures ids { IfOk result (λ waking. numbers waking.ids.items
+            ≡ woken (base_in self.old.base).store (base_in self.old.base).subst) }
+        ensures elems { IfOk result
+            (λ waking. map elem_view waking.elems.items ≡ woken_elements (state_in (model_of self.old))) }
+    {
+        let ids = self.base.refresh()?;
+        let elems = self.elements(ids.as_slice())?;
+        let line = self.scribe().solves(self.steps + 1, goal)?;
+        self.lines.reserve(1)?;
+        self.stack.reserve(elems.len() + 1)?;
+        Ok(Waking { line, ids, elems })
+    }
+
+    /// A Solve holds that was made ready: its line is there, and the constraints are on the stack, the first on top.
+    pub fn wake(&mut self, line: Vec<u8, A>, elems: Vec<Elem<A>, A>)
+        requires few { self.old.steps < MAX_TRANSITIONS }
+        requires stack { vec_len self.old.stack + vec_len elems ≤ vec_capacity self.old.stack }
+        requires lines { vec_len self.old.lines < vec_capacity self.old.lines }
+        ensures stack { stack_view self.new.stack.items
+            ≡ map elem_view elems.items ++ stack_view self.old.stack.items }
+        ensures status { status_view self.new.status
+            ≡ status_at (map elem_view elems.items ++ stack_view self.old.stack.items) }
+        ensures lines { texts self.new.lines.items ≡ texts self.old.lines.items ++ line.items ∷ [] }
+        ensures steps { self.new.steps ≡ self.old.steps + 1 }
+        ensures base { self.new.base ≡ self.old.base }
+        ensures program { program_in self.new.base ≡ program_in self.old.base }
+        ensures var_names { self.new.var_names ≡ self.old.var_names }
+        ensures ready { IsReady self.new }
+    {
+        put_elems(&mut self.stack, elems);
+        self.log(line);
+        self.settle();
+    }
+}

@@ -1,0 +1,4 @@
+pub mod Fired
+pub mod Parts
+pub mod Bookmarked
+pub mod Found

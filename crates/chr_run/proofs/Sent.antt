@@ -1,0 +1,87 @@
+-- What is out of a run.
+use Rattle.std.proofs.Common.{◌≡◌, ◌≢◌, ◌⊎◌, inl, inr, ◌∙◌, ◌+◌, ◌-◌, ◌≤◌, ◌++◌, [], ℕ, List, Option, ap, append-nil, append_assoc, arith, drop, length, length-append, length-drop, map, refl, subst, sym, take}
+use Rattle.std.proofs.lemmas.Grind.{flat_map-append}
+use Rattle.std.proofs.lemmas.List.{drop-map, length-map, take-append-drop, take-append-le, take_all}
+use Rattle.std.specs.Io.KnownBytes.{Appends}
+use Rattle.chr_semantics.specs.State.{running}
+use Rattle.chr_semantics.specs.Text.{lines_text}
+use Rattle.chr_machine.specs.MachineView.{Further}
+use Rattle.chr_machine.specs.Model.{Model}
+use Rattle.std.specs.Prelude.{Vec}
+use Rattle.chr_trace.specs.Texts.{texts}
+use Rattle.chr_machine.proofs.Runs.{further_same}
+use Rattle.chr_run.specs.Output.{AppendsPart, IsOut}
+use Rattle.chr_run.specs.Sending.{AreOut, Goes, Performs, end_lines, rest_text, whole_text}
+use Rattle.chr_run.proofs.Ends.{lines_text-append, sent_and_rest}
+use Rattle.chr_run.proofs.Parts.{appends-both, appends-none, out-more, part-more}
+
+-- nothing is out yet
+pub sent_none : (old : Option (List ℕ)) (lines : List (List ℕ)) → AreOut old old lines 0
+sent_none old lines = record { few = omega arith; appends = appends-none old }
+
+split : (lines : List (List ℕ)) (sent : ℕ) → lines_text lines ≡ lines_text (take sent lines) ++ lines_text (drop sent lines)
+split lines sent = ap lines_text (sym (take-append-drop sent lines)) ∙ lines_text-append (take sent lines) (drop sent lines)
+
+module _ (old mid new : Option (List ℕ)) (lines : List (List ℕ)) (sent : ℕ) (h : AreOut old mid lines sent) where
+  -- the rest is left
+  pub left_out : IsOut old mid (lines_text lines) (lines_text (drop sent lines))
+  left_out = record { out = lines_text (take sent lines); whole = split lines sent; appends = h.appends }
+
+  -- the rest goes out too
+  pub sent_all : Appends mid new (lines_text (drop sent lines)) → AreOut old new lines (length lines)
+  sent_all k =
+      let whole : lines_text (take sent lines) ++ lines_text (drop sent lines) ≡ lines_text (take (length lines) lines) = sym (split lines sent) ∙ ap lines_text (sym (take_all (length lines) lines (omega arith))) in
+      record { few = omega arith; appends = subst (Appends old new) whole (appends-both old mid new (lines_text (take sent lines)) (lines_text (drop sent lines)) h.appends k) }
+
+  -- or a first part of it
+  pub sent_cut : AppendsPart mid new (lines_text (drop sent lines)) → AppendsPart old new (lines_text lines)
+  sent_cut p = part-more old mid new (lines_text lines) (lines_text (drop sent lines)) (lines_text (drop sent lines)) [] left_out (sym (append-nil _)) p
+
+  -- or nothing more
+  pub cut_here : AppendsPart old mid (lines_text lines)
+  cut_here = record { rest = lines_text (drop sent lines); is_out = left_out }
+
+  -- more lines are made
+  pub sent_more : (others more : List (List ℕ)) → others ≡ lines ++ more → AreOut old mid others sent
+  sent_more others more e =
+      let few = h.few in
+      let longer : sent ≤ length others = subst (λ (ls : List (List ℕ)). sent ≤ length ls) (sym e) (omega (arith, few, length-append lines more)) in
+      let same : take sent lines ≡ take sent others = sym (take-append-le sent lines more few) ∙ ap (take sent) (sym e) in
+      record { few = longer; appends = subst (λ (ls : List (List ℕ)). Appends old mid (lines_text ls)) same h.appends }
+
+-- a run has come so far
+module _ (n k : ℕ) (a m b : Model) (r : Further k a m) (same : b ≡ m) (within : k ≤ n) where
+  pub goes : Goes n a b
+  goes =
+      let far = further_same k a m b r same in
+      let is : b.steps - a.steps ≡ k = omega (arith, far.steps_are) in
+      record { further = subst (λ (i : ℕ). Further i a b) (sym is) far; within = omega (arith, is, within) }
+
+  pub performs : (k ≡ n) ⊎ (m.status ≢ running) → Performs n a b
+  performs all =
+      let far = further_same k a m b r same in
+      let is : b.steps - a.steps ≡ k = omega (arith, far.steps_are) in
+      record { goes = goes; all = by_case is all }
+    where
+      by_case : b.steps - a.steps ≡ k → (k ≡ n) ⊎ (m.status ≢ running) → (b.steps - a.steps ≡ n) ⊎ (b.status ≢ running)
+      by_case is (inl e) = inl (is ∙ e)
+      by_case is (inr ended) = inr (λ h. ended (sym (ap (λ (x : Model). x.status) same) ∙ h))
+
+-- the lines of the machine, as they are lent
+module _ {A : Type 0} (lent : List (Vec ℕ A)) (lines : List (List ℕ)) (is : texts lent ≡ lines) where
+  pub rest_is : (sent : ℕ) → lines_text (texts (take (length lent - sent) (drop sent lent))) ≡ lines_text (drop sent lines)
+  rest_is sent =
+      let counted = length-drop sent lent in
+      ap (λ (ls : List (Vec ℕ A)). lines_text (texts ls)) (take_all (length lent - sent) (drop sent lent) (omega (arith, counted)))
+      ∙ ap lines_text (sym (drop-map (λ (l : Vec ℕ A). l.items) sent lent) ∙ ap (drop sent) is)
+
+  pub count_is : length lines ≡ length lent
+  count_is = ap length (sym is) ∙ length-map lent (λ (l : Vec ℕ A). l.items)
+
+-- the end goes out after the first lines
+module _ (old mid new : Option (List ℕ)) (m : Model) (sent : ℕ) (h : AreOut old mid m.lines sent) where
+  pub all_end : Appends mid new (rest_text m sent) → Appends old new (whole_text m)
+  all_end k = subst (Appends old new) (sym (sent_and_rest m sent)) (appends-both old mid new (lines_text (take sent m.lines)) (rest_text m sent) h.appends k)
+
+  pub cut_end : AppendsPart mid new (rest_text m sent) → AppendsPart old new (whole_text m)
+  cut_end p = part-more old mid new (whole_text m) (rest_text m sent) (rest_text m sent) [] (record { out = lines_text (take sent m.lines); whole = sent_and_rest m sent; appends = h.appends }) (sym (append-nil _)) p
