@@ -6,5 +6,7 @@ pub mod Places
 pub mod Risen
 pub mod Served
 pub mod Spots
+pub mod Stands
 pub mod Sums
 pub mod SumsLaw
+pub mod Tells

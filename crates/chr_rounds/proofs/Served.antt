@@ -40,7 +40,7 @@ newer_serves p q a b n t l m old new e =
     let w = newest_law p q a (b - a) (n - b) t old (subst (λ (x : ℕ). (t.0 == (after p q x).next_id) ≡ false) eb new) (subst (λ (x : ℕ). serves p q a x t ≡ true) en e) in
     subst (λ (x : ℕ). serves p q x n t ≡ true) (sym eb) (subst (λ (x : ℕ). serves p q (a + (b - a)) x t ≡ true) (sym en) w)
 
-past_at : (n : ℕ) (rounds : List ℕ) (i a : ℕ) → ArePast n rounds → slice_get rounds i ≡ Some a → nat_le a n ≡ true
+pub past_at : (n : ℕ) (rounds : List ℕ) (i a : ℕ) → ArePast n rounds → slice_get rounds i ≡ Some a → nat_le a n ≡ true
 past_at n [] i a h e = cc
 past_at n (b ∷ bs) zero a h e = let same : b ≡ a = cc in ap (λ (x : ℕ). nat_le x n) (sym same) ∙ (and_parts (nat_le b n) _ h).0
 past_at n (b ∷ bs) (suc i) a h e = past_at n bs i a (and_parts (nat_le b n) _ h).1 e

@@ -48,12 +48,12 @@ module _ (p : Program) (q : State) (rounds : List ℕ) (kept : List Answered) (r
       at true i = let same : length kept ≡ c = cc in subst (λ (d : ℕ). passes (λ l. same_task t l.task && not (is_guests p q rounds l)) (slice_get (kept ++ k ∷ []) d) ≡ true) same (passes_last (λ l. same_task t l.task && not (is_guests p q rounds l)) kept k is)
       at false i = passes_before (λ l. same_task t l.task && not (is_guests p q rounds l)) kept (k ∷ []) c (old.row_is t c (e ∙ i))
 
-  guests_by : (t : Task) (b : Bool) → (same_task t k.task && is_guests p q rounds k) ≡ b → list_all (λ c. passes (λ l. same_task t l.task) (slice_get (kept ++ k ∷ []) c)) (cond b (guests t ++ length kept ∷ []) (guests t)) ≡ true
-  guests_by t false is = all_weaker _ _ (guests t) (λ c h. passes_before (λ l. same_task t l.task) kept (k ∷ []) c h) (old.guests_are t)
+  guests_by : (t : Task) (b : Bool) → (same_task t k.task && is_guests p q rounds k) ≡ b → list_all (λ c. passes (λ l. same_task t l.task && is_guests p q rounds l) (slice_get (kept ++ k ∷ []) c)) (cond b (guests t ++ length kept ∷ []) (guests t)) ≡ true
+  guests_by t false is = all_weaker _ _ (guests t) (λ c h. passes_before (λ l. same_task t l.task && is_guests p q rounds l) kept (k ∷ []) c h) (old.guests_are t)
   guests_by t true is =
-      all_one_more (λ c. passes (λ l. same_task t l.task) (slice_get (kept ++ k ∷ []) c)) (guests t) (length kept)
-      (all_weaker _ _ (guests t) (λ c h. passes_before (λ l. same_task t l.task) kept (k ∷ []) c h) (old.guests_are t))
-      (passes_last (λ l. same_task t l.task) kept k (and_parts (same_task t k.task) (is_guests p q rounds k) is).0)
+      all_one_more (λ c. passes (λ l. same_task t l.task && is_guests p q rounds l) (slice_get (kept ++ k ∷ []) c)) (guests t) (length kept)
+      (all_weaker _ _ (guests t) (λ c h. passes_before (λ l. same_task t l.task && is_guests p q rounds l) kept (k ∷ []) c h) (old.guests_are t))
+      (passes_last (λ l. same_task t l.task && is_guests p q rounds l) kept k is)
 
   -- an older answer's newest one
   newer_by : (a : ℕ) (b : Bool) (x : Option ℕ) → is_newer rounds kept a x ≡ true → is_newer rounds (kept ++ k ∷ []) a (cond b (newest rounds kept (at_of rounds k) (length kept) x) x) ≡ true
@@ -111,7 +111,7 @@ module _ (p : Program) (q : State) (rounds : List ℕ) (kept : List Answered) (r
   pub spots_more : AreSpots p q rounds (kept ++ k ∷ []) new_row new_guests
   spots_more = record {
     row_is = λ t c e. row_by t c _ refl (row t) refl (sym (rows_now t) ∙ e);
-    guests_are = λ t. ap (list_all (λ c. passes (λ l. same_task t l.task) (slice_get (kept ++ k ∷ []) c))) (guests_now t) ∙ guests_by t _ refl;
+    guests_are = λ t. ap (list_all (λ c. passes (λ l. same_task t l.task && is_guests p q rounds l) (slice_get (kept ++ k ∷ []) c))) (guests_now t) ∙ guests_by t _ refl;
     all_rows = λ c l e kind. rows_by c l (get_cases kept k c l e) kind;
     all_guests = λ c l e kind. all_by c l (get_cases kept k c l e) kind;
   }
@@ -142,7 +142,9 @@ module _ (p : Program) (q : State) (rounds : List ℕ) (kept : List Answered) (r
   pub spots_later : AreSpots p q (rounds ++ a ∷ []) kept row guests
   spots_later = record {
     row_is = λ t c e. passes_same _ _ (slice_get kept c) (λ k is. ap (λ (b : Bool). same_task t k.task && not b) (kind_later c k is)) ∙ old.row_is t c e;
-    guests_are = old.guests_are;
+    guests_are = λ t. all_weaker _ _ (guests t)
+        (λ c h. passes_same (λ k. same_task t k.task && is_guests p q (rounds ++ a ∷ []) k) (λ k. same_task t k.task && is_guests p q rounds k) (slice_get kept c) (λ k is. ap (λ (b : Bool). same_task t k.task && b) (kind_later c k is)) ∙ h)
+        (old.guests_are t);
     all_rows = λ c k e kind. newer_later (at_of (rounds ++ a ∷ []) k) (row k.task) ∙ ap (λ (n : ℕ). is_newer rounds kept n (row k.task)) (at_later c k e) ∙ old.all_rows c k e (sym (kind_later c k e) ∙ kind);
     all_guests = λ c k e kind. old.all_guests c k e (sym (kind_later c k e) ∙ kind);
   }

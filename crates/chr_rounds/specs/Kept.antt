@@ -48,7 +48,7 @@ is_newer rounds kept a (Some d) = passes (λ l. nat_le a (at_of rounds l)) (slic
 -- answers to tasks of guests.
 pub record AreSpots (p : Program) (q : State) (rounds : List ℕ) (kept : List Answered) (row : Task → Option ℕ) (guests : Task → List ℕ) : Type 0 where
   pub row_is : (t : Task) (c : ℕ) → row t ≡ Some c → passes (λ k. same_task t k.task && not (is_guests p q rounds k)) (slice_get kept c) ≡ true
-  pub guests_are : (t : Task) → list_all (λ c. passes (λ k. same_task t k.task) (slice_get kept c)) (guests t) ≡ true
+  pub guests_are : (t : Task) → list_all (λ c. passes (λ k. same_task t k.task && is_guests p q rounds k) (slice_get kept c)) (guests t) ≡ true
   pub all_rows : (c : ℕ) (k : Answered) → slice_get kept c ≡ Some k → is_guests p q rounds k ≡ false → is_newer rounds kept (at_of rounds k) (row k.task) ≡ true
   pub all_guests : (c : ℕ) (k : Answered) → slice_get kept c ≡ Some k → is_guests p q rounds k ≡ true → has_number (guests k.task) c ≡ true
 

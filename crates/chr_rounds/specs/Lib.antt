@@ -1,3 +1,4 @@
 pub mod Kept
 pub mod Rounds
+pub mod Stands
 pub mod Sums

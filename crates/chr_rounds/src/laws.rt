@@ -1,6 +1,7 @@
 //! The laws. Each function is empty, and its clause is the law.
 ghost use Rattle.chr_rounds.specs.Kept.{ServedLaw, SpotsLaw};
 ghost use Rattle.chr_rounds.specs.Rounds.{HoldsLaw};
+ghost use Rattle.chr_rounds.specs.Stands.{StandsLaw, TellsLaw};
 ghost use Rattle.chr_rounds.specs.Sums.{LivingLaw, NewestLaw, SumsLaw};
 
 /// The tasks of a state are of constraints that live, or of the guest.
@@ -31,4 +32,14 @@ pub fn spots_law()
 /// What is kept of rounds and answers goes on to agree with the schedule.
 pub fn holds_law()
     ensures { HoldsLaw }
+{}
+
+/// A core goes on to stand at the schedule with one event more.
+pub fn stands_law()
+    ensures { StandsLaw }
+{}
+
+/// What a core that stands at a schedule tells of its answers.
+pub fn tells_law()
+    ensures { TellsLaw }
 {}
