@@ -12,6 +12,7 @@ use std::alloc::Allocator;
 use std::process::Abort;
 use std::test::Fail;
 
+mod acts;
 mod ahead;
 mod answers;
 mod calls;
@@ -230,6 +231,22 @@ fn has_row<A: Allocator>(store: &Store<A>, id: u64, sym: Sym, number: i128) -> b
     }
 }
 
+/// The store has these constraints of one number by identity, or none there, and this is the next identity.
+fn assert_rows<A: Allocator>(
+    rt: &impl Abort,
+    store: &Store<A>,
+    wanted: &[(u64, Option<(Sym, i128)>)],
+    next: u64,
+) {
+    for (id, row) in wanted {
+        match row {
+            Some((sym, number)) => assert!(rt; has_row(store, *id, *sym, *number), "{id}"),
+            None => assert!(rt; !store.alive(Id(*id)), "{id}"),
+        }
+    }
+    assert_eq!(rt; store.next().0, next);
+}
+
 /// Whether the identities have these numbers.
 fn are(ids: &[Id], wanted: &[u64]) -> bool {
     if ids.len() != wanted.len() {
@@ -249,14 +266,4 @@ fn has_fired<A: Allocator>(history: &[Fired<A>], rule: usize, ids: &[u64]) -> bo
         [fired] => fired.rule == rule && are(fired.ids.as_slice(), ids),
         _ => false,
     }
-}
-
-/// The machine stands at the end of `ground_rule`.
-fn assert_ground_end<A: Allocator + Copy>(rt: &impl Abort, machine: &Machine<A>) {
-    assert_stands(rt, machine, Status::Done, (7, 0));
-    assert_lines(rt, machine, GROUND_RULE.lines);
-    let store = machine.store();
-    assert!(rt; !store.alive(Id(1)) && has_row(store, 2, Q, 2) && has_row(store, 3, P, 2));
-    assert_eq!(rt; store.next().0, 4);
-    assert!(rt; has_fired(machine.history().list(), 0, &[1]));
 }

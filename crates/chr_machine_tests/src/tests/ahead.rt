@@ -1,9 +1,8 @@
 //! The searches that are worth making ahead, the guest, and snapshots of a machine's state.
-use super::answers::{Wanted, assert_finds};
-use super::touches::BINDING_TOUCHES;
+use super::acts::{Act, play};
+use super::answers::Wanted;
 use super::*;
 use chr_store::Key;
-use std::alloc::Global;
 
 /// The first symbol that `speculation` declares.
 const ACT: Sym = Sym(7);
@@ -11,26 +10,49 @@ const ACT: Sym = Sym(7);
 /// The first symbol that `guest_is_not_next` declares.
 const R: Sym = Sym(7);
 
-/// The tasks are these, in this order.
+/// These are the tasks, in this order.
+fn are_tasks(tasks: &[Task], wanted: &[(u64, u32)]) -> bool {
+    if tasks.len() != wanted.len() {
+        return false;
+    }
+    for (found, at) in tasks.iter().zip(wanted) {
+        if *found != task(*at) {
+            return false;
+        }
+    }
+    true
+}
+
+/// The tasks of a machine, which a snapshot of its state keeps.
 pub fn assert_tasks<A: Allocator + Copy>(
     rt: &impl Abort,
+    alloc: A,
     machine: &Machine<A>,
     wanted: &[(u64, u32)],
 ) -> Result<(), Memory> {
-    let tasks = tasks(machine)?;
-    assert_eq!(rt; tasks.len(), wanted.len());
-    for (found, at) in tasks.iter().zip(wanted) {
-        assert!(rt; *found == task(*at), "{}:{}", at.0, at.1);
-    }
+    assert!(rt; are_tasks(tasks(machine)?.as_slice(), wanted));
+    assert!(rt; are_tasks(published(alloc, machine)?.tasks(), wanted));
     Ok(())
 }
 
-/// The guest is the constraint of a symbol without arguments, or there is none.
-fn assert_guest(rt: &impl Abort, guest: Option<(Sym, &[Term<Global>])>, wanted: Option<Sym>) {
+/// Whether the guest is the constraint of a symbol without arguments, or there is none.
+fn is_guest<A: Allocator>(guest: Option<(Sym, &[Term<A>])>, wanted: Option<Sym>) -> bool {
     match guest {
-        None => assert!(rt; wanted.is_none()),
-        Some((sym, args)) => assert!(rt; wanted == Some(sym) && args.is_empty()),
+        None => wanted.is_none(),
+        Some((sym, args)) => wanted == Some(sym) && args.is_empty(),
     }
+}
+
+/// The guest of a machine, which a snapshot of its state keeps.
+pub fn assert_guest<A: Allocator + Copy>(
+    rt: &impl Abort,
+    alloc: A,
+    machine: &Machine<A>,
+    wanted: Option<Sym>,
+) -> Result<(), Memory> {
+    assert!(rt; is_guest(machine.guest(), wanted));
+    assert!(rt; is_guest(published(alloc, machine)?.guest(), wanted));
+    Ok(())
 }
 
 const SPECULATION_PASSIVE: &str = ":- chr_constraint act/0, q/1, s/1, out/1.
@@ -41,96 +63,96 @@ const NOT_NEXT: &str = ":- chr_constraint r/0, p/0, q/0, t/0, u/0.
 a @ p ==> q. b @ r ==> t. c @ q ==> u.
 ";
 
-/// What is worth making ahead after so many steps, as the machine says and as a snapshot keeps it.
-fn assert_ahead(
-    rt: &impl Abort,
-    alloc: Global,
-    (program, query, steps): (&str, &str, u64),
-    wanted: &[(u64, u32)],
-    guest: Option<Sym>,
-) -> Result<(), Fail> {
-    let (program, query) = both_of(alloc, program, query)?;
-    let mut machine = start(alloc, &program, query)?;
-    run_alone(&mut machine, steps)?;
-    assert_tasks(rt, &machine, wanted)?;
-    assert_guest(rt, machine.guest(), guest);
-    let snapshot = published(alloc, &machine)?;
-    assert_eq!(rt; snapshot.tasks().len(), wanted.len());
-    assert_guest(rt, snapshot.guest(), guest);
+/// `speculation`, `speculation_passive` and `early_round`.
+#[test]
+fn worth_making(rt: HostRuntime) -> Result<(), Fail> {
+    for (program, query, steps, tasks) in [
+        (
+            SPECULATION.program,
+            SPECULATION.query,
+            6,
+            [(3, 1), (2, 1), (2, 2)].as_slice(),
+        ),
+        (
+            SPECULATION_PASSIVE,
+            SPECULATION.query,
+            6,
+            [(3, 1), (2, 1)].as_slice(),
+        ),
+        (
+            PROPAGATE_THEN_SIMPLIFY.program,
+            PROPAGATE_THEN_SIMPLIFY.query,
+            3,
+            [(2, 1), (1, 1), (1, 2)].as_slice(),
+        ),
+    ] {
+        let acts = [
+            Act::Run(steps, Stepped::Moved),
+            Act::Tasks(tasks),
+            Act::Guest(None),
+        ];
+        play(&rt, rt.alloc(), (program, query), &acts)?;
+    }
     Ok(())
 }
 
-/// `speculation`, `speculation_passive`, `early_round` and `binding_touches`.
-#[test]
-fn worth_making(rt: HostRuntime) -> Result<(), Fail> {
-    let alloc = rt.alloc();
-    let Example { program, query, .. } = SPECULATION;
-    assert_ahead(
-        &rt,
-        alloc,
-        (program, query, 6),
-        &[(3, 1), (2, 1), (2, 2)],
-        None,
-    )?;
-    assert_ahead(
-        &rt,
-        alloc,
-        (SPECULATION_PASSIVE, query, 6),
-        &[(3, 1), (2, 1)],
-        None,
-    )?;
-    let Example { program, query, .. } = PROPAGATE_THEN_SIMPLIFY;
-    assert_ahead(
-        &rt,
-        alloc,
-        (program, query, 3),
-        &[(2, 1), (1, 1), (1, 2)],
-        None,
-    )?;
-    let (program, query) = (BINDING_TOUCHES, "p(Y), go(Y).");
-    assert_ahead(&rt, alloc, (program, query, 3), &[(2, 1), (2, 2)], None)
-}
-
-/// `guest_answers` and `guest_is_not_next`.
+/// `guest_answers` and `guest_is_not_next`. In the first the guest finds ahead what the constraint finds in step 5, and the search of step 2
+/// finds nothing.
 #[test]
 fn worth_making_of_guests(rt: HostRuntime) -> Result<(), Fail> {
-    let alloc = rt.alloc();
-    let Example { program, query, .. } = SPECULATION;
-    let tasks = [(1, 1), (2, 1), (2, 2)];
-    assert_ahead(&rt, alloc, (program, query, 1), &tasks, Some(ACT))?;
-    assert_ahead(&rt, alloc, (NOT_NEXT, "p, r.", 1), &tasks[..2], Some(R))
+    let acts = [
+        Act::Step(Stepped::Moved),
+        Act::Tasks(&[(1, 1), (2, 1), (2, 2)]),
+        Act::Guest(Some(ACT)),
+        Act::FindsAhead(Wanted {
+            task: (1, 1),
+            ids: &[],
+            tries: (0, 1),
+        }),
+        Act::FindsAhead(Wanted {
+            task: (2, 1),
+            ids: &[2],
+            tries: (0, 1),
+        }),
+    ];
+    play(
+        &rt,
+        rt.alloc(),
+        (SPECULATION.program, SPECULATION.query),
+        &acts,
+    )?;
+    let acts = [
+        Act::Step(Stepped::Moved),
+        Act::Tasks(&[(1, 1), (2, 1)]),
+        Act::Guest(Some(R)),
+    ];
+    play(&rt, rt.alloc(), (NOT_NEXT, "p, r."), &acts)
 }
 
 /// A machine at its start or at its end has nothing to make ahead.
 #[test]
 fn nothing_ahead(rt: HostRuntime) -> Result<(), Fail> {
-    let Example { program, query, .. } = SPECULATION;
-    for steps in [0, 100] {
-        assert_ahead(&rt, rt.alloc(), (program, query, steps), &[], None)?;
-    }
-    Ok(())
-}
-
-/// `guest_answers`: the guest finds ahead what the constraint finds in step 5, and the search of step 2 finds nothing.
-#[test]
-fn guest_finds(rt: HostRuntime) -> Result<(), Fail> {
-    let (program, query) = both_of(rt.alloc(), SPECULATION.program, SPECULATION.query)?;
-    let mut machine = start(rt.alloc(), &program, query)?;
-    run_alone(&mut machine, 1)?;
-    let snapshot = published(rt.alloc(), &machine)?;
-    for (task, ids) in [((1, 1), [].as_slice()), ((2, 1), [2].as_slice())] {
-        let wanted = Wanted {
-            task,
-            ids,
-            tries: (0, 1),
-        };
-        assert_finds(&rt, &machine, &snapshot, wanted)?;
-    }
-    Ok(())
+    let acts = [
+        Act::Tasks(&[]),
+        Act::Guest(None),
+        Act::Run(100, Stepped::Ended),
+        Act::Tasks(&[]),
+        Act::Guest(None),
+    ];
+    play(
+        &rt,
+        rt.alloc(),
+        (SPECULATION.program, SPECULATION.query),
+        &acts,
+    )
 }
 
 /// The identities under the keys 1 and 2, and those without a key.
-fn assert_lends(rt: &impl Abort, snapshot: &Snapshot<Global>, wanted: [&[u64]; 3]) {
+pub fn assert_lends<A: Allocator + Copy>(
+    rt: &impl Abort,
+    snapshot: &Snapshot<A>,
+    wanted: [&[u64]; 3],
+) {
     let [one, two, none] = wanted;
     assert!(rt; are(snapshot.rows_keyed(P, Some(Key::Int(1))), one));
     assert!(rt; are(snapshot.rows_keyed(P, Some(Key::Int(2))), two));
@@ -138,7 +160,7 @@ fn assert_lends(rt: &impl Abort, snapshot: &Snapshot<Global>, wanted: [&[u64]; 3
 }
 
 /// The same of the store.
-fn assert_stored(rt: &impl Abort, store: &Store<Global>, wanted: [&[u64]; 3]) {
+pub fn assert_stored<A: Allocator + Copy>(rt: &impl Abort, store: &Store<A>, wanted: [&[u64]; 3]) {
     let [one, two, none] = wanted;
     assert!(rt; are(store.rows_keyed(P, Some(Key::Int(1))), one));
     assert!(rt; are(store.rows_keyed(P, Some(Key::Int(2))), two));
@@ -150,19 +172,16 @@ const KEYED: &str = ":- chr_constraint p/2, go/0, o/1. r @ go, p(1,X) ==> o(X)."
 /// `first_argument_index`, in the state after the Activate of `go`.
 #[test]
 fn first_argument_index(rt: HostRuntime) -> Result<(), Fail> {
-    let (program, query) = both_of(rt.alloc(), KEYED, "p(1,7), p(2,8), p(A,9), go.")?;
-    let mut machine = start(rt.alloc(), &program, query)?;
-    run_alone(&mut machine, 10)?;
-    assert!(&rt; top(&machine) == Need::Search(task((4, 1))));
-    assert_stored(&rt, machine.store(), [&[1], &[2], &[3]]);
-    assert_lends(&rt, &published(rt.alloc(), &machine)?, [&[1], &[2], &[3]]);
-    let snapshot = own(rt.alloc(), &machine, task((4, 1)))?;
-    assert_lends(&rt, &snapshot, [&[1], &[], &[]]);
-    let wanted = Wanted {
-        task: (4, 1),
-        ids: &[4, 1],
-        tries: (1, 1),
-    };
-    assert_finds(&rt, &machine, &snapshot, wanted)?;
-    Ok(())
+    let acts = [
+        Act::Run(10, Stepped::Moved),
+        Act::Keyed([&[1], &[2], &[3]]),
+        Act::OwnKeyed((4, 1), [&[1], &[], &[]]),
+        Act::Finds(Wanted {
+            task: (4, 1),
+            ids: &[4, 1],
+            tries: (1, 1),
+        }),
+    ];
+    let query = "p(1,7), p(2,8), p(A,9), go.";
+    play(&rt, rt.alloc(), (KEYED, query), &acts)
 }

@@ -5,10 +5,10 @@ ghost use Rattle.chr_find.specs.SnapshotView.{task_view};
 ghost use Rattle.chr_machine.specs.MachineView.{machine_view};
 ghost use Rattle.chr_machine.specs.NeedView.{Answers, need, search_of};
 
-use super::refusals::{AMPLE, Meter};
+use super::acts::{Act, play};
+use super::refusals::Limit;
 use super::*;
 use smallvec::SmallVec;
-use std::alloc::Global;
 
 /// The answer of the search that the next step asks for.
 fn answer_of<A: Allocator + Copy>(
@@ -26,21 +26,20 @@ fn answer_of<A: Allocator + Copy>(
     find(program, &snapshot, task)
 }
 
-/// One transition as `top` asks, with so many growths. A search is made before these count.
+/// One transition as `top` asks, under a limit on its growths. A search is made before these count.
 pub fn step_asked<A: Allocator + Copy>(
     alloc: A,
-    meter: &Meter,
     machine: &mut Machine<A>,
-    left: u64,
+    limit: Limit<'_>,
 ) -> Result<Stepped, Memory> {
     match machine.top() {
         Need::Plain => {
-            meter.allow(left);
+            limit.begin();
             machine.step_plain()
         }
         Need::Search(task) => {
             let found = answer_of(alloc, machine, task)?;
-            meter.allow(left);
+            limit.begin();
             machine.step_with(found)
         }
         Need::Ended => Ok(Stepped::Ended),
@@ -51,24 +50,23 @@ pub fn step_asked<A: Allocator + Copy>(
 pub fn run_asked<A: Allocator + Copy>(
     rt: &impl Abort,
     alloc: A,
-    meter: &Meter,
     machine: &mut Machine<A>,
     wanted: &[&str],
 ) -> Result<(), Memory> {
     for _ in wanted {
-        assert_eq!(rt; step_asked(alloc, meter, machine, AMPLE)?, Stepped::Moved);
+        assert_eq!(rt; step_asked(alloc, machine, Limit::None)?, Stepped::Moved);
     }
-    assert_eq!(rt; step_asked(alloc, meter, machine, AMPLE)?, Stepped::Ended);
+    assert_eq!(rt; step_asked(alloc, machine, Limit::None)?, Stepped::Ended);
     assert_stands(rt, machine, Status::Done, (wanted.len() as u64, 0));
     assert_lines(rt, machine, wanted);
     Ok(())
 }
 
-/// What the next step's search finds, and how many tries it may have at least and at most.
+/// What a search finds, and how many tries it may have at least and at most.
 #[derive(Clone, Copy, Drop)]
-pub struct Wanted {
+pub struct Wanted<'a> {
     pub task: (u64, u32),
-    pub ids: &'static [u64],
+    pub ids: &'a [u64],
     pub tries: (u64, u64),
 }
 
@@ -85,7 +83,7 @@ pub fn assert_finds<A: Allocator + Copy>(
     rt: &impl Abort,
     machine: &Machine<A>,
     snapshot: &Snapshot<A>,
-    wanted: Wanted,
+    wanted: Wanted<'_>,
 ) -> Result<(), Memory> {
     let found = find(machine.program(), snapshot, task(wanted.task))?;
     assert!(rt; finds(&found, wanted.ids));
@@ -98,57 +96,50 @@ pub fn assert_finds<A: Allocator + Copy>(
     Ok(())
 }
 
-/// The step after so many asks for the search, and it finds this in a snapshot for it alone and in one of the whole.
-fn assert_searched(
-    rt: &impl Abort,
-    alloc: Global,
-    (program, query, steps): (&str, &str, u64),
-    wanted: Wanted,
-) -> Result<(), Fail> {
-    let (program, query) = both_of(alloc, program, query)?;
-    let mut machine = start(alloc, &program, query)?;
-    run_alone(&mut machine, steps)?;
-    assert!(rt; top(&machine) == Need::Search(task(wanted.task)));
-    let snapshot = own(alloc, &machine, task(wanted.task))?;
-    assert_finds(rt, &machine, &snapshot, wanted)?;
-    let snapshot = published(alloc, &machine)?;
-    assert_finds(rt, &machine, &snapshot, wanted)?;
-    Ok(())
-}
-
 const JOIN: &str = ":- chr_constraint go/0, p/1, q/1, o/2.
 r @ go, p(X), q(Y) ==> X =\\= Y | o(X,Y).
 ";
 
-const FIRST: Wanted = Wanted {
-    task: (5, 1),
-    ids: &[5, 1, 4],
-    tries: (2, 4),
-};
-
-const LAST: Wanted = Wanted {
-    task: (5, 1),
-    ids: &[],
-    tries: (4, 4),
-};
-
-/// The searches of steps 14 and 20 of `join_lowest_first`.
+/// `tries`: the searches of steps 14 and 20 of `join_lowest_first`.
 #[test]
 fn tries_of_a_join(rt: HostRuntime) -> Result<(), Fail> {
-    let query = "p(1), p(2), q(1), q(2), go.";
-    assert_searched(&rt, rt.alloc(), (JOIN, query, 13), FIRST)?;
-    assert_searched(&rt, rt.alloc(), (JOIN, query, 19), LAST)
+    let acts = [
+        Act::Run(13, Stepped::Moved),
+        Act::Finds(Wanted {
+            task: (5, 1),
+            ids: &[5, 1, 4],
+            tries: (2, 4),
+        }),
+        Act::Run(6, Stepped::Moved),
+        Act::Finds(Wanted {
+            task: (5, 1),
+            ids: &[],
+            tries: (4, 4),
+        }),
+    ];
+    play(
+        &rt,
+        rt.alloc(),
+        (JOIN, "p(1), p(2), q(1), q(2), go."),
+        &acts,
+    )
 }
 
-const ONE_TRY: Wanted = Wanted {
-    task: (3, 1),
-    ids: &[2, 1, 3],
-    tries: (1, 1),
-};
-
-/// The search of step 7 of `speculation`, whose snapshot has one list to try.
+/// `tries`: the search of step 7 of `speculation`, whose snapshot has one list to try.
 #[test]
 fn one_try(rt: HostRuntime) -> Result<(), Fail> {
-    let Example { program, query, .. } = SPECULATION;
-    assert_searched(&rt, rt.alloc(), (program, query, 6), ONE_TRY)
+    let acts = [
+        Act::Run(6, Stepped::Moved),
+        Act::Finds(Wanted {
+            task: (3, 1),
+            ids: &[2, 1, 3],
+            tries: (1, 1),
+        }),
+    ];
+    play(
+        &rt,
+        rt.alloc(),
+        (SPECULATION.program, SPECULATION.query),
+        &acts,
+    )
 }

@@ -1,47 +1,90 @@
-//! Each growth of a call refused in turn: that the refusal is a growth's, that the machine stands as before, and that the call then goes
-//! through.
-use super::ahead::assert_tasks;
-use super::answers::{run_asked, step_asked};
+//! Each growth of a call refused in turn: that the refusal is a growth's, that the machine stands as before, and that the run then goes on
+//! as ever.
+use super::answers::step_asked;
 use super::*;
 use refusing_alloc::{Refusing, refused_in_turn};
 use std::alloc::Global;
 
-pub type Meter = Refusing<Global>;
+type Meter = Refusing<Global>;
 
-/// More growths than a call of these tests asks for.
-pub const AMPLE: u64 = 1_000_000;
+/// More growths than a run of these tests asks for.
+const AMPLE: u64 = 1_000_000;
 
 /// More than a call that is refused in turn asks for.
 const MOST: u64 = 500;
 
 const EXAMPLES: [Example; 4] = [GROUND_RULE, GCD, PROPAGATE_THEN_SIMPLIFY, WAKING_ORDER];
 
-/// A growth was refused since so many were allowed, or none was.
-fn assert_refused(rt: &impl Abort, meter: &Meter, left: u64, is_refused: bool) {
-    assert_eq!(rt; meter.asked() > left, is_refused, "{left}");
+/// How many growths a call is allowed, from where it begins.
+#[derive(Clone, Copy, Drop)]
+pub enum Limit<'m> {
+    None,
+    Growths(&'m Meter, u64),
+}
+
+impl<'m> Limit<'m> {
+    pub fn begin(self) {
+        match self {
+            Limit::None => {}
+            Limit::Growths(meter, left) => meter.allow(left),
+        }
+    }
 }
 
 /// How much a machine has of each of its parts.
-#[derive(Clone, Copy, PartialEq, Eq, Debug, Drop)]
-struct Sizes {
-    steps: u64,
-    lines: usize,
-    stack: usize,
-    next: u64,
-    changes: u64,
-    variables: u64,
-    history: usize,
+fn sizes_of<A: Allocator + Copy>(machine: &Machine<A>) -> [u64; 7] {
+    [
+        machine.steps(),
+        machine.lines().len() as u64,
+        machine.stack().len() as u64,
+        machine.store().next().0,
+        machine.store().changes(),
+        machine.bindings().len(),
+        machine.history().list().len() as u64,
+    ]
 }
 
-fn sizes_of<A: Allocator + Copy>(machine: &Machine<A>) -> Sizes {
-    Sizes {
-        steps: machine.steps(),
-        lines: machine.lines().len(),
-        stack: machine.stack().len(),
-        next: machine.store().next().0,
-        changes: machine.store().changes(),
-        variables: machine.bindings().len(),
-        history: machine.history().list().len(),
+/// A call of a machine.
+#[derive(Clone, Copy, Drop)]
+enum Call {
+    /// `step`, which makes its own search.
+    Step,
+    /// `step_plain`, or `step_with` the answer, as `top` asks.
+    Asked,
+    Tasks,
+    Run,
+}
+
+/// Whether the call goes through with so many growths.
+fn is_made<A: Allocator + Copy>(
+    alloc: A,
+    meter: &Meter,
+    machine: &mut Machine<A>,
+    call: Call,
+    left: u64,
+) -> bool {
+    match call {
+        Call::Step => {
+            meter.allow(left);
+            step(machine).is_ok()
+        }
+        Call::Asked => step_asked(alloc, machine, Limit::Growths(meter, left)).is_ok(),
+        Call::Tasks => {
+            meter.allow(left);
+            tasks(machine).is_ok()
+        }
+        Call::Run => {
+            meter.allow(left);
+            run_alone(machine, 100).is_ok()
+        }
+    }
+}
+
+/// Whether a refused call leaves the machine as before. A run keeps its whole transitions.
+fn keeps_all(call: Call) -> bool {
+    match call {
+        Call::Step | Call::Asked | Call::Tasks => true,
+        Call::Run => false,
     }
 }
 
@@ -67,98 +110,62 @@ fn go_on<A: Allocator + Copy>(
     Ok(())
 }
 
-/// How a step is made: with its own search, or as `top` asks.
-#[derive(Clone, Copy, Drop)]
-enum By<A> {
-    Itself,
-    Asking(A),
-}
-
-/// One transition with so many growths.
-fn step_by<A: Allocator + Copy>(
-    by: By<A>,
-    meter: &Meter,
-    machine: &mut Machine<A>,
-    left: u64,
-) -> Result<Stepped, Memory> {
-    match by {
-        By::Itself => {
-            meter.allow(left);
-            step(machine)
-        }
-        By::Asking(alloc) => step_asked(alloc, meter, machine, left),
-    }
-}
-
-/// Whether the next step goes through with so many growths. Refused, it leaves the machine as before, and then goes through with memory.
-fn is_stepped<A: Allocator + Copy>(
+/// Whether the call goes through with so many growths; and what stands after it.
+fn is_through<A: Allocator + Copy>(
     rt: &impl Abort,
-    by: By<A>,
-    meter: &Meter,
-    machine: &mut Machine<A>,
-    left: u64,
-) -> Result<bool, Memory> {
-    let before = sizes_of(machine);
-    let is_made = step_by(by, meter, machine, left).is_ok();
-    assert_refused(rt, meter, left, !is_made);
-    if !is_made {
-        assert_eq!(rt; sizes_of(machine), before, "{left}");
-        meter.allow(AMPLE);
-        assert_eq!(rt; step_by(by, meter, machine, AMPLE)?, Stepped::Moved);
-    }
-    assert_eq!(rt; machine.steps(), before.steps.saturating_add(1));
-    Ok(is_made)
-}
-
-/// The same of the step after so many, whose run then goes on as ever.
-fn is_stepped_after<A: Allocator + Copy>(
-    rt: &impl Abort,
-    by: By<A>,
+    alloc: A,
     meter: &Meter,
     machine: &mut Machine<A>,
     wanted: &[&str],
-    (done, left): (u64, u64),
+    (call, left): (Call, u64),
 ) -> Result<bool, Memory> {
-    run_alone(machine, done)?;
-    let is_made = is_stepped(rt, by, meter, machine, left)?;
-    assert_begun(rt, machine, wanted);
-    go_on(rt, meter, machine, wanted)?;
-    Ok(is_made)
-}
-
-/// Whether `run_alone` goes through with so many growths. Refused, it stands after whole transitions, and the run then goes on as ever.
-fn is_run<A: Allocator + Copy>(
-    rt: &impl Abort,
-    meter: &Meter,
-    machine: &mut Machine<A>,
-    wanted: &[&str],
-    left: u64,
-) -> Result<bool, Memory> {
-    meter.allow(left);
-    let is_made = run_alone(machine, 100).is_ok();
-    assert_refused(rt, meter, left, !is_made);
-    assert_begun(rt, machine, wanted);
-    assert_eq!(rt; machine.status() == Status::Done, is_made, "{left}");
-    go_on(rt, meter, machine, wanted)?;
-    Ok(is_made)
-}
-
-/// Whether `tasks` goes through with so many growths. The machine stands as before, and `tasks` then goes through with memory.
-fn are_told<A: Allocator + Copy>(
-    rt: &impl Abort,
-    meter: &Meter,
-    machine: &mut Machine<A>,
-    (done, left): (u64, u64),
-) -> Result<bool, Memory> {
-    run_alone(machine, done)?;
     let before = sizes_of(machine);
-    meter.allow(left);
-    let is_made = tasks(machine).is_ok();
-    assert_refused(rt, meter, left, !is_made);
-    assert_eq!(rt; sizes_of(machine), before, "{left}");
+    let made = is_made(alloc, meter, machine, call, left);
+    assert_eq!(rt; meter.asked() > left, !made, "{left}");
+    if !made && keeps_all(call) {
+        assert!(rt; sizes_of(machine) == before, "{left}");
+    }
+    assert_begun(rt, machine, wanted);
+    go_on(rt, meter, machine, wanted)?;
+    Ok(made)
+}
+
+/// The same after so many transitions of an example.
+///
+/// For any allocator, here and above: proofs for the meter as the allocator would take much longer.
+fn is_through_after<A: Allocator + Copy>(
+    rt: &impl Abort,
+    alloc: A,
+    meter: &Meter,
+    example: Example,
+    (done, call, left): (u64, Call, u64),
+) -> Result<bool, Fail> {
     meter.allow(AMPLE);
-    assert_tasks(rt, machine, &[(3, 1), (2, 1), (2, 2)])?;
-    Ok(is_made)
+    let (program, query) = both_of(alloc, example.program, example.query)?;
+    let mut machine = start(alloc, &program, query)?;
+    run_alone(&mut machine, done)?;
+    let at = (call, left);
+    Ok(is_through(rt, alloc, meter, &mut machine, example.lines, at)?)
+}
+
+/// How often the call is refused, which is how many growths it asks for: at least so many.
+fn assert_call(
+    rt: &impl Abort,
+    alloc: Global,
+    example: Example,
+    (done, call): (u64, Call),
+    least: u64,
+) -> Result<u64, Fail> {
+    let meter = Refusing::new(alloc, 0);
+    let refused = refused_in_turn(MOST, |left| {
+        is_through_after(rt, &meter, &meter, example, (done, call, left))
+    })?;
+    assert!(rt;
+        refused >= least && refused < MOST,
+        "{refused} {}",
+        example.query
+    );
+    Ok(refused)
 }
 
 /// Whether `Machine::start` goes through with so many growths.
@@ -171,90 +178,10 @@ fn is_started<A: Allocator + Copy>(
 ) -> Result<bool, Fail> {
     meter.allow(AMPLE);
     let (program, query) = both_of(alloc, example.program, example.query)?;
-    let goals = query.goals.len();
     meter.allow(left);
-    let made = start(alloc, &program, query);
-    assert_refused(rt, meter, left, made.is_err());
-    match made {
-        Ok(machine) => {
-            assert_stands(rt, &machine, Status::Running, (0, goals));
-            Ok(true)
-        }
-        Err(_) => Ok(false),
-    }
-}
-
-/// A call that is tried with ever more growths.
-#[derive(Clone, Copy, Drop)]
-enum Call {
-    /// After so many transitions.
-    Steps(u64),
-    /// The same, as `top` asks.
-    Asked(u64),
-    /// `tasks`, after so many transitions.
-    Tells(u64),
-    Runs,
-    /// A run as `top` asks, which nothing is refused.
-    RunsAsked,
-    /// The same of `ground_rule`.
-    RunsGround,
-}
-
-/// Whether the call goes through with so many growths, by a machine at its start.
-///
-/// For any allocator, here and above: proofs for the meter as the allocator would take much longer.
-fn is_through<A: Allocator + Copy>(
-    rt: &impl Abort,
-    alloc: A,
-    meter: &Meter,
-    example: Example,
-    (call, left): (Call, u64),
-) -> Result<bool, Fail> {
-    meter.allow(AMPLE);
-    let (program, query) = both_of(alloc, example.program, example.query)?;
-    let mut machine = start(alloc, &program, query)?;
-    let is_made = match call {
-        Call::Steps(done) => {
-            let at = (done, left);
-            is_stepped_after(rt, By::Itself, meter, &mut machine, example.lines, at)?
-        }
-        Call::Asked(done) => {
-            let (by, at) = (By::Asking(alloc), (done, left));
-            is_stepped_after(rt, by, meter, &mut machine, example.lines, at)?
-        }
-        Call::Tells(done) => are_told(rt, meter, &mut machine, (done, left))?,
-        Call::Runs => is_run(rt, meter, &mut machine, example.lines, left)?,
-        Call::RunsAsked => {
-            run_asked(rt, alloc, meter, &mut machine, example.lines)?;
-            true
-        }
-        Call::RunsGround => {
-            run_asked(rt, alloc, meter, &mut machine, example.lines)?;
-            assert_ground_end(rt, &machine);
-            true
-        }
-    };
+    let is_made = start(alloc, &program, query).is_ok();
+    assert_eq!(rt; meter.asked() > left, !is_made, "{left}");
     Ok(is_made)
-}
-
-/// That the call is refused at least so often, and goes through in the end. How often it is refused, which is how many growths it asks for.
-fn assert_call(
-    rt: &impl Abort,
-    alloc: Global,
-    example: Example,
-    call: Call,
-    least: u64,
-) -> Result<u64, Fail> {
-    let meter = Refusing::new(alloc, 0);
-    let refused = refused_in_turn(MOST, |left| {
-        is_through(rt, &meter, &meter, example, (call, left))
-    })?;
-    assert!(rt;
-        refused >= least && refused < MOST,
-        "{refused} {}",
-        example.query
-    );
-    Ok(refused)
 }
 
 #[test]
@@ -273,23 +200,13 @@ fn start_refused(rt: HostRuntime) -> Result<(), Fail> {
     Ok(())
 }
 
-/// Each step needs room for its line at least.
+/// Each step needs room for its line at least, also one without a search or with the answer handed in.
 #[test]
 fn step_refused(rt: HostRuntime) -> Result<(), Fail> {
     for example in EXAMPLES {
-        for done in 0..example.lines.len() {
-            assert_call(&rt, rt.alloc(), example, Call::Steps(done as u64), 1)?;
-        }
-    }
-    Ok(())
-}
-
-/// A step needs room for its line at least, also one without a search or with the answer handed in.
-#[test]
-fn asked_step_refused(rt: HostRuntime) -> Result<(), Fail> {
-    for example in [GCD, WAKING_ORDER] {
-        for done in 0..example.lines.len() {
-            assert_call(&rt, rt.alloc(), example, Call::Asked(done as u64), 1)?;
+        for done in 0..example.lines.len() as u64 {
+            assert_call(&rt, rt.alloc(), example, (done, Call::Step), 1)?;
+            assert_call(&rt, rt.alloc(), example, (done, Call::Asked), 1)?;
         }
     }
     Ok(())
@@ -298,17 +215,7 @@ fn asked_step_refused(rt: HostRuntime) -> Result<(), Fail> {
 /// After six steps of `speculation`.
 #[test]
 fn tasks_refused(rt: HostRuntime) -> Result<(), Fail> {
-    assert_call(&rt, rt.alloc(), SPECULATION, Call::Tells(6), 1)?;
-    Ok(())
-}
-
-/// `ground_rule` by `step_plain`, and by `step_with` of what `find` finds; and the other examples.
-#[test]
-fn runs_as_asked(rt: HostRuntime) -> Result<(), Fail> {
-    assert_call(&rt, rt.alloc(), GROUND_RULE, Call::RunsGround, 0)?;
-    for example in [GCD, PROPAGATE_THEN_SIMPLIFY, WAKING_ORDER, SPECULATION] {
-        assert_call(&rt, rt.alloc(), example, Call::RunsAsked, 0)?;
-    }
+    assert_call(&rt, rt.alloc(), SPECULATION, (6, Call::Tasks), 1)?;
     Ok(())
 }
 
@@ -321,8 +228,8 @@ fn own_search_takes_more(rt: HostRuntime) -> Result<(), Fail> {
         (SPECULATION, 6),
         (SPECULATION, 11),
     ] {
-        let answered = assert_call(&rt, rt.alloc(), example, Call::Asked(done), 1)?;
-        let searched = assert_call(&rt, rt.alloc(), example, Call::Steps(done), 1)?;
+        let answered = assert_call(&rt, rt.alloc(), example, (done, Call::Asked), 1)?;
+        let searched = assert_call(&rt, rt.alloc(), example, (done, Call::Step), 1)?;
         assert!(&rt; searched > answered, "{searched} {answered} after {done}");
     }
     Ok(())
@@ -332,7 +239,7 @@ fn own_search_takes_more(rt: HostRuntime) -> Result<(), Fail> {
 fn run_alone_refused(rt: HostRuntime) -> Result<(), Fail> {
     for example in EXAMPLES {
         let least = example.lines.len() as u64;
-        assert_call(&rt, rt.alloc(), example, Call::Runs, least)?;
+        assert_call(&rt, rt.alloc(), example, (0, Call::Run), least)?;
     }
     Ok(())
 }

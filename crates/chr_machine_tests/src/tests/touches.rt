@@ -1,11 +1,12 @@
 //! What a machine's transitions touch, as the stamps of its store and its history show it.
+use super::acts::{Act, play};
 use super::*;
 
 /// The stamps of the first symbols that a program declares.
-fn assert_stamps<A: Allocator + Copy>(rt: &impl Abort, machine: &Machine<A>, wanted: &[u64]) {
+pub fn assert_stamps<A: Allocator>(rt: &impl Abort, store: &Store<A>, wanted: &[u64]) {
     let mut sym = P.0;
     for stamp in wanted {
-        assert_eq!(rt; machine.store().stamp(Sym(sym)), *stamp, "{sym}");
+        assert_eq!(rt; store.stamp(Sym(sym)), *stamp, "{sym}");
         sym = sym.saturating_add(1);
     }
 }
@@ -14,24 +15,21 @@ fn assert_stamps<A: Allocator + Copy>(rt: &impl Abort, machine: &Machine<A>, wan
 #[test]
 fn firings_touch(rt: HostRuntime) -> Result<(), Fail> {
     let program = ":- chr_constraint p/1. dup @ p(X) \\ p(X) <=> true.";
-    let (program, query) = both_of(rt.alloc(), program, "p(1), p(1).")?;
-    let mut machine = start(rt.alloc(), &program, query)?;
-    assert_eq!(&rt; run_alone(&mut machine, 100)?, Stepped::Ended);
-    assert_stamps(&rt, &machine, &[3]);
-    assert_eq!(&rt; machine.history().stamp(0), 1);
-    assert!(&rt; has_fired(machine.history().list(), 0, &[1, 2]));
-    Ok(())
+    let acts = [
+        Act::Run(100, Stepped::Ended),
+        Act::Stamps(&[3]),
+        Act::RuleStamp(1),
+        Act::Fired(0, &[1, 2]),
+    ];
+    play(&rt, rt.alloc(), (program, "p(1), p(1)."), &acts)
 }
 
 /// `touch_counts`, the second program: a comparison, and an equation that binds nothing, touch nothing.
 #[test]
 fn bindings_touch(rt: HostRuntime) -> Result<(), Fail> {
     let query = "p(1), q(X), 1 < 2, X = X, X = a.";
-    let (program, query) = both_of(rt.alloc(), NO_RULES, query)?;
-    let mut machine = start(rt.alloc(), &program, query)?;
-    assert_eq!(&rt; run_alone(&mut machine, 100)?, Stepped::Ended);
-    assert_stamps(&rt, &machine, &[1, 2]);
-    Ok(())
+    let acts = [Act::Run(100, Stepped::Ended), Act::Stamps(&[1, 2])];
+    play(&rt, rt.alloc(), (NO_RULES, query), &acts)
 }
 
 pub const BINDING_TOUCHES: &str = ":- chr_constraint p/1, go/1, o/0.
@@ -62,14 +60,17 @@ const BINDING_LINES: [&str; 17] = [
 /// `binding_touches`: after three steps p and go were touched once, and the Solve touches both.
 #[test]
 fn binding_touches(rt: HostRuntime) -> Result<(), Fail> {
-    let (program, query) = both_of(rt.alloc(), BINDING_TOUCHES, "p(Y), go(Y).")?;
-    let mut machine = start(rt.alloc(), &program, query)?;
-    for (steps, stamps) in [(3, [1, 1, 0]), (1, [1, 1, 0]), (1, [2, 2, 0])] {
-        assert_eq!(&rt; run_alone(&mut machine, steps)?, Stepped::Moved);
-        assert_stamps(&rt, &machine, &stamps);
-    }
-    assert_eq!(&rt; run_alone(&mut machine, 100)?, Stepped::Ended);
-    assert_stamps(&rt, &machine, &[2, 2, 1]);
-    assert_lines(&rt, &machine, &BINDING_LINES);
-    Ok(())
+    let acts = [
+        Act::Run(3, Stepped::Moved),
+        Act::Stamps(&[1, 1, 0]),
+        Act::Tasks(&[(2, 1), (2, 2)]),
+        Act::Step(Stepped::Moved),
+        Act::Stamps(&[1, 1, 0]),
+        Act::Step(Stepped::Moved),
+        Act::Stamps(&[2, 2, 0]),
+        Act::Run(100, Stepped::Ended),
+        Act::Stamps(&[2, 2, 1]),
+        Act::Lines(&BINDING_LINES),
+    ];
+    play(&rt, rt.alloc(), (BINDING_TOUCHES, "p(Y), go(Y)."), &acts)
 }

@@ -1,0 +1,158 @@
+//! Scripts: what is done with a machine, and what it then shows.
+use super::ahead::{assert_guest, assert_lends, assert_stored, assert_tasks};
+use super::answers::{Wanted, assert_finds, run_asked};
+use super::readers::assert_stack;
+use super::touches::assert_stamps;
+use super::*;
+
+/// What a script does with a machine, or says of it.
+#[derive(Clone, Copy, Drop)]
+pub enum Act<'a> {
+    /// `step` answers this.
+    Step(Stepped),
+    /// `run_alone` of so many transitions answers this.
+    Run(u64, Stepped),
+    /// A step as `top` asks for each of these lines, and then it has ended.
+    RunAsked(&'a [&'a str]),
+    /// `top` answers this.
+    Asks(Need),
+    /// The status, the number of transitions, and how many elements stand on the stack.
+    Stands(Status, u64, usize),
+    /// The stack is this, its top last.
+    Stack(&'a [Seen]),
+    /// The lines so far.
+    Lines(&'a [&'a str]),
+    /// The store has these constraints of one number, by identity, and the last one is the next identity.
+    Stored(&'a [(u64, Option<(Sym, i128)>)], u64),
+    /// This fired, and nothing else.
+    Fired(usize, &'a [u64]),
+    /// So many have fired, and so many variables are there.
+    Sizes(usize, u64),
+    /// The variable stands for the number.
+    Bound(u64, i128),
+    /// How often the first symbols of the program were touched.
+    Stamps(&'a [u64]),
+    /// How often the first rule was.
+    RuleStamp(u64),
+    /// The tasks, which a snapshot shows too.
+    Tasks(&'a [(u64, u32)]),
+    /// The guest, which a snapshot shows too.
+    Guest(Option<Sym>),
+    /// The search that the next step asks for finds this, in a snapshot for it alone and in one of the whole.
+    Finds(Wanted<'a>),
+    /// The search finds this in a snapshot of the whole.
+    FindsAhead(Wanted<'a>),
+    /// The store and a snapshot of the whole have these identities of p under the keys 1 and 2, and without a key.
+    Keyed([&'a [u64]; 3]),
+    /// A snapshot for the task alone has these.
+    OwnKeyed((u64, u32), [&'a [u64]; 3]),
+}
+
+/// A stack element, as far as a script tells it.
+#[derive(Clone, Copy, PartialEq, Eq, Drop)]
+pub enum Seen {
+    /// A goal of one number.
+    Goal(Sym, i128),
+    Known(u64, Sym),
+    Active(u64, u32, Sym),
+}
+
+/// What changes the machine.
+fn change<A: Allocator + Copy>(
+    rt: &impl Abort,
+    alloc: A,
+    machine: &mut Machine<A>,
+    act: Act<'_>,
+) -> Result<(), Memory> {
+    match act {
+        Act::Step(wanted) => assert_eq!(rt; step(machine)?, wanted),
+        Act::Run(n, wanted) => assert_eq!(rt; run_alone(machine, n)?, wanted),
+        Act::RunAsked(lines) => run_asked(rt, alloc, machine, lines)?,
+        _ => {}
+    }
+    Ok(())
+}
+
+/// What a machine says of its state.
+fn look<A: Allocator + Copy>(rt: &impl Abort, machine: &Machine<A>, act: Act<'_>) {
+    match act {
+        Act::Asks(wanted) => assert!(rt; top(machine) == wanted, "after {}", machine.steps()),
+        Act::Stands(status, steps, height) => assert_stands(rt, machine, status, (steps, height)),
+        Act::Stack(wanted) => assert_stack(rt, machine.stack(), wanted),
+        Act::Lines(wanted) => assert_lines(rt, machine, wanted),
+        _ => {}
+    }
+}
+
+/// What is below the stack.
+fn look_below<A: Allocator + Copy>(rt: &impl Abort, machine: &Machine<A>, act: Act<'_>) {
+    match act {
+        Act::Stored(wanted, next) => assert_rows(rt, machine.store(), wanted, next),
+        Act::Fired(rule, ids) => assert!(rt; has_fired(machine.history().list(), rule, ids)),
+        Act::Sizes(fired, variables) => {
+            assert_eq!(rt; machine.history().list().len(), fired);
+            assert_eq!(rt; machine.bindings().len(), variables);
+        }
+        Act::Bound(variable, number) => {
+            let bindings = machine.bindings();
+            assert!(rt; bindings.resolves_to(&Term::Var(variable), &Term::Int(number)));
+        }
+        Act::Stamps(wanted) => assert_stamps(rt, machine.store(), wanted),
+        Act::RuleStamp(wanted) => assert_eq!(rt; machine.history().stamp(0), wanted),
+        _ => {}
+    }
+}
+
+/// What is searched for, now and ahead.
+fn look_ahead<A: Allocator + Copy>(
+    rt: &impl Abort,
+    alloc: A,
+    machine: &Machine<A>,
+    act: Act<'_>,
+) -> Result<(), Memory> {
+    match act {
+        Act::Tasks(wanted) => assert_tasks(rt, alloc, machine, wanted),
+        Act::Guest(wanted) => assert_guest(rt, alloc, machine, wanted),
+        Act::Finds(wanted) => {
+            assert!(rt; top(machine) == Need::Search(task(wanted.task)));
+            assert_finds(
+                rt,
+                machine,
+                &own(alloc, machine, task(wanted.task))?,
+                wanted,
+            )?;
+            assert_finds(rt, machine, &published(alloc, machine)?, wanted)
+        }
+        Act::FindsAhead(wanted) => {
+            assert_finds(rt, machine, &published(alloc, machine)?, wanted)
+        }
+        Act::Keyed(wanted) => {
+            assert_stored(rt, machine.store(), wanted);
+            assert_lends(rt, &published(alloc, machine)?, wanted);
+            Ok(())
+        }
+        Act::OwnKeyed(at, wanted) => {
+            assert_lends(rt, &own(alloc, machine, task(at))?, wanted);
+            Ok(())
+        }
+        _ => Ok(()),
+    }
+}
+
+/// A run of the query under the program, after which a script is followed.
+pub fn play<A: Allocator + Copy>(
+    rt: &impl Abort,
+    alloc: A,
+    (program, query): (&str, &str),
+    acts: &[Act<'_>],
+) -> Result<(), Fail> {
+    let (program, query) = both_of(alloc, program, query)?;
+    let mut machine = start(alloc, &program, query)?;
+    for act in acts {
+        change(rt, alloc, &mut machine, *act)?;
+        look(rt, &machine, *act);
+        look_below(rt, &machine, *act);
+        look_ahead(rt, alloc, &machine, *act)?;
+    }
+    Ok(())
+}
