@@ -2,6 +2,7 @@
 //! alone.
 #![tactic(auto)]
 
+mod answers;
 mod arriving;
 mod core;
 mod error;
@@ -10,6 +11,7 @@ mod publishing;
 mod round;
 mod serving;
 mod stepping;
+mod touching;
 
 pub use crate::core::{Core, Counts};
 pub use arriving::Took;
@@ -17,3 +19,11 @@ pub use chr_machine::{Machine, Need, Outcome, Stepped};
 pub use chr_schedule::Event;
 pub use chr_term::Memory;
 pub use error::CoreError;
+
+#[cfg(test)]
+mod tests {
+    #[test]
+    fn one(rt: HostRuntime) {
+        assert!(&rt; true);
+    }
+}

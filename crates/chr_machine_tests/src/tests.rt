@@ -8,7 +8,9 @@ use chr_read::read_query;
 use chr_rules::{Goal, Program, Query};
 use chr_term::{Memory, Sym, Term};
 use chr_texts::program_of;
+use smallvec::SmallVec;
 use std::alloc::Allocator;
+use std::marker::PhantomData;
 use std::process::Abort;
 use std::test::Fail;
 
@@ -141,6 +143,20 @@ fn both_of<A: Allocator + Copy>(
     let mut program = program_of(alloc, program)?;
     let query = program.goals_of_query(read_query(alloc, query.as_bytes())?)?;
     Ok((program, query))
+}
+
+/// An allocator, and the type of the lists that searches answer. A function for any allocator names that type where it takes such lists.
+#[derive(Drop)]
+pub struct Lists<A, S = SmallVec<Id, 8, A>> {
+    pub alloc: A,
+    list: PhantomData<S>,
+}
+
+fn lists_of<A: Allocator>(alloc: A) -> Lists<A> {
+    Lists {
+        alloc,
+        list: PhantomData,
+    }
 }
 
 /// The calls of a machine, with no clause, so that a proof of a test does not follow the run.

@@ -1,3 +1,4 @@
+pub mod Flags
 pub mod Holds
 pub mod Identities
 pub mod Living

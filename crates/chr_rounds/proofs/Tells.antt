@@ -149,12 +149,12 @@ module _ (p : Program) (rise : Rise) (r : Query) (es : List Event) (c : Core) (t
       (subst (λ (m : ℕ). serves p (start r) at m t ≡ true) steps_parts (sym here ∙ served)))
 
 -- of the answer whose position is kept for the task
-row_at : (p : Program) (rise : Rise) (r : Query) (es : List Event) (c : Core) (t : Task) (n : ℕ) (k : Answered)
+pub row_at : (p : Program) (rise : Rise) (r : Query) (es : List Event) (c : Core) (t : Task) (n : ℕ) (k : Answered)
     → Stands p rise (start r) es c → c.row t ≡ Some n → slice_get c.answers n ≡ Some k
     → (same_task t k.task && not (is_guests p (start r) (ats c.rounds) k)) ≡ true
 row_at p rise r es c t n k h is there = sym (ap (passes (λ (l : Answered). same_task t l.task && not (is_guests p (start r) (ats c.rounds) l))) there) ∙ h.holds.spots.row_is t n is
 
-guest_at : (p : Program) (rise : Rise) (r : Query) (es : List Event) (c : Core) (t : Task) (n : ℕ) (k : Answered)
+pub guest_at : (p : Program) (rise : Rise) (r : Query) (es : List Event) (c : Core) (t : Task) (n : ℕ) (k : Answered)
     → Stands p rise (start r) es c → has_number (c.guests t) n ≡ true → slice_get c.answers n ≡ Some k
     → (same_task t k.task && is_guests p (start r) (ats c.rounds) k) ≡ true
 guest_at p rise r es c t n k h is there =

@@ -1,9 +1,10 @@
 //! Answers to the tasks of snapshots.
 ghost use Rattle.std.proofs.Props.{props};
-ghost use Rattle.std.specs.Prelude.{◌≡◌, IfErr, IfOk, option_map};
+ghost use Rattle.std.specs.Prelude.{◌≡◌, IfErr, IfOk, option_map, slice_get};
 ghost use Rattle.chr_rules.specs.ProgramView.{rules_of};
 ghost use Rattle.chr_store.specs.Numbers.{numbers};
-ghost use Rattle.chr_find.specs.SnapshotView.{task_view};
+ghost use Rattle.chr_semantics.specs.Snapshot as semantics;
+ghost use Rattle.chr_find.specs.SnapshotView.{IsSnapshot, task_view};
 ghost use Rattle.chr_shelf.specs.Answers.{IsTrueIn, LacksTask};
 
 use crate::run::Run;
@@ -13,14 +14,17 @@ use chr_rules::Program;
 use chr_store::Id;
 use smallvec::SmallVec;
 use std::alloc::{Allocator, Global};
+use std::marker::PhantomData;
 
-/// The answer to a task: what a search finds in the snapshot where the task stands. `solve` alone makes one.
+/// The answer to a task: what a search finds in the snapshot where the task stands. `solve` alone makes one. `S` is the type of the list of
+/// identities, which a function for any allocator has to name.
 #[derive(Drop)]
-pub struct Answer<J: Run, A: Allocator = Global> {
+pub struct Answer<J: Run, A: Allocator = Global, S = SmallVec<Id, 8, A>> {
     ticket: Ticket<J, A>,
     index: u32,
     task: Task,
     found: Found<SmallVec<Id, 8, A>>,
+    list: PhantomData<S>,
     ghost of_run: { IsTrueIn J.rules ticket.pushed.value index (task_view task)
         (option_map (λ ids. numbers ids.items) found.ids) } by { Prim.hlevel props },
 }
@@ -34,24 +38,14 @@ pub enum Unsolved {
     Memory,
 }
 
-/// The task with that index, and what is found for it.
-fn found_at<A: Allocator + Copy>(
-    program: &Program<A>,
-    snapshot: &Snapshot<A>,
-    index: u32,
-) -> Result<(Task, Found<SmallVec<Id, 8, A>>), Unsolved>
-    ensures ok { IfOk result (λ found.
-        IsTrueIn (rules_of program.now) snapshot.now index (task_view found.0)
-        (option_map (λ ids. numbers ids.items) found.1.ids)) }
-    ensures err { IfErr result (λ unsolved. LacksTask snapshot.now index unsolved) }
+/// The task with that index.
+fn task_at<A: Allocator>(snapshot: &Snapshot<A>, index: u32) -> Option<Task>
+    ensures { (q : semantics.Snapshot) → IsSnapshot snapshot.now q →
+        slice_get q.tasks index ≡ option_map task_view result }
 {
-    let task = match snapshot.tasks().get(index as usize) {
-        None => return Err(Unsolved::NoTask),
-        Some(task) => *task,
-    };
-    match find(program, snapshot, task) {
-        Ok(found) => Ok((task, found)),
-        Err(_) => Err(Unsolved::Memory),
+    match snapshot.tasks().get(index as usize) {
+        None => None,
+        Some(task) => Some(*task),
     }
 }
 
@@ -68,13 +62,19 @@ pub fn solve<J: Run, A: Allocator + Copy>(
     ensures back { IfErr result (λ refused. refused.0 ≡ ticket) }
     ensures err { IfErr result (λ refused. LacksTask ticket.pushed.value index refused.1) }
 {
-    match found_at(program, shelf.see(&ticket), index) {
-        Err(unsolved) => Err((ticket, unsolved)),
-        Ok((task, found)) => Ok(Answer {
+    let snapshot = shelf.see(&ticket);
+    let task = match task_at(snapshot, index) {
+        None => return Err((ticket, Unsolved::NoTask)),
+        Some(task) => task,
+    };
+    match find(program, snapshot, task) {
+        Err(_) => Err((ticket, Unsolved::Memory)),
+        Ok(found) => Ok(Answer {
             ticket,
             index,
             task,
             found,
+            list: PhantomData,
         }),
     }
 }

@@ -4,6 +4,7 @@ use super::answers::{Wanted, assert_finds, run_asked};
 use super::readers::assert_stack;
 use super::touches::assert_stamps;
 use super::*;
+use std::alloc::Global;
 
 /// What a script does with a machine, or says of it.
 #[derive(Clone, Copy, Drop)]
@@ -60,14 +61,14 @@ pub enum Seen {
 /// What changes the machine.
 fn change<A: Allocator + Copy>(
     rt: &impl Abort,
-    alloc: A,
+    lists: &Lists<A>,
     machine: &mut Machine<A>,
     act: Act<'_>,
 ) -> Result<(), Memory> {
     match act {
         Act::Step(wanted) => assert_eq!(rt; step(machine)?, wanted),
         Act::Run(n, wanted) => assert_eq!(rt; run_alone(machine, n)?, wanted),
-        Act::RunAsked(lines) => run_asked(rt, alloc, machine, lines)?,
+        Act::RunAsked(lines) => run_asked(rt, lists, machine, lines)?,
         _ => {}
     }
     Ok(())
@@ -106,10 +107,11 @@ fn look_below<A: Allocator + Copy>(rt: &impl Abort, machine: &Machine<A>, act: A
 /// What is searched for, now and ahead.
 fn look_ahead<A: Allocator + Copy>(
     rt: &impl Abort,
-    alloc: A,
+    lists: &Lists<A>,
     machine: &Machine<A>,
     act: Act<'_>,
 ) -> Result<(), Memory> {
+    let alloc = lists.alloc;
     match act {
         Act::Tasks(wanted) => assert_tasks(rt, alloc, machine, wanted),
         Act::Guest(wanted) => assert_guest(rt, alloc, machine, wanted),
@@ -117,14 +119,15 @@ fn look_ahead<A: Allocator + Copy>(
             assert!(rt; top(machine) == Need::Search(task(wanted.task)));
             assert_finds(
                 rt,
+                lists,
                 machine,
                 &own(alloc, machine, task(wanted.task))?,
                 wanted,
             )?;
-            assert_finds(rt, machine, &published(alloc, machine)?, wanted)
+            assert_finds(rt, lists, machine, &published(alloc, machine)?, wanted)
         }
         Act::FindsAhead(wanted) => {
-            assert_finds(rt, machine, &published(alloc, machine)?, wanted)
+            assert_finds(rt, lists, machine, &published(alloc, machine)?, wanted)
         }
         Act::Keyed(wanted) => {
             assert_stored(rt, machine.store(), wanted);
@@ -139,20 +142,21 @@ fn look_ahead<A: Allocator + Copy>(
     }
 }
 
-/// A run of the query under the program, after which a script is followed.
-pub fn play<A: Allocator + Copy>(
+/// A run of the query under the program, and what a script does with it.
+pub fn play(
     rt: &impl Abort,
-    alloc: A,
+    alloc: Global,
     (program, query): (&str, &str),
     acts: &[Act<'_>],
 ) -> Result<(), Fail> {
+    let lists = lists_of(alloc);
     let (program, query) = both_of(alloc, program, query)?;
     let mut machine = start(alloc, &program, query)?;
     for act in acts {
-        change(rt, alloc, &mut machine, *act)?;
+        change(rt, &lists, &mut machine, *act)?;
         look(rt, &machine, *act);
         look_below(rt, &machine, *act);
-        look_ahead(rt, alloc, &machine, *act)?;
+        look_ahead(rt, &lists, &machine, *act)?;
     }
     Ok(())
 }

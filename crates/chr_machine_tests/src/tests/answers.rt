@@ -8,7 +8,6 @@ ghost use Rattle.chr_machine.specs.NeedView.{Answers, need, search_of};
 use super::acts::{Act, play};
 use super::refusals::Limit;
 use super::*;
-use smallvec::SmallVec;
 
 /// The answer of the search that the next step asks for.
 fn answer_of<A: Allocator + Copy>(
@@ -28,7 +27,7 @@ fn answer_of<A: Allocator + Copy>(
 
 /// One transition as `top` asks, under a limit on its growths. A search is made before these count.
 pub fn step_asked<A: Allocator + Copy>(
-    alloc: A,
+    lists: &Lists<A>,
     machine: &mut Machine<A>,
     limit: Limit<'_>,
 ) -> Result<Stepped, Memory> {
@@ -38,7 +37,7 @@ pub fn step_asked<A: Allocator + Copy>(
             machine.step_plain()
         }
         Need::Search(task) => {
-            let found = answer_of(alloc, machine, task)?;
+            let found = answer_of(lists.alloc, machine, task)?;
             limit.begin();
             machine.step_with(found)
         }
@@ -49,14 +48,14 @@ pub fn step_asked<A: Allocator + Copy>(
 /// A transition for each line, as `top` asks.
 pub fn run_asked<A: Allocator + Copy>(
     rt: &impl Abort,
-    alloc: A,
+    lists: &Lists<A>,
     machine: &mut Machine<A>,
     wanted: &[&str],
 ) -> Result<(), Memory> {
     for _ in wanted {
-        assert_eq!(rt; step_asked(alloc, machine, Limit::None)?, Stepped::Moved);
+        assert_eq!(rt; step_asked(lists, machine, Limit::None)?, Stepped::Moved);
     }
-    assert_eq!(rt; step_asked(alloc, machine, Limit::None)?, Stepped::Ended);
+    assert_eq!(rt; step_asked(lists, machine, Limit::None)?, Stepped::Ended);
     assert_stands(rt, machine, Status::Done, (wanted.len() as u64, 0));
     assert_lines(rt, machine, wanted);
     Ok(())
@@ -81,6 +80,7 @@ fn finds<A: Allocator>(found: &Found<SmallVec<Id, 8, A>>, wanted: &[u64]) -> boo
 /// What a snapshot has for a task.
 pub fn assert_finds<A: Allocator + Copy>(
     rt: &impl Abort,
+    _lists: &Lists<A>,
     machine: &Machine<A>,
     snapshot: &Snapshot<A>,
     wanted: Wanted<'_>,

@@ -57,7 +57,7 @@ enum Call {
 
 /// Whether the call goes through with so many growths.
 fn is_made<A: Allocator + Copy>(
-    alloc: A,
+    lists: &Lists<A>,
     meter: &Meter,
     machine: &mut Machine<A>,
     call: Call,
@@ -68,7 +68,7 @@ fn is_made<A: Allocator + Copy>(
             meter.allow(left);
             step(machine).is_ok()
         }
-        Call::Asked => step_asked(alloc, machine, Limit::Growths(meter, left)).is_ok(),
+        Call::Asked => step_asked(lists, machine, Limit::Growths(meter, left)).is_ok(),
         Call::Tasks => {
             meter.allow(left);
             tasks(machine).is_ok()
@@ -113,14 +113,14 @@ fn go_on<A: Allocator + Copy>(
 /// Whether the call goes through with so many growths; and what stands after it.
 fn is_through<A: Allocator + Copy>(
     rt: &impl Abort,
-    alloc: A,
+    lists: &Lists<A>,
     meter: &Meter,
     machine: &mut Machine<A>,
     wanted: &[&str],
     (call, left): (Call, u64),
 ) -> Result<bool, Memory> {
     let before = sizes_of(machine);
-    let made = is_made(alloc, meter, machine, call, left);
+    let made = is_made(lists, meter, machine, call, left);
     assert_eq!(rt; meter.asked() > left, !made, "{left}");
     if !made && keeps_all(call) {
         assert!(rt; sizes_of(machine) == before, "{left}");
@@ -135,17 +135,17 @@ fn is_through<A: Allocator + Copy>(
 /// For any allocator, here and above: proofs for the meter as the allocator would take much longer.
 fn is_through_after<A: Allocator + Copy>(
     rt: &impl Abort,
-    alloc: A,
+    lists: &Lists<A>,
     meter: &Meter,
     example: Example,
     (done, call, left): (u64, Call, u64),
 ) -> Result<bool, Fail> {
     meter.allow(AMPLE);
-    let (program, query) = both_of(alloc, example.program, example.query)?;
-    let mut machine = start(alloc, &program, query)?;
+    let (program, query) = both_of(lists.alloc, example.program, example.query)?;
+    let mut machine = start(lists.alloc, &program, query)?;
     run_alone(&mut machine, done)?;
     let at = (call, left);
-    Ok(is_through(rt, alloc, meter, &mut machine, example.lines, at)?)
+    Ok(is_through(rt, lists, meter, &mut machine, example.lines, at)?)
 }
 
 /// How often the call is refused, which is how many growths it asks for: at least so many.
@@ -157,8 +157,9 @@ fn assert_call(
     least: u64,
 ) -> Result<u64, Fail> {
     let meter = Refusing::new(alloc, 0);
+    let lists = lists_of(&meter);
     let refused = refused_in_turn(MOST, |left| {
-        is_through_after(rt, &meter, &meter, example, (done, call, left))
+        is_through_after(rt, &lists, &meter, example, (done, call, left))
     })?;
     assert!(rt;
         refused >= least && refused < MOST,

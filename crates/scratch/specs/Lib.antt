@@ -1,0 +1,3 @@
+pub mod AtomCode
+pub mod Codes
+pub mod Cores
