@@ -66,7 +66,7 @@ module _ {A : Type 0} (b : Base A) (fresh : IsFresh b) where
   table_atom : (i : ℕ) → atom_at b.table i ≡ under b.bindings.subst (atom_of (base_view b).store.rows i)
   table_atom i = b.agrees.resolved fresh.resolved i
 
-  table_rows : HasRows b.table (rows_of (base_view b))
+  pub table_rows : HasRows b.table (rows_of (base_view b))
   table_rows = record {
     rises = rises_resolved b.bindings.subst (base_view b).store.rows b.agrees.rises;
     same = λ i. looked_resolved b.bindings.subst (base_view b).store.rows i ∙ sym (table_atom i);

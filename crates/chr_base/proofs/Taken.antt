@@ -49,7 +49,7 @@ ids_resolved s (r ∷ rs) = ap (λ (l : List ℕ). r.0 ∷ l) (ids_resolved s rs
 
 module _ {A : Type 0} (b : Base A) (fresh : IsFresh b) (s : State) (of : IsStateOf (base_view b) s) where
   rows_are : rows_of (base_view b) ≡ rows s
-  rows_are = cc (of.store, of.subst)
+  rows_are = sym (λ k. map (λ (r : Row). (r.0, resolved_atom (of.subst k) r.1)) (of.store k))
 
   fired_are : (r : ℕ) (ids : List ℕ) → fits ids ≡ true → fired_before (live_entries (rows s) s.history) r ids ≡ fired_at b.table r ids
   fired_are r ids short =

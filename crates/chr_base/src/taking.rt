@@ -1,8 +1,9 @@
 //! What is handed out to be searched elsewhere.
-ghost use Rattle.std.specs.Prelude.{◌≡◌, IfOk, OnOk};
+ghost use Rattle.std.specs.Prelude.{◌≡◌, IfOk, OnOk, option_map};
 ghost use Rattle.chr_semantics.specs.Snapshot.{snapshot_for};
-ghost use Rattle.chr_semantics.specs.State.{State};
+ghost use Rattle.chr_semantics.specs.State.{State, resolved_atom};
 ghost use Rattle.chr_store.specs.HistoryView.{entries_view};
+ghost use Rattle.chr_store.specs.Rows.{row_atom};
 ghost use Rattle.chr_store.specs.StoreView.{store_view};
 ghost use Rattle.chr_find.specs.SnapshotView.{IsSnapshot, guest_view, tasks_view};
 
@@ -10,7 +11,8 @@ use crate::Memory;
 use crate::base::Base;
 use chr_bind::Bindings;
 use chr_find::{Snapshot, Task};
-use chr_store::{History, Store};
+use chr_map::Pointer;
+use chr_store::{History, Row, Store};
 use chr_term::{Sym, Term};
 use std::alloc::Allocator;
 
@@ -28,6 +30,20 @@ impl<A: Allocator + Copy> Base<A> {
         self.table.keep_keys()
     }
 
+    /// A guest with the bindings applied.
+    fn resolved_guest(
+        &self,
+        guest: Option<(Sym, &[Term<A>])>,
+    ) -> Result<Option<Pointer<Row<A>, A>>, Memory>
+        ensures { IfOk result (λ resolved. option_map row_atom resolved
+            ≡ option_map (resolved_atom (base_view self.now).subst) (guest_view guest.entry)) }
+    {
+        match guest {
+            None => Ok(None),
+            Some((sym, args)) => Ok(Some(self.resolved_row(sym, args)?)),
+        }
+    }
+
     /// The constraints and what has fired, as they stand now, with tasks and a guest, which is given as it stands on the stack. It costs some
     /// pointers. The only error is want of memory.
     pub fn snapshot(
@@ -37,12 +53,9 @@ impl<A: Allocator + Copy> Base<A> {
     ) -> Result<Snapshot<A>, Memory>
         requires { IsShareable self.now }
         ensures { IfOk result (λ shared. (s : State) → IsStateOf (base_view self.now) s →
-            IsSnapshot shared (snapshot_for s (tasks_view tasks.items) (guest_view guest))) }
+            IsSnapshot shared (snapshot_for s (tasks_view tasks.items) (guest_view guest.entry))) }
     {
-        let resolved = match guest {
-            None => None,
-            Some((sym, args)) => Some(self.resolved_row(sym, args)?),
-        };
+        let resolved = self.resolved_guest(guest)?;
         Snapshot::of(&self.table, self.store.next(), tasks, resolved)
     }
 

@@ -3,6 +3,7 @@
 #![tactic(auto)]
 
 mod answers;
+mod answers;
 mod arriving;
 mod core;
 mod error;
@@ -19,11 +20,3 @@ pub use chr_machine::{Machine, Need, Outcome, Stepped};
 pub use chr_schedule::Event;
 pub use chr_term::Memory;
 pub use error::CoreError;
-
-#[cfg(test)]
-mod tests {
-    #[test]
-    fn one(rt: HostRuntime) {
-        assert!(&rt; true);
-    }
-}

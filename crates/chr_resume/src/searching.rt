@@ -53,7 +53,7 @@ impl<'p, A: Allocator + Copy> Resuming<'p, A> {
     ) -> Result<Snapshot<A>, Memory>
         requires { IsShareable self.now }
         ensures { IfOk result (λ shared. (s : State) → IsStateOf (base_in self.now) s →
-            IsSnapshot shared (snapshot_for s (tasks_view tasks.items) (guest_view guest))) }
+            IsSnapshot shared (snapshot_for s (tasks_view tasks.items) (guest_view guest.entry))) }
     {
         self.base.snapshot(tasks, guest)
     }

@@ -1,3 +1,4 @@
 pub mod AtomCode
 pub mod Codes
 pub mod Cores
+pub mod Shown

@@ -1,0 +1,7 @@
+pub mod Arrived
+pub mod Made
+pub mod Moves
+pub mod Needs
+pub mod Numbered
+pub mod Serves
+pub mod Shown
