@@ -129,8 +129,8 @@ impl<'p, J: Run, A: Allocator + Copy> Core<'p, J, A> {
     /// What the run has come to, and its events.
     pub fn finish(self) -> (Outcome<A>, Vec<Event, A>)
         ensures outcome { outcome_view result.0
-            ≡ outcome_after (names_in self) J.rules (query_of self) (progress_of self).steps }
-        ensures events { events_view result.1.items ≡ events_of self }
+            ≡ outcome_after (names_in self.entry) J.rules (query_of self.entry) (progress_of self.entry).steps }
+        ensures events { events_view result.1.items ≡ events_of self.entry }
     {
         (self.machine.finish(), self.events)
     }

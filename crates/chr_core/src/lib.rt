@@ -3,7 +3,6 @@
 #![tactic(auto)]
 
 mod answers;
-mod answers;
 mod arriving;
 mod core;
 mod error;

@@ -154,8 +154,8 @@ impl<'p, A: Allocator + Copy> Machine<'p, A> {
 
     /// What the run has come to, with its trace.
     pub fn finish(self) -> Outcome<A>
-        ensures state { ended_in result ≡ state_in (machine_view self) }
-        ensures outcome { let m = machine_view self in
+        ensures state { ended_in result ≡ state_in (machine_view self.entry) }
+        ensures outcome { let m = machine_view self.entry in
             outcome_view result ≡ outcome_of (state_in m) m.steps m.lines m.var_names }
     {
         self.execution.finish()

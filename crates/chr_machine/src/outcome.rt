@@ -34,6 +34,7 @@ pub struct Outcome<A: Allocator = Global> {
 impl<A: Allocator + Copy> Outcome<A> {
     /// Appends the text of the run under its program: the lines of the trace, and those that say how it stands. Where memory is refused,
     /// the text is as before.
+    #[tactic(auto, using(chr_term::proofs::Extensions::extended_on, chr_term::proofs::Extensions::taken_back))]
     pub fn text(&self, program: &Program<A>, out: &mut Vec<u8, A>) -> Result<(), Memory>
         ensures ok { OnOk result (out.new.items ≡ out.old.items ++ lines_text (texts self.now.lines.items
             ++ outcome (names_of program.now) self.now.var_names (rules_of program.now) (ended_in self.now))) }
@@ -50,19 +51,21 @@ impl<A: Allocator + Copy> Outcome<A> {
             bindings: &self.bindings,
             history: self.history.list(),
         };
-        let written = ending.write(out);
-        if written.is_err() {
-            out.truncate(len);
+        match ending.write(out) {
+            Ok(()) => Ok(()),
+            Err(error) => {
+                out.truncate(len);
+                Err(error)
+            }
         }
-        written
     }
 }
 
 impl<'p, A: Allocator + Copy> Execution<'p, A> {
     /// What the run has come to.
     pub fn finish(self) -> Outcome<A>
-        ensures state { ended_in result ≡ state_in (model_of self) }
-        ensures outcome { let m = model_of self in
+        ensures state { ended_in result ≡ state_in (model_of self.entry) }
+        ensures outcome { let m = model_of self.entry in
             outcome_view result ≡ outcome_of (state_in m) m.steps m.lines m.var_names }
     {
         let (store, bindings, history) = self.base.into_parts();

@@ -101,10 +101,10 @@ impl<'p, A: Allocator + Copy> Resuming<'p, A> {
 
     /// The constraints, the bindings, and what has fired.
     pub fn into_parts(self) -> (Store<A>, Bindings<A>, History<A>)
-        ensures store { store_view result.0 ≡ (base_in self).store }
-        ensures subst { result.1.subst ≡ (base_in self).subst }
-        ensures len { result.1.len ≡ (base_in self).next_var }
-        ensures entries { entries_view result.2 ≡ (base_in self).entries }
+        ensures store { store_view result.0 ≡ (base_in self.entry).store }
+        ensures subst { result.1.subst ≡ (base_in self.entry).subst }
+        ensures len { result.1.len ≡ (base_in self.entry).next_var }
+        ensures entries { entries_view result.2 ≡ (base_in self.entry).entries }
     {
         self.base.into_parts()
     }

@@ -1,5 +1,5 @@
 //! Scripts: what is done with a machine, and what it then shows.
-use super::ahead::{assert_guest, assert_lends, assert_stored, assert_tasks};
+use super::ahead::{Keyed, assert_guest, assert_lends, assert_stored, assert_tasks};
 use super::answers::{Wanted, assert_finds, run_asked};
 use super::readers::assert_stack;
 use super::touches::assert_stamps;
@@ -39,14 +39,14 @@ pub enum Act<'a> {
     Tasks(&'a [(u64, u32)]),
     /// The guest, which a snapshot shows too.
     Guest(Option<Sym>),
-    /// The search that the next step asks for finds this, in a snapshot for it alone and in one of the whole.
+    /// The search that the next step asks for finds this, in a snapshot for it alone.
     Finds(Wanted<'a>),
     /// The search finds this in a snapshot of the whole.
     FindsAhead(Wanted<'a>),
     /// The store and a snapshot of the whole have these identities of p under the keys 1 and 2, and without a key.
-    Keyed([&'a [u64]; 3]),
+    Keyed(&'a [u64], &'a [u64], &'a [u64]),
     /// A snapshot for the task alone has these.
-    OwnKeyed((u64, u32), [&'a [u64]; 3]),
+    OwnKeyed((u64, u32), &'a [u64], &'a [u64], &'a [u64]),
 }
 
 /// A stack element, as far as a script tells it.
@@ -104,6 +104,54 @@ fn look_below<A: Allocator + Copy>(rt: &impl Abort, machine: &Machine<A>, act: A
     }
 }
 
+/// What the next step searches for, and what that finds.
+fn search_now<A: Allocator + Copy>(
+    rt: &impl Abort,
+    lists: &Lists<A>,
+    machine: &Machine<A>,
+    wanted: Wanted<'_>,
+) -> Result<(), Memory> {
+    assert!(rt; top(machine) == Need::Search(task(wanted.task)));
+    let snapshot = own(lists.alloc, machine, task(wanted.task))?;
+    assert_finds(rt, lists, machine, &snapshot, wanted)
+}
+
+/// What a search finds in a snapshot of the whole.
+fn search_ahead<A: Allocator + Copy>(
+    rt: &impl Abort,
+    lists: &Lists<A>,
+    machine: &Machine<A>,
+    wanted: Wanted<'_>,
+) -> Result<(), Memory> {
+    let snapshot = published(lists.alloc, machine)?;
+    assert_finds(rt, lists, machine, &snapshot, wanted)
+}
+
+/// What a snapshot of the whole lends.
+fn lend_all<A: Allocator + Copy>(
+    rt: &impl Abort,
+    alloc: A,
+    machine: &Machine<A>,
+    wanted: Keyed<'_>,
+) -> Result<(), Memory> {
+    let snapshot = published(alloc, machine)?;
+    assert_lends(rt, &snapshot, wanted);
+    Ok(())
+}
+
+/// What a snapshot for one task lends.
+fn lend_own<A: Allocator + Copy>(
+    rt: &impl Abort,
+    alloc: A,
+    machine: &Machine<A>,
+    at: (u64, u32),
+    wanted: Keyed<'_>,
+) -> Result<(), Memory> {
+    let snapshot = own(alloc, machine, task(at))?;
+    assert_lends(rt, &snapshot, wanted);
+    Ok(())
+}
+
 /// What is searched for, now and ahead.
 fn look_ahead<A: Allocator + Copy>(
     rt: &impl Abort,
@@ -111,35 +159,47 @@ fn look_ahead<A: Allocator + Copy>(
     machine: &Machine<A>,
     act: Act<'_>,
 ) -> Result<(), Memory> {
-    let alloc = lists.alloc;
     match act {
-        Act::Tasks(wanted) => assert_tasks(rt, alloc, machine, wanted),
-        Act::Guest(wanted) => assert_guest(rt, alloc, machine, wanted),
-        Act::Finds(wanted) => {
-            assert!(rt; top(machine) == Need::Search(task(wanted.task)));
-            assert_finds(
-                rt,
-                lists,
-                machine,
-                &own(alloc, machine, task(wanted.task))?,
-                wanted,
-            )?;
-            assert_finds(rt, lists, machine, &published(alloc, machine)?, wanted)
-        }
-        Act::FindsAhead(wanted) => {
-            assert_finds(rt, lists, machine, &published(alloc, machine)?, wanted)
-        }
-        Act::Keyed(wanted) => {
-            assert_stored(rt, machine.store(), wanted);
-            assert_lends(rt, &published(alloc, machine)?, wanted);
-            Ok(())
-        }
-        Act::OwnKeyed(at, wanted) => {
-            assert_lends(rt, &own(alloc, machine, task(at))?, wanted);
-            Ok(())
-        }
+        Act::Tasks(wanted) => assert_tasks(rt, lists.alloc, machine, wanted),
+        Act::Guest(wanted) => assert_guest(rt, lists.alloc, machine, wanted),
+        Act::Finds(wanted) => search_now(rt, lists, machine, wanted),
+        Act::FindsAhead(wanted) => search_ahead(rt, lists, machine, wanted),
         _ => Ok(()),
     }
+}
+
+/// What is found by the key of the first argument.
+fn look_by_key<A: Allocator + Copy>(
+    rt: &impl Abort,
+    alloc: A,
+    machine: &Machine<A>,
+    act: Act<'_>,
+) -> Result<(), Memory> {
+    match act {
+        Act::Keyed(one, two, none) => {
+            assert_stored(rt, machine.store(), (one, two, none));
+            lend_all(rt, alloc, machine, (one, two, none))
+        }
+        Act::OwnKeyed(at, one, two, none) => lend_own(rt, alloc, machine, at, (one, two, none)),
+        _ => Ok(()),
+    }
+}
+
+/// What a script does with a machine, in order.
+fn follow<A: Allocator + Copy>(
+    rt: &impl Abort,
+    lists: &Lists<A>,
+    machine: &mut Machine<A>,
+    acts: &[Act<'_>],
+) -> Result<(), Memory> {
+    for act in acts {
+        change(rt, lists, machine, *act)?;
+        look(rt, machine, *act);
+        look_below(rt, machine, *act);
+        look_ahead(rt, lists, machine, *act)?;
+        look_by_key(rt, lists.alloc, machine, *act)?;
+    }
+    Ok(())
 }
 
 /// A run of the query under the program, and what a script does with it.
@@ -152,11 +212,6 @@ pub fn play(
     let lists = lists_of(alloc);
     let (program, query) = both_of(alloc, program, query)?;
     let mut machine = start(alloc, &program, query)?;
-    for act in acts {
-        change(rt, &lists, &mut machine, *act)?;
-        look(rt, &machine, *act);
-        look_below(rt, &machine, *act);
-        look_ahead(rt, &lists, &machine, *act)?;
-    }
+    follow(rt, &lists, &mut machine, acts)?;
     Ok(())
 }

@@ -148,20 +148,23 @@ fn nothing_ahead(rt: HostRuntime) -> Result<(), Fail> {
 }
 
 /// The identities under the keys 1 and 2, and those without a key.
+pub type Keyed<'a> = (&'a [u64], &'a [u64], &'a [u64]);
+
+/// These are what a snapshot lends.
 pub fn assert_lends<A: Allocator + Copy>(
     rt: &impl Abort,
     snapshot: &Snapshot<A>,
-    wanted: [&[u64]; 3],
+    wanted: Keyed<'_>,
 ) {
-    let [one, two, none] = wanted;
+    let (one, two, none) = wanted;
     assert!(rt; are(snapshot.rows_keyed(P, Some(Key::Int(1))), one));
     assert!(rt; are(snapshot.rows_keyed(P, Some(Key::Int(2))), two));
     assert!(rt; are(snapshot.rows_keyed(P, None), none));
 }
 
 /// The same of the store.
-pub fn assert_stored<A: Allocator + Copy>(rt: &impl Abort, store: &Store<A>, wanted: [&[u64]; 3]) {
-    let [one, two, none] = wanted;
+pub fn assert_stored<A: Allocator + Copy>(rt: &impl Abort, store: &Store<A>, wanted: Keyed<'_>) {
+    let (one, two, none) = wanted;
     assert!(rt; are(store.rows_keyed(P, Some(Key::Int(1))), one));
     assert!(rt; are(store.rows_keyed(P, Some(Key::Int(2))), two));
     assert!(rt; are(store.rows_keyed(P, None), none));
@@ -174,8 +177,8 @@ const KEYED: &str = ":- chr_constraint p/2, go/0, o/1. r @ go, p(1,X) ==> o(X)."
 fn first_argument_index(rt: HostRuntime) -> Result<(), Fail> {
     let acts = [
         Act::Run(10, Stepped::Moved),
-        Act::Keyed([&[1], &[2], &[3]]),
-        Act::OwnKeyed((4, 1), [&[1], &[], &[]]),
+        Act::Keyed(&[1], &[2], &[3]),
+        Act::OwnKeyed((4, 1), &[1], &[], &[]),
         Act::Finds(Wanted {
             task: (4, 1),
             ids: &[4, 1],

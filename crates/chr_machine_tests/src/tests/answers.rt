@@ -100,22 +100,28 @@ const JOIN: &str = ":- chr_constraint go/0, p/1, q/1, o/2.
 r @ go, p(X), q(Y) ==> X =\\= Y | o(X,Y).
 ";
 
+const FIRST: Wanted<'static> = Wanted {
+    task: (5, 1),
+    ids: &[5, 1, 4],
+    tries: (2, 4),
+};
+
+const LAST: Wanted<'static> = Wanted {
+    task: (5, 1),
+    ids: &[],
+    tries: (4, 4),
+};
+
 /// `tries`: the searches of steps 14 and 20 of `join_lowest_first`.
 #[test]
 fn tries_of_a_join(rt: HostRuntime) -> Result<(), Fail> {
     let acts = [
         Act::Run(13, Stepped::Moved),
-        Act::Finds(Wanted {
-            task: (5, 1),
-            ids: &[5, 1, 4],
-            tries: (2, 4),
-        }),
+        Act::Finds(FIRST),
+        Act::FindsAhead(FIRST),
         Act::Run(6, Stepped::Moved),
-        Act::Finds(Wanted {
-            task: (5, 1),
-            ids: &[],
-            tries: (4, 4),
-        }),
+        Act::Finds(LAST),
+        Act::FindsAhead(LAST),
     ];
     play(
         &rt,

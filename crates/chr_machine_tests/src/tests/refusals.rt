@@ -148,6 +148,16 @@ fn is_through_after<A: Allocator + Copy>(
     Ok(is_through(rt, lists, meter, &mut machine, example.lines, at)?)
 }
 
+/// The same where the meter refuses.
+fn is_through_metered(
+    rt: &impl Abort,
+    meter: &Meter,
+    example: Example,
+    at: (u64, Call, u64),
+) -> Result<bool, Fail> {
+    is_through_after(rt, &lists_of(meter), meter, example, at)
+}
+
 /// How often the call is refused, which is how many growths it asks for: at least so many.
 fn assert_call(
     rt: &impl Abort,
@@ -157,9 +167,8 @@ fn assert_call(
     least: u64,
 ) -> Result<u64, Fail> {
     let meter = Refusing::new(alloc, 0);
-    let lists = lists_of(&meter);
     let refused = refused_in_turn(MOST, |left| {
-        is_through_after(rt, &lists, &meter, example, (done, call, left))
+        is_through_metered(rt, &meter, example, (done, call, left))
     })?;
     assert!(rt;
         refused >= least && refused < MOST,

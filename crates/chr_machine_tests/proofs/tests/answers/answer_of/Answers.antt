@@ -25,15 +25,15 @@ found_answers m p t ids needs same is = record {
 pub returns : goal.returns
 returns g c =
     let m = machine_view c.args.machine.now in
-    let p = rules_of c.program.result.now in
+    let p = rules_of c.program-program.result.now in
     let t = task_view c.args.task in
     let taken = c.in_ok-snapshot.ensures (state_in m) record {
-      store = sym (ap (λ (s : Store). s.rows) c.store.ensures);
-      subst = sym c.bindings.ensures.subst;
-      history = sym (ap (λ (e : Entries). e.list) c.history.ensures);
-      next = sym (ap (λ (s : Store). s.next_id) c.store.ensures);
+      store = sym (ap (λ (s : Store). s.rows) c.store-store.ensures);
+      subst = sym c.bindings-bindings.ensures.subst;
+      history = sym (ap (λ (e : Entries). e.list) c.history-history.ensures);
+      next = sym (ap (λ (s : Store). s.next_id) c.store-store.ensures);
     } in
     IfOk-weaker c.find.result _ _
-    (λ found says. found_answers m p t _ c.requires c.program.ensures.rules
+    (λ found says. found_answers m p t _ c.requires c.program-program.ensures.rules
     ((says (snapshot_for_task p (state_in m) t) taken).ids_are ∙ snapshot_law.own p (state_in m) t c.args.machine.now.proper.sound))
     c.find.ensures

@@ -1,4 +1,0 @@
-pub mod AtomCode
-pub mod Codes
-pub mod Cores
-pub mod Shown
