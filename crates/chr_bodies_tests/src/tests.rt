@@ -111,6 +111,22 @@ fn add<A: Allocator + Copy>(
     Ok(())
 }
 
+/// The constraints of a query, which get the identities from 1 on.
+fn fill<A: Allocator + Copy>(
+    alloc: A,
+    table: &mut Table<A>,
+    query: &Query<A>,
+) -> Result<(), Memory> {
+    let mut id = 0u64;
+    for goal in copy_goals(alloc, query.goals.as_slice())? {
+        if let Goal::Chr(sym, args) = goal {
+            id = id.saturating_add(1);
+            add(table, id, Pointer::new(alloc, Row { sym, args })?)?;
+        }
+    }
+    table.settle()
+}
+
 impl<A: Allocator + Copy> Trial<A> {
     /// The rule of a case with its constraints.
     fn of(alloc: A, rule: &str, query: &str) -> Result<Trial<A>, Fail> {
@@ -118,20 +134,13 @@ impl<A: Allocator + Copy> Trial<A> {
         text.push_str(rule)?;
         let (program, query) = both_of(alloc, text.as_str(), query)?;
         let plan = Pointer::new(alloc, Plan::of(alloc, &program)?)?;
-        let mut table = Table::new(alloc, plan);
-        let mut id = 0u64;
-        for goal in copy_goals(alloc, query.goals.as_slice())? {
-            if let Goal::Chr(sym, args) = goal {
-                id = id.saturating_add(1);
-                add(&mut table, id, Pointer::new(alloc, Row { sym, args })?)?;
-            }
-        }
-        table.settle()?;
-        Ok(Trial {
+        let mut trial = Trial {
             program,
             query,
-            table,
-        })
+            table: Table::new(alloc, plan),
+        };
+        fill(alloc, &mut trial.table, &trial.query)?;
+        Ok(trial)
     }
 
     /// The goals that a call builds, where the rule fires with these. None where they do not fit.
@@ -208,18 +217,42 @@ fn each_goal<A: Allocator + Copy>(
     Ok(built)
 }
 
+/// The texts of the goals that a call builds.
+fn assert_built(
+    rt: &impl Abort,
+    alloc: Global,
+    trial: &mut Trial<Global>,
+    call: Call,
+    (ids, wanted): (&[u64], &str),
+) -> Result<(), Memory> {
+    trial.table.settle()?;
+    let goals = trial.built(alloc, call, ids)?;
+    trial.assert_text(rt, alloc, goals.as_slice(), wanted)
+}
+
 /// Each call builds the goals of each case.
 #[test]
 fn goals_of_bodies(rt: HostRuntime) -> Result<(), Fail> {
     let alloc = rt.alloc();
     for (rule, query, ids, wanted) in CASES {
         let mut trial = Trial::of(alloc, rule, query)?;
-        trial.table.settle()?;
         for call in [Call::Goals, Call::Body, Call::Fired] {
-            let goals = trial.built(alloc, call, ids)?;
-            trial.assert_text(&rt, alloc, goals.as_slice(), wanted)?;
+            assert_built(&rt, alloc, &mut trial, call, (ids, wanted))?;
         }
     }
+    Ok(())
+}
+
+/// Binds the variable 0 to 5, and notes that in the table.
+fn rebind(rt: &impl Abort, alloc: Global, table: &mut Table<Global>) -> Result<(), Memory> {
+    let mut bindings = Bindings::new(alloc);
+    bindings.fresh(1)?;
+    let (left, right) = (Term::Var(0), Term::Int(5));
+    assert!(rt; is_below(bindings.len(), &left) && is_below(bindings.len(), &right));
+    bindings.unify(&left, &right)?;
+    table.settle()?;
+    let rebound = table.rebound(&bindings)?;
+    table.rebind(rebound);
     Ok(())
 }
 
@@ -228,18 +261,9 @@ fn goals_of_bodies(rt: HostRuntime) -> Result<(), Fail> {
 fn rows_as_they_stand(rt: HostRuntime) -> Result<(), Fail> {
     let alloc = rt.alloc();
     let mut trial = Trial::of(alloc, "q(X,Y), q(Y,Z) ==> p([Z|Y]).", "q(1,2), q(2,A).")?;
-    let mut bindings = Bindings::new(alloc);
-    bindings.fresh(1)?;
-    let (left, right) = (Term::Var(0), Term::Int(5));
-    assert!(&rt; is_below(bindings.len(), &left) && is_below(bindings.len(), &right));
-    bindings.unify(&left, &right)?;
-    trial.table.settle()?;
-    let goals = trial.built(alloc, Call::Fired, &[1, 2])?;
-    trial.assert_text(&rt, alloc, goals.as_slice(), "p([A|2])")?;
-    let rebound = trial.table.rebound(&bindings)?;
-    trial.table.rebind(rebound);
-    trial.table.settle()?;
-    let goals = trial.built(alloc, Call::Fired, &[1, 2])?;
-    trial.assert_text(&rt, alloc, goals.as_slice(), "p([5|2])")?;
+    let ids = [1, 2].as_slice();
+    assert_built(&rt, alloc, &mut trial, Call::Fired, (ids, "p([A|2])"))?;
+    rebind(&rt, alloc, &mut trial.table)?;
+    assert_built(&rt, alloc, &mut trial, Call::Fired, (ids, "p([5|2])"))?;
     Ok(())
 }

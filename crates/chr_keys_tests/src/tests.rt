@@ -387,7 +387,10 @@ fn assert_four<A: Allocator + Copy>(
 
 /// Whether changes go through with so many growths, in lists that are shared. Where they are refused, they can be made again and come to the
 /// same, and the other lists never see it.
-fn is_made(
+///
+/// For any allocator: proofs for the meter as the allocator would take much longer.
+fn is_made<A: Allocator + Copy>(
+    alloc: A,
     meter: &Refusing<Global>,
     rt: &impl Abort,
     left: u64,
@@ -395,9 +398,9 @@ fn is_made(
     wanted: &Four,
 ) -> Result<bool, Memory> {
     meter.allow(1_000_000);
-    let mut kept = numbered(meter, 20)?;
+    let mut kept = numbered(alloc, 20)?;
     let mut lists = kept.share()?;
-    note_all(meter, &mut lists, changes)?;
+    note_all(alloc, &mut lists, changes)?;
     meter.allow(left);
     let is_made = lists.settle().is_ok();
     assert!(rt; is_made || meter.asked() > left, "{left}");
@@ -415,7 +418,10 @@ fn assert_refused(
     wanted: &Four,
 ) -> Result<(), Memory> {
     let meter = Refusing::new(alloc, 0);
-    let refused = refused_in_turn(100, |left| is_made(&meter, rt, left, changes, wanted))?;
+    let refused = refused_in_turn(
+        100,
+        |left| is_made(&meter, &meter, rt, left, changes, wanted),
+    )?;
     assert!(rt; refused > 0 && refused < 100, "{refused}");
     Ok(())
 }

@@ -1,11 +1,13 @@
+use acts::{Act, Arg, play};
 use chr_bind::{Bindings, is_below};
 use chr_semantics::limits::MAX_CHANGES;
 use chr_store::*;
-use chr_term::{Sym, Term, same};
-use std::alloc::Allocator;
+use chr_term::{Sym, Term};
+use std::alloc::{Allocator, Global};
 use std::process::Abort;
 use std::test::Fail;
 
+mod acts;
 mod growth;
 mod refusals;
 
@@ -18,16 +20,6 @@ const A: Sym = Sym(9);
 fn one<A: Allocator + Copy>(alloc: A, only: Term<A>) -> Result<Vec<Term<A>, A>, Memory> {
     let mut args = Vec::new(alloc);
     args.push(only)?;
-    Ok(args)
-}
-
-fn two<A: Allocator + Copy>(
-    alloc: A,
-    first: Term<A>,
-    second: Term<A>,
-) -> Result<Vec<Term<A>, A>, Memory> {
-    let mut args = one(alloc, first)?;
-    args.push(second)?;
     Ok(args)
 }
 
@@ -77,182 +69,161 @@ fn fired<A: Allocator + Copy>(
 
 #[test]
 fn store_calls(rt: HostRuntime) -> Result<(), Fail> {
-    let alloc = rt.alloc();
-    let mut bindings = Bindings::new(alloc);
-    bindings.room(1)?;
-    bindings.fresh(1)?;
-    let mut store = Store::new(alloc);
-    assert_eq!(&rt; add(&rt, &mut store, P, one(alloc, Term::Int(1))?)?, 1);
-    assert_eq!(&rt; add(&rt, &mut store, P, one(alloc, Term::Var(0))?)?, 2);
-    assert_ids(&rt, store.woken(&bindings)?.as_slice(), &[2]);
-    assert!(&rt; remove(&rt, &mut store, 1));
-    assert!(&rt; !remove(&rt, &mut store, 1));
-    assert!(&rt; !store.alive(Id(1)));
-    assert!(&rt; store.alive(Id(2)));
-    assert_eq!(&rt; add(&rt, &mut store, P, one(alloc, Term::Int(2))?)?, 3);
-    assert_ids(&rt, store.rows_of(P), &[2, 3]);
-    assert_ids(&rt, store.rows_of(Q), &[]);
-    assert_eq!(&rt; store.next().0, 4);
-    Ok(())
+    let acts = [
+        Act::Adds(P, &[Arg::Int(1)], 1),
+        Act::Adds(P, &[Arg::Var(0)], 2),
+        Act::Wakes(&[2]),
+        Act::Removes(1, true),
+        Act::Removes(1, false),
+        Act::Lives(1, false),
+        Act::Lives(2, true),
+        Act::Adds(P, &[Arg::Int(2)], 3),
+        Act::Rows(P, &[2, 3]),
+        Act::Rows(Q, &[]),
+        Act::Counts(4, 4),
+    ];
+    Ok(play(&rt, rt.alloc(), 1, &acts)?)
 }
 
 #[test]
 fn walked_in_order(rt: HostRuntime) -> Result<(), Fail> {
-    let alloc = rt.alloc();
-    let mut store = Store::new(alloc);
-    for n in 1u64..6 {
-        let sym = if n % 2 == 0 { Q } else { P };
-        add(&rt, &mut store, sym, one(alloc, Term::Int(i128::from(n)))?)?;
-    }
-    assert!(&rt; remove(&rt, &mut store, 1) && remove(&rt, &mut store, 4));
-    let mut seen = Vec::new(alloc);
-    for (id, row) in store.rows() {
-        let number = Term::<std::alloc::Global>::Int(i128::from(id.0));
-        assert!(&rt; row.args.first().is_some_and(|term| same(term, &number)));
-        seen.push((id.0, row.sym.0))?;
-    }
-    assert_eq!(&rt; seen.as_slice(), [(2, Q.0), (3, P.0), (5, P.0)].as_slice());
-    Ok(())
+    let acts = [
+        Act::Adds(P, &[Arg::Int(1)], 1),
+        Act::Adds(Q, &[Arg::Int(2)], 2),
+        Act::Adds(P, &[Arg::Int(3)], 3),
+        Act::Adds(Q, &[Arg::Int(4)], 4),
+        Act::Adds(P, &[Arg::Int(5)], 5),
+        Act::Removes(1, true),
+        Act::Removes(4, true),
+        Act::Walks(&[(2, Q), (3, P), (5, P)]),
+    ];
+    Ok(play(&rt, rt.alloc(), 0, &acts)?)
 }
 
 /// `first_argument_index`: the constraints p(1,7), p(2,8), p(X,9) and go, whatever X is bound to later.
 #[test]
 fn first_argument_index(rt: HostRuntime) -> Result<(), Fail> {
-    let alloc = rt.alloc();
-    let mut bindings = Bindings::new(alloc);
-    bindings.fresh(1)?;
-    let mut store = Store::new(alloc);
-    for (first, second) in [(Term::Int(1), 7), (Term::Int(2), 8), (Term::Var(0), 9)] {
-        add(&rt, &mut store, P, two(alloc, first, Term::Int(second))?)?;
-    }
-    add(&rt, &mut store, Q, Vec::new(alloc))?;
-    for _ in 0..2 {
-        assert_ids(&rt, store.rows_keyed(P, Some(Key::Int(1))), &[1]);
-        assert_ids(&rt, store.rows_keyed(P, Some(Key::Int(2))), &[2]);
-        assert_ids(&rt, store.rows_keyed(P, None), &[3]);
-        assert_ids(&rt, store.rows_keyed(Q, None), &[4]);
-        let (left, right) = (Term::Var(0), Term::Int(1));
-        assert!(&rt; is_below(bindings.len(), &left) && is_below(bindings.len(), &right));
-        bindings.unify(&left, &right)?;
-    }
-    Ok(())
+    let keyed = [
+        Act::Keyed(P, Some(Key::Int(1)), &[1]),
+        Act::Keyed(P, Some(Key::Int(2)), &[2]),
+        Act::Keyed(P, None, &[3]),
+        Act::Keyed(Q, None, &[4]),
+    ];
+    let acts = [
+        Act::Adds(P, &[Arg::Int(1), Arg::Int(7)], 1),
+        Act::Adds(P, &[Arg::Int(2), Arg::Int(8)], 2),
+        Act::Adds(P, &[Arg::Var(0), Arg::Int(9)], 3),
+        Act::Adds(Q, &[], 4),
+        keyed[0],
+        keyed[1],
+        keyed[2],
+        keyed[3],
+        Act::Binds(0, 1),
+        keyed[0],
+        keyed[1],
+        keyed[2],
+        keyed[3],
+    ];
+    Ok(play(&rt, rt.alloc(), 1, &acts)?)
 }
 
 #[test]
 fn names_and_numbers_are_keys(rt: HostRuntime) -> Result<(), Fail> {
-    let alloc = rt.alloc();
-    let mut store = Store::new(alloc);
-    add(
-        &rt,
-        &mut store,
-        P,
-        one(alloc, Term::Node(A, Vec::new(alloc)))?,
-    )?;
-    add(
-        &rt,
-        &mut store,
-        P,
-        one(alloc, Term::Node(Q, one(alloc, Term::Var(0))?))?,
-    )?;
-    add(&rt, &mut store, P, one(alloc, Term::Int(9))?)?;
-    assert_ids(&rt, store.rows_keyed(P, Some(Key::Name(A))), &[1]);
-    assert_ids(&rt, store.rows_keyed(P, Some(Key::Name(Q))), &[2]);
-    assert_ids(&rt, store.rows_keyed(P, Some(Key::Int(9))), &[3]);
-    assert_ids(&rt, store.rows_keyed(Q, Some(Key::Int(9))), &[]);
-    Ok(())
+    let acts = [
+        Act::Adds(P, &[Arg::Name(A)], 1),
+        Act::Adds(P, &[Arg::Of(Q, 0)], 2),
+        Act::Adds(P, &[Arg::Int(9)], 3),
+        Act::Keyed(P, Some(Key::Name(A)), &[1]),
+        Act::Keyed(P, Some(Key::Name(Q)), &[2]),
+        Act::Keyed(P, Some(Key::Int(9)), &[3]),
+        Act::Keyed(Q, Some(Key::Int(9)), &[]),
+    ];
+    Ok(play(&rt, rt.alloc(), 0, &acts)?)
 }
 
 /// Of four constraints, two are stored with variables. The bindings make one of these ground.
 #[test]
 fn woken_by_what_they_stand_for(rt: HostRuntime) -> Result<(), Fail> {
-    let alloc = rt.alloc();
-    let mut bindings = Bindings::new(alloc);
-    bindings.fresh(2)?;
-    let mut store = Store::new(alloc);
-    add(&rt, &mut store, P, one(alloc, Term::Var(0))?)?;
-    add(&rt, &mut store, Q, one(alloc, Term::Int(1))?)?;
-    add(&rt, &mut store, Q, one(alloc, Term::Var(1))?)?;
-    add(&rt, &mut store, P, Vec::new(alloc))?;
-    assert_ids(&rt, store.woken(&bindings)?.as_slice(), &[1, 3]);
-    let (left, right) = (Term::Var(0), Term::Int(5));
-    assert!(&rt; is_below(bindings.len(), &left) && is_below(bindings.len(), &right));
-    bindings.unify(&left, &right)?;
-    assert_ids(&rt, store.woken(&bindings)?.as_slice(), &[3]);
-    Ok(())
+    let acts = [
+        Act::Adds(P, &[Arg::Var(0)], 1),
+        Act::Adds(Q, &[Arg::Int(1)], 2),
+        Act::Adds(Q, &[Arg::Var(1)], 3),
+        Act::Adds(P, &[], 4),
+        Act::Wakes(&[1, 3]),
+        Act::Binds(0, 5),
+        Act::Wakes(&[3]),
+    ];
+    Ok(play(&rt, rt.alloc(), 2, &acts)?)
 }
 
 /// Each changing call raises the stamp of each symbol that it touches by one, whatever it does to it.
 #[test]
 fn stamps_of_symbols(rt: HostRuntime) -> Result<(), Fail> {
-    let alloc = rt.alloc();
-    let mut store = Store::new(alloc);
-    for _ in 0..2 {
-        add(&rt, &mut store, P, one(alloc, Term::Var(0))?)?;
-    }
-    add(&rt, &mut store, Q, one(alloc, Term::Var(0))?)?;
-    assert_eq!(&rt;
-        (store.stamp(P), store.stamp(Q), store.changes()),
-        (2, 1, 3)
-    );
-    rebound(&rt, &mut store, &[Id(1), Id(2), Id(3)]);
-    assert_eq!(&rt;
-        (store.stamp(P), store.stamp(Q), store.changes()),
-        (3, 2, 4)
-    );
-    rebound(&rt, &mut store, &[]);
-    assert_eq!(&rt; store.changes(), 4);
-    assert!(&rt; remove(&rt, &mut store, 2));
-    assert!(&rt; !remove(&rt, &mut store, 2));
-    assert_eq!(&rt; (store.stamp(P), store.stamp(Q), store.stamp(A)), (4, 2, 0));
-    assert_eq!(&rt; store.changes(), 5);
-    Ok(())
+    let acts = [
+        Act::Adds(P, &[Arg::Var(0)], 1),
+        Act::Adds(P, &[Arg::Var(0)], 2),
+        Act::Adds(Q, &[Arg::Var(0)], 3),
+        Act::Stamp(P, 2),
+        Act::Stamp(Q, 1),
+        Act::Counts(4, 3),
+        Act::Rebinds(&[Id(1), Id(2), Id(3)]),
+        Act::Stamp(P, 3),
+        Act::Stamp(Q, 2),
+        Act::Counts(4, 4),
+        Act::Rebinds(&[]),
+        Act::Counts(4, 4),
+        Act::Removes(2, true),
+        Act::Removes(2, false),
+        Act::Stamp(P, 4),
+        Act::Stamp(Q, 2),
+        Act::Stamp(A, 0),
+        Act::Counts(4, 5),
+    ];
+    Ok(play(&rt, rt.alloc(), 1, &acts)?)
 }
 
-/// `touch_counts`: p(1), p(1) where one removes the other; p(1), q(X) where X is bound. The calls of the transitions are made by hand.
+/// `touch_counts`: p(1), p(1) where one removes the other. The calls of the transitions are made by hand.
 #[test]
 fn touch_counts(rt: HostRuntime) -> Result<(), Fail> {
-    let alloc = rt.alloc();
-    let mut store = Store::new(alloc);
-    let mut history = History::new(alloc);
-    for _ in 0..2 {
-        add(&rt, &mut store, P, one(alloc, Term::Int(1))?)?;
-    }
-    assert!(&rt; history.put(fired(alloc, 0, 1, 2)?)?);
-    assert!(&rt; remove(&rt, &mut store, 2));
-    assert_eq!(&rt; (store.stamp(P), history.stamp(0)), (3, 1));
-    let mut store = Store::new(alloc);
-    add(&rt, &mut store, P, one(alloc, Term::Int(1))?)?;
-    add(&rt, &mut store, Q, one(alloc, Term::Var(0))?)?;
-    rebound(&rt, &mut store, &[Id(2)]);
-    assert_eq!(&rt; (store.stamp(P), store.stamp(Q)), (1, 2));
-    Ok(())
+    let acts = [
+        Act::Adds(P, &[Arg::Int(1)], 1),
+        Act::Adds(P, &[Arg::Int(1)], 2),
+        Act::Puts((0, 1, 2), true),
+        Act::Removes(2, true),
+        Act::Stamp(P, 3),
+        Act::RuleStamp(0, 1),
+    ];
+    Ok(play(&rt, rt.alloc(), 0, &acts)?)
+}
+
+/// `touch_counts`: p(1), q(X) where X is bound.
+#[test]
+fn touch_counts_of_a_binding(rt: HostRuntime) -> Result<(), Fail> {
+    let acts = [
+        Act::Adds(P, &[Arg::Int(1)], 1),
+        Act::Adds(Q, &[Arg::Var(0)], 2),
+        Act::Rebinds(&[Id(2)]),
+        Act::Stamp(P, 1),
+        Act::Stamp(Q, 2),
+    ];
+    Ok(play(&rt, rt.alloc(), 1, &acts)?)
 }
 
 #[test]
 fn history_calls(rt: HostRuntime) -> Result<(), Fail> {
-    let alloc = rt.alloc();
-    let mut history = History::new(alloc);
-    assert!(&rt; history.put(fired(alloc, 0, 2, 1)?)?);
-    assert!(&rt; !history.put(fired(alloc, 0, 2, 1)?)?);
-    assert_eq!(&rt; history.list().len(), 1);
-    assert_eq!(&rt; history.stamp(0), 1);
-    assert!(&rt; history.put(fired(alloc, 0, 1, 2)?)?);
-    assert!(&rt; history.put(fired(alloc, 1, 2, 1)?)?);
-    assert!(&rt; history.has(&fired(alloc, 1, 2, 1)?));
-    assert!(&rt; !history.has(&fired(alloc, 1, 1, 2)?));
-    assert_eq!(&rt;
-        (history.stamp(0), history.stamp(1), history.stamp(2)),
-        (2, 1, 0)
-    );
-    let mut seen = Vec::new(alloc);
-    for entry in history.list() {
-        if let [left, right] = entry.ids.as_slice() {
-            seen.push((entry.rule, left.0, right.0))?;
-        }
-    }
-    assert_eq!(&rt;
-        seen.as_slice(),
-        [(0, 2, 1), (0, 1, 2), (1, 2, 1)].as_slice()
-    );
-    Ok(())
+    let acts = [
+        Act::Puts((0, 2, 1), true),
+        Act::Puts((0, 2, 1), false),
+        Act::Fired(&[(0, 2, 1)]),
+        Act::RuleStamp(0, 1),
+        Act::Puts((0, 1, 2), true),
+        Act::Puts((1, 2, 1), true),
+        Act::Has((1, 2, 1), true),
+        Act::Has((1, 1, 2), false),
+        Act::RuleStamp(0, 2),
+        Act::RuleStamp(1, 1),
+        Act::RuleStamp(2, 0),
+        Act::Fired(&[(0, 2, 1), (0, 1, 2), (1, 2, 1)]),
+    ];
+    Ok(play(&rt, rt.alloc(), 0, &acts)?)
 }

@@ -53,16 +53,27 @@ fn scene_of<A: Allocator + Copy>(
     told: usize,
 ) -> Result<Scene<A>, Fail> {
     let (program, query) = both_of(alloc, PROGRAM, query)?;
-    let mut bindings = Bindings::new(alloc);
-    bindings.fresh(query.var_names.len())?;
-    for goal in query.goals.iter().take(told) {
-        assert!(rt; is_told(&mut bindings, goal)?);
-    }
-    Ok(Scene {
+    let mut scene = Scene {
         program,
         query,
-        bindings,
-    })
+        bindings: Bindings::new(alloc),
+    };
+    tell(rt, &scene.query, &mut scene.bindings, told)?;
+    Ok(scene)
+}
+
+/// Tells so many goals of a query.
+fn tell<A: Allocator + Copy>(
+    rt: &impl Abort,
+    query: &Query<A>,
+    bindings: &mut Bindings<A>,
+    told: usize,
+) -> Result<(), Memory> {
+    bindings.fresh(query.var_names.len())?;
+    for goal in query.goals.iter().take(told) {
+        assert!(rt; is_told(bindings, goal)?);
+    }
+    Ok(())
 }
 
 /// Tells an equation, and says whether that bound a variable.
@@ -186,23 +197,43 @@ fn parts_of<A: Allocator + Copy>(
     scene: &Scene<A>,
 ) -> Result<Parts<A>, Memory> {
     let mut parts = no_parts(alloc, Status::Faulted(Fault::Overflow));
-    assert!(rt; BELOW < scene.query.goals.len());
-    for goal in copy_goals(alloc, &scene.query.goals.as_slice()[BELOW..=BELOW])? {
-        parts.stack.push(Elem::Goal(goal))?;
-    }
-    let (sym, args) = scene.constraint(alloc, rt, Q)?;
-    parts.stack.push(Elem::Known(Id(2), sym, args))?;
-    let (sym, args) = scene.constraint(alloc, rt, P)?;
-    parts.stack.push(Elem::Active(Id(1), 3, sym, args))?;
-    for place in [P, Q, Q] {
-        let (sym, args) = scene.constraint(alloc, rt, place)?;
-        add(rt, &mut parts.store, sym, args)?;
-    }
-    assert!(rt; parts.store.changes() < MAX_CHANGES);
-    assert!(rt; parts.store.remove(Id(2)));
+    fill_stack(alloc, rt, scene, &mut parts.stack)?;
+    fill_store(alloc, rt, scene, &mut parts.store)?;
     put(alloc, &mut parts.history, 0, &[1])?;
     put(alloc, &mut parts.history, 1, &[1, 3])?;
     Ok(parts)
+}
+
+fn fill_stack<A: Allocator + Copy>(
+    alloc: A,
+    rt: &impl Abort,
+    scene: &Scene<A>,
+    stack: &mut Vec<Elem<A>, A>,
+) -> Result<(), Memory> {
+    assert!(rt; BELOW < scene.query.goals.len());
+    for goal in copy_goals(alloc, &scene.query.goals.as_slice()[BELOW..=BELOW])? {
+        stack.push(Elem::Goal(goal))?;
+    }
+    let (sym, args) = scene.constraint(alloc, rt, Q)?;
+    stack.push(Elem::Known(Id(2), sym, args))?;
+    let (sym, args) = scene.constraint(alloc, rt, P)?;
+    stack.push(Elem::Active(Id(1), 3, sym, args))?;
+    Ok(())
+}
+
+fn fill_store<A: Allocator + Copy>(
+    alloc: A,
+    rt: &impl Abort,
+    scene: &Scene<A>,
+    store: &mut Store<A>,
+) -> Result<(), Memory> {
+    for place in [P, Q, Q] {
+        let (sym, args) = scene.constraint(alloc, rt, place)?;
+        add(rt, store, sym, args)?;
+    }
+    assert!(rt; store.changes() < MAX_CHANGES);
+    assert!(rt; store.remove(Id(2)));
+    Ok(())
 }
 
 /// `add` with ample memory.
@@ -245,6 +276,23 @@ fn ending<'a, A: Allocator + Copy>(scene: &'a Scene<A>, parts: &'a Parts<A>) -> 
         bindings: &scene.bindings,
         history: parts.history.list(),
     }
+}
+
+/// The text where the run stands so.
+fn assert_ending<A: Allocator + Copy>(
+    alloc: A,
+    rt: &impl Abort,
+    scene: &Scene<A>,
+    parts: &Parts<A>,
+    wanted: &str,
+) -> Result<(), Memory> {
+    let mut out = text(alloc, "1 a\n")?;
+    ending(scene, parts).write(&mut out)?;
+    assert_eq!(rt;
+        out.as_slice().strip_prefix(b"1 a\n".as_slice()),
+        Some(wanted.as_bytes())
+    );
+    Ok(())
 }
 
 /// The text of `parts` in the scene of `QUERY`.

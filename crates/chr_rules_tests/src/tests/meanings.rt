@@ -131,6 +131,22 @@ fn occurrences_of(
     Ok(text)
 }
 
+/// These are the occurrences of symbols, each with its name and its number of arguments.
+fn assert_occurrences(
+    rt: &impl Abort,
+    alloc: Global,
+    program: &Program,
+    rows: &[(&str, usize, &str)],
+) -> Result<(), Memory> {
+    for (name, arity, wanted) in rows {
+        // A symbol that has no number has no occurrence, and neither has this one.
+        let sym = program.names().find(name, *arity).unwrap_or(Sym(u32::MAX));
+        let found = occurrences_of(rt, alloc, program, sym)?;
+        assert_eq!(rt; found.as_str(), *wanted, "{name}");
+    }
+    Ok(())
+}
+
 #[test]
 fn occurrences_of_symbols(rt: HostRuntime) -> Result<(), Fail> {
     let (rt, alloc) = (&rt, rt.alloc());
@@ -144,26 +160,44 @@ dup @ p(X) # passive \\ p(X) <=> true. p(_,_), p(X), p(X,X) # passive, p(1) ==> 
         ("g", 1, ""),
     ];
     for (text, rows) in [(GCD, gcd), (dup, table)] {
-        let program = program_of(alloc, &text)?;
-        for (name, arity, wanted) in rows {
-            // A symbol that has no number has no occurrence, and neither has this one.
-            let sym = program.names().find(name, *arity).unwrap_or(Sym(u32::MAX));
-            let found = occurrences_of(rt, alloc, &program, sym)?;
-            assert_eq!(rt; found.as_str(), *wanted, "{name}");
-        }
+        let program = program_of(alloc, text)?;
+        assert_occurrences(rt, alloc, &program, rows)?;
     }
     Ok(())
+}
+
+/// A query of two constraints, and its copy.
+fn assert_copy(
+    rt: &impl Abort,
+    alloc: Global,
+    program: &Program,
+    asked: &Query,
+) -> Result<(), Memory> {
+    assert!(rt; matches!(asked.goals.as_slice(), [Goal::Chr(_, _), Goal::Chr(_, _)]));
+    let copied = asked.copy()?;
+    let found = shown_goals(alloc, program.names(), &copied)?;
+    assert_eq!(rt; found.as_str(), "p(1), p(2); 0");
+    Ok(())
+}
+
+fn assert_copied(rt: &impl Abort, alloc: Global, program: &mut Program) -> Result<(), Fail> {
+    let asked = query_of(alloc, program, "p(1), p(2).")?;
+    assert_copy(rt, alloc, program, &asked)?;
+    Ok(())
+}
+
+/// A query may have more variables than a rule.
+fn is_wide_query(rt: &impl Abort, alloc: Global, program: &mut Program) -> Result<(), Memory> {
+    let text = series(alloc, "p([", ("V", 65), "]).")?;
+    let wanted = series(alloc, "p([", ("V", 65), "]); 65")?;
+    queries(rt, alloc, program, &[(text.as_str(), wanted.as_str())])
 }
 
 #[test]
 fn query_calls(rt: HostRuntime) -> Result<(), Fail> {
     let (rt, alloc) = (&rt, rt.alloc());
     let mut program = program_of(alloc, ":- chr_constraint p/1. p(1) <=> p(2).")?;
-    let asked = query_of(alloc, &mut program, "p(1), p(2).")?;
-    assert!(rt; matches!(asked.goals.as_slice(), [Goal::Chr(_, _), Goal::Chr(_, _)]));
-    let copied = asked.copy()?;
-    let found = shown_goals(alloc, program.names(), &copied)?;
-    assert_eq!(rt; found.as_str(), "p(1), p(2); 0");
+    assert_copied(rt, alloc, &mut program)?;
     let table = [
         ("p(1), p(2).", "p(1), p(2); 0"),
         ("true.", "; 0"),
@@ -180,9 +214,7 @@ fn query_calls(rt: HostRuntime) -> Result<(), Fail> {
         ("p([1,2|T]), T = [3].", "p([1,2|T]), T = [3]; 1"),
     ];
     queries(rt, alloc, &mut program, &table)?;
-    let text = series(alloc, "p([", ("V", 65), "]).")?;
-    let wanted = series(alloc, "p([", ("V", 65), "]); 65")?;
-    queries(rt, alloc, &mut program, &[(text.as_str(), wanted.as_str())])?;
+    is_wide_query(rt, alloc, &mut program)?;
     Ok(())
 }
 

@@ -18,12 +18,8 @@ const GOALS: &[&str] = &[
     "fail",
 ];
 
-/// The program and the query of these goals.
-fn all_goals<A: Allocator + Copy>(
-    rt: &impl Abort,
-    alloc: Global,
-    own: A,
-) -> Result<(Program<A>, Query<A>), Fail> {
+/// The query of these goals.
+fn text_of_goals(alloc: Global) -> Result<String, Memory> {
     let mut text = String::new(alloc);
     for (place, goal) in GOALS.iter().enumerate() {
         if place > 0 {
@@ -32,35 +28,65 @@ fn all_goals<A: Allocator + Copy>(
         text.push_str(goal)?;
     }
     text.push_str(".")?;
-    let (program, query) = both_of(own, ":- chr_constraint p/1, q/2, r/0.", &text)?;
+    Ok(text)
+}
+
+/// The program and the query of these goals.
+fn all_goals(rt: &impl Abort, alloc: Global) -> Result<(Program, Query), Fail> {
+    let text = text_of_goals(alloc)?;
+    let (program, query) = both_of(alloc, ":- chr_constraint p/1, q/2, r/0.", &text)?;
     assert_eq!(rt; query.goals.len(), GOALS.len());
     Ok((program, query))
 }
 
-#[test]
-fn goals_printed(rt: HostRuntime) -> Result<(), Fail> {
-    let (rt, alloc) = (&rt, rt.alloc());
-    let (program, query) = all_goals(rt, alloc, alloc)?;
+/// A goal printed after a text that is there.
+fn assert_printed(
+    rt: &impl Abort,
+    alloc: Global,
+    (names, vars): (&Names, &VarNames),
+    goal: &Goal,
+    wanted: &str,
+) -> Result<(), Memory> {
+    let mut out = vec![in alloc; b'>']?;
+    print_goal(names, vars, goal, &mut out)?;
+    let wanted = format!(in alloc; ">{wanted}")?;
+    assert_eq!(rt; out.as_slice(), wanted.as_bytes(), "{wanted}");
+    Ok(())
+}
+
+fn are_printed(
+    rt: &impl Abort,
+    alloc: Global,
+    program: &Program,
+    query: &Query,
+) -> Result<(), Memory> {
+    let known = (program.names(), &query.var_names);
     for (goal, wanted) in query.goals.iter().zip(GOALS) {
-        let mut out = vec![in alloc; b'>']?;
-        print_goal(program.names(), &query.var_names, goal, &mut out)?;
-        let wanted = format!(in alloc; ">{wanted}")?;
-        assert_eq!(rt; out.as_slice(), wanted.as_bytes(), "{wanted}");
+        assert_printed(rt, alloc, known, goal, wanted)?;
     }
     Ok(())
 }
 
+#[test]
+fn goals_printed(rt: HostRuntime) -> Result<(), Fail> {
+    let both = all_goals(&rt, rt.alloc())?;
+    are_printed(&rt, rt.alloc(), &both.0, &both.1)?;
+    Ok(())
+}
+
 /// A goal printed with so few growths, after a text that is there. Whether all was printed.
-fn is_printed<A: Allocator>(
+///
+/// For any allocator: a proof for the meter as the allocator would take much longer.
+fn is_printed<M: Allocator + Copy>(
     rt: &impl Abort,
-    memory: &Refusing<Global>,
+    (memory, made): (&Refusing<Global>, M),
     left: u64,
-    (names, vars): (&Names<A>, &VarNames<A>),
-    goal: &Goal<A>,
+    (names, vars): (&Names, &VarNames),
+    goal: &Goal,
     wanted: &str,
 ) -> Result<bool, Memory> {
     memory.allow(ENOUGH);
-    let mut out = Vec::with_capacity(memory, 1)?;
+    let mut out = Vec::with_capacity(made, 1)?;
     out.push(b'>')?;
     memory.allow(left);
     let answer = print_goal(names, vars, goal, &mut out);
@@ -72,17 +98,39 @@ fn is_printed<A: Allocator>(
     Ok(answer.is_ok())
 }
 
-#[test]
-fn print_refused(rt: HostRuntime) -> Result<(), Fail> {
-    let (rt, alloc) = (&rt, rt.alloc());
-    let (program, query) = all_goals(rt, alloc, alloc)?;
-    let memory = Refusing::new(alloc, ENOUGH);
+/// How often a goal is refused, with 0, 1, 2, .. growths, until it is printed.
+fn assert_refused(
+    rt: &impl Abort,
+    memory: &Refusing<Global>,
+    known: (&Names, &VarNames),
+    goal: &Goal,
+    wanted: &str,
+) -> Result<(), Memory> {
+    let refused = refused_in_turn(
+        100,
+        |left| is_printed(rt, (memory, memory), left, known, goal, wanted),
+    )?;
+    assert!(rt; refused > 0 && refused < 100, "{wanted}: {refused}");
+    Ok(())
+}
+
+fn are_refused(
+    rt: &impl Abort,
+    memory: &Refusing<Global>,
+    program: &Program,
+    query: &Query,
+) -> Result<(), Memory> {
     let known = (program.names(), &query.var_names);
     for (goal, wanted) in query.goals.iter().zip(GOALS) {
-        let refused = refused_in_turn(100, |left| {
-            is_printed(rt, &memory, left, known, goal, wanted)
-        })?;
-        assert!(rt; refused > 0 && refused < 100, "{wanted}: {refused}");
+        assert_refused(rt, memory, known, goal, wanted)?;
     }
+    Ok(())
+}
+
+#[test]
+fn print_refused(rt: HostRuntime) -> Result<(), Fail> {
+    let memory = Refusing::new(rt.alloc(), ENOUGH);
+    let both = all_goals(&rt, rt.alloc())?;
+    are_refused(&rt, &memory, &both.0, &both.1)?;
     Ok(())
 }

@@ -6,10 +6,20 @@ fn each_part(rt: HostRuntime) -> Result<(), Fail> {
     let alloc = rt.alloc();
     let scene = scene_of(alloc, &rt, QUERY, P)?;
     let parts = parts_of(alloc, &rt, &scene)?;
-    let mut out = Vec::new(alloc);
-    ending(&scene, &parts).write(&mut out)?;
-    assert_eq!(&rt; out.as_slice(), ENDING.as_bytes());
+    assert_ending(alloc, &rt, &scene, &parts, ENDING)?;
     Ok(())
+}
+
+/// The text where there is nothing but the status.
+fn assert_empty(
+    rt: &impl Abort,
+    alloc: Global,
+    scene: &Scene<Global>,
+    status: Status,
+    word: &str,
+) -> Result<(), Memory> {
+    let wanted = format!(in alloc; "end {word}\nstack 0\nstore 0\nbindings 0\nhistory 0\n")?;
+    assert_ending(alloc, rt, scene, &no_parts(alloc, status), wanted.as_str())
 }
 
 #[test]
@@ -24,13 +34,7 @@ fn nothing_but_the_status(rt: HostRuntime) -> Result<(), Fail> {
         (Status::Faulted(Fault::NotNumber), "fault type"),
         (Status::Faulted(Fault::ZeroDivisor), "fault zero_divisor"),
     ] {
-        let parts = no_parts(alloc, status);
-        let mut out = text(alloc, "1 a\n")?;
-        ending(&scene, &parts).write(&mut out)?;
-        let wanted = format!(in alloc;
-            "1 a\nend {word}\nstack 0\nstore 0\nbindings 0\nhistory 0\n"
-        )?;
-        assert_eq!(&rt; out.as_slice(), wanted.as_bytes());
+        assert_empty(&rt, alloc, &scene, status, word)?;
     }
     Ok(())
 }
@@ -40,9 +44,6 @@ fn nothing_but_the_status(rt: HostRuntime) -> Result<(), Fail> {
 fn bindings_by_number(rt: HostRuntime) -> Result<(), Fail> {
     let alloc = rt.alloc();
     let scene = scene_of(alloc, &rt, "A = B, _c = C, D = g(C,B,_), B = 2.", 4)?;
-    let parts = no_parts(alloc, Status::Running);
-    let mut out = Vec::new(alloc);
-    ending(&scene, &parts).write(&mut out)?;
     let wanted = "end budget
 stack 0
 store 0
@@ -53,7 +54,8 @@ C = _2
 D = g(_2,2,_5)
 history 0
 ";
-    assert_eq!(&rt; out.as_slice(), wanted.as_bytes());
+    let parts = no_parts(alloc, Status::Running);
+    assert_ending(alloc, &rt, &scene, &parts, wanted)?;
     Ok(())
 }
 
@@ -64,9 +66,7 @@ fn unknown_rule(rt: HostRuntime) -> Result<(), Fail> {
     let scene = scene_of(alloc, &rt, QUERY, 0)?;
     let mut parts = no_parts(alloc, Status::Done);
     put(alloc, &mut parts.history, 7, &[4, 5])?;
-    let mut out = Vec::new(alloc);
-    ending(&scene, &parts).write(&mut out)?;
     let wanted = "end done\nstack 0\nstore 0\nbindings 0\nhistory 1\n 4,5\n";
-    assert_eq!(&rt; out.as_slice(), wanted.as_bytes());
+    assert_ending(alloc, &rt, &scene, &parts, wanted)?;
     Ok(())
 }

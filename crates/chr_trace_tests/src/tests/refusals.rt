@@ -1,4 +1,5 @@
 //! Each growth of a call refused in turn: that the refusal is a growth's, that the text is as before, and that the call then goes through.
+use super::lines::some_lines;
 use super::*;
 use refusing_alloc::{Refusing, refused_in_turn};
 
@@ -9,33 +10,79 @@ const AMPLE: u64 = 1_000_000;
 const MOST: u64 = 200;
 
 /// Whether a line goes through with so many growths.
-fn is_made(
+fn is_line_made<M: Allocator + Copy>(
+    alloc: M,
     meter: &Refusing<Global>,
     rt: &impl Abort,
+    scene: &Scene<M>,
     (kind, wanted): (Kind, &str),
     left: u64,
-) -> Result<bool, Fail> {
-    meter.allow(AMPLE);
-    let scene = scene_of(meter, rt, QUERY, P)?;
+) -> bool {
     meter.allow(left);
-    let made = line_of(meter, rt, &scene, kind);
+    let made = line_of(alloc, rt, scene, kind);
     assert_eq!(rt; meter.asked() > left, made.is_err(), "{left}");
     match made {
         Ok(line) => {
             assert_eq!(rt; line.as_slice(), wanted.as_bytes());
-            Ok(true)
+            true
         }
-        Err(_) => Ok(false),
+        Err(_) => false,
     }
+}
+
+/// The same over the scene of `QUERY`.
+///
+/// For any allocator, here and below: proofs for the meter as the allocator would take much longer.
+fn is_made<M: Allocator + Copy>(
+    alloc: M,
+    meter: &Refusing<Global>,
+    rt: &impl Abort,
+    wanted: (Kind, &str),
+    left: u64,
+) -> Result<bool, Fail> {
+    meter.allow(AMPLE);
+    let scene = scene_of(alloc, rt, QUERY, P)?;
+    Ok(is_line_made(alloc, meter, rt, &scene, wanted, left))
 }
 
 #[test]
 fn line_refused(rt: HostRuntime) -> Result<(), Fail> {
     let meter = Refusing::new(rt.alloc(), 0);
     for (kind, wanted) in LINES {
-        let refused = refused_in_turn(MOST, |left| is_made(&meter, &rt, (kind, wanted), left))?;
+        let refused = refused_in_turn(
+            MOST,
+            |left| is_made(&meter, &meter, &rt, (kind, wanted), left),
+        )?;
         assert!(&rt; refused > 0 && refused < MOST, "{refused} {wanted}");
     }
+    Ok(())
+}
+
+/// A line of a constraint among the goals, with one growth alone.
+fn assert_one_growth<M: Allocator + Copy>(
+    alloc: M,
+    meter: &Refusing<Global>,
+    rt: &impl Abort,
+    scene: &Scene<M>,
+    wanted: &str,
+) -> Result<(), Memory> {
+    let (sym, args) = scene.constraint(alloc, rt, 0)?;
+    meter.allow(1);
+    let line = scene
+        .scribe(alloc)
+        .drops(1, sym, args.as_slice(), Id(1), 1)?;
+    assert_eq!(rt; line.as_slice(), wanted.as_bytes());
+    assert_eq!(rt; meter.asked(), 1);
+    Ok(())
+}
+
+fn takes_one_growth<M: Allocator + Copy>(
+    alloc: M,
+    meter: &Refusing<Global>,
+    rt: &impl Abort,
+) -> Result<(), Fail> {
+    let scene = scene_of(alloc, rt, "p([1,2,f(a)]), q(a,b).", 0)?;
+    assert_one_growth(alloc, meter, rt, &scene, "1 drop p([1,2,f(a)])#1:1")?;
     Ok(())
 }
 
@@ -43,67 +90,82 @@ fn line_refused(rt: HostRuntime) -> Result<(), Fail> {
 #[test]
 fn ground_line_takes_one_growth(rt: HostRuntime) -> Result<(), Fail> {
     let meter = Refusing::new(rt.alloc(), AMPLE);
-    let scene = scene_of(&meter, &rt, "p([1,2,f(a)]), q(a,b).", 0)?;
-    let (sym, args) = scene.constraint(&meter, &rt, 0)?;
-    meter.allow(1);
-    let line = scene
-        .scribe(&meter)
-        .drops(1, sym, args.as_slice(), Id(1), 1)?;
-    assert_eq!(&rt; line.as_slice(), b"1 drop p([1,2,f(a)])#1:1".as_slice());
-    assert_eq!(&rt; meter.asked(), 1);
-    Ok(())
+    takes_one_growth(&meter, &meter, &rt)
 }
 
 /// Whether the ending goes through with so many growths. After a refusal the text is as before, and the same call with ample memory goes
 /// through.
-fn is_ended(meter: &Refusing<Global>, rt: &impl Abort, left: u64) -> Result<bool, Fail> {
-    meter.allow(AMPLE);
-    let scene = scene_of(meter, rt, QUERY, P)?;
-    let parts = parts_of(meter, rt, &scene)?;
-    let mut out = text(meter, "before\n")?;
+fn is_written<M: Allocator + Copy>(
+    alloc: M,
+    meter: &Refusing<Global>,
+    rt: &impl Abort,
+    scene: &Scene<M>,
+    parts: &Parts<M>,
+    left: u64,
+) -> Result<bool, Memory> {
+    let mut out = text(alloc, "before\n")?;
     meter.allow(left);
-    let done = ending(&scene, &parts).write(&mut out).is_ok();
+    let done = ending(scene, parts).write(&mut out).is_ok();
     assert_eq!(rt; meter.asked() > left, !done, "{left}");
     meter.allow(AMPLE);
     if !done {
         assert_eq!(rt; out.as_slice(), b"before\n".as_slice());
-        ending(&scene, &parts).write(&mut out)?;
+        ending(scene, parts).write(&mut out)?;
     }
-    let wanted = format!(in meter; "before\n{ENDING}")?;
-    assert_eq!(rt; out.as_slice(), wanted.as_bytes());
+    assert_eq!(rt;
+        out.as_slice().strip_prefix(b"before\n".as_slice()),
+        Some(ENDING.as_bytes())
+    );
     Ok(done)
+}
+
+/// The same over the scene of `QUERY`.
+fn is_ended<M: Allocator + Copy>(
+    alloc: M,
+    meter: &Refusing<Global>,
+    rt: &impl Abort,
+    left: u64,
+) -> Result<bool, Fail> {
+    meter.allow(AMPLE);
+    let scene = scene_of(alloc, rt, QUERY, P)?;
+    let parts = parts_of(alloc, rt, &scene)?;
+    Ok(is_written(alloc, meter, rt, &scene, &parts, left)?)
 }
 
 #[test]
 fn ending_refused(rt: HostRuntime) -> Result<(), Fail> {
     let meter = Refusing::new(rt.alloc(), 0);
-    let refused = refused_in_turn(MOST, |left| is_ended(&meter, &rt, left))?;
+    let refused = refused_in_turn(MOST, |left| is_ended(&meter, &meter, &rt, left))?;
     assert!(&rt; refused > 0 && refused < MOST, "{refused}");
     Ok(())
 }
 
 /// Whether lines go through with so many growths.
-fn are_written(meter: &Refusing<Global>, rt: &impl Abort, left: u64) -> Result<bool, Memory> {
+fn are_written<M: Allocator + Copy>(
+    alloc: M,
+    meter: &Refusing<Global>,
+    rt: &impl Abort,
+    left: u64,
+) -> Result<bool, Memory> {
     meter.allow(AMPLE);
-    let mut lines = Vec::new(meter);
-    for (_, line) in LINES {
-        lines.push(text(meter, line)?)?;
-    }
-    let mut out = text(meter, "before\n")?;
+    let lines = some_lines(alloc, &["1 a", "", "2 b"])?;
+    let mut out = text(alloc, "before\n")?;
     meter.allow(left);
     let done = write_lines(lines.as_slice(), &mut out).is_ok();
     assert_eq!(rt; meter.asked() > left, !done, "{left}");
-    meter.allow(AMPLE);
-    if !done {
-        assert_eq!(rt; out.as_slice(), b"before\n".as_slice());
-    }
+    let wanted = if done {
+        "before\n1 a\n\n2 b\n"
+    } else {
+        "before\n"
+    };
+    assert_eq!(rt; out.as_slice(), wanted.as_bytes());
     Ok(done)
 }
 
 #[test]
 fn write_lines_refused(rt: HostRuntime) -> Result<(), Fail> {
     let meter = Refusing::new(rt.alloc(), 0);
-    let refused = refused_in_turn(MOST, |left| are_written(&meter, &rt, left))?;
+    let refused = refused_in_turn(MOST, |left| are_written(&meter, &meter, &rt, left))?;
     assert!(&rt; refused > 0 && refused < MOST, "{refused}");
     Ok(())
 }
