@@ -4,3 +4,4 @@ pub mod Seen
 pub mod Leavings
 pub mod Searched
 pub mod Entered
+pub mod Taken

@@ -20,7 +20,7 @@ use Rattle.chr_find.specs.declared.active.Active.{Active}
 use Rattle.chr_find.specs.declared.active.Cursor.{Cursor}
 use Rattle.chr_base.specs.Agreement.{is_alive, under}
 use Rattle.chr_base.specs.BaseView.{BaseModel, IsFresh, base_view}
-use Rattle.chr_base.specs.Searching.{FindsFirst, FindsNext, rows_of}
+use Rattle.chr_base.specs.Searching.{FindsFirst, FindsNext, IsBodyFor, rows_of}
 use Rattle.chr_base.specs.declared.base.Base.{Base}
 
 over_resolved : (s : Subst) (n : ℕ) (rows : List Row) → AllOver n rows → AllOver n (map (λ (r : Row). (r.0, resolved_atom s r.1)) rows)
@@ -66,7 +66,7 @@ module _ {A : Type 0} (b : Base A) (fresh : IsFresh b) where
   table_atom : (i : ℕ) → atom_at b.table i ≡ under b.bindings.subst (atom_of (base_view b).store.rows i)
   table_atom i = b.agrees.resolved fresh.resolved i
 
-  table_rows : HasRows b.table (rows_of (base_view b))
+  pub table_rows : HasRows b.table (rows_of (base_view b))
   table_rows = record {
     rises = rises_resolved b.bindings.subst (base_view b).store.rows b.agrees.rises;
     same = λ i. looked_resolved b.bindings.subst (base_view b).store.rows i ∙ sym (table_atom i);
@@ -107,6 +107,6 @@ module _ {A : Type 0} (b : Base A) (fresh : IsFresh b) where
   -- the body of a rule that fires with rows of the base
   pub built_body : (rule : Rule) (ids : List ℕ) (next : ℕ) (r : Result (Vec (Goal A) A) AllocError) → next ≡ (base_view b).next_var
       → IfOk r (λ built. (t : List Row) → ids_of t ≡ ids → AreStanding b.table t → (m : Subst) → fits rule.heads t ≡ Some m → map (λ g. goal (goal_view g)) built.items ≡ body_of rule t next)
-      → IfOk r (λ built. (t : List Row) → ids_of t ≡ ids → All (λ (r : Row). atom_of (rows_of (base_view b)) r.0 ≡ Some r.1) t → (m : Subst) → fits rule.heads t ≡ Some m → map (λ g. goal (goal_view g)) built.items ≡ body_of rule t (base_view b).next_var)
+      → IfOk r (λ built. IsBodyFor (base_view b) rule ids (map (λ g. goal (goal_view g)) built.items))
   built_body rule ids next (Ok built) is h = λ t same standing m fit. h t same (standing_in t standing) m fit ∙ ap (body_of rule t) is
   built_body rule ids next (Err e) is h = tt

@@ -1,5 +1,6 @@
 pub mod Agreement
 pub mod BaseView
+pub mod Taking
 pub mod Told
 pub mod Leaving
 pub mod Searching

@@ -1,11 +1,13 @@
 -- What a search of a base finds.
-use Rattle.std.specs.Prelude.{◌≡◌, ℕ, List, Option, Some, length, map, take}
+use Rattle.std.specs.Prelude.{◌≡◌, ℕ, All, List, Option, Some, length, map, take}
 use Rattle.chr_rules.specs.RuleView.{rule_view}
 use Rattle.chr_semantics.specs.Cursor.{IsSpent}
-use Rattle.chr_semantics.specs.Match.{Row}
-use Rattle.chr_semantics.specs.Program.{Atom}
-use Rattle.chr_semantics.specs.Search.{atom_of}
-use Rattle.chr_semantics.specs.State.{resolved_atom}
+use Rattle.chr_semantics.specs.Match.{Row, fits}
+use Rattle.chr_semantics.specs.Program.{Atom, Rule}
+use Rattle.chr_semantics.specs.Search.{atom_of, ids_of}
+use Rattle.chr_semantics.specs.State.{Element, resolved_atom}
+use Rattle.chr_semantics.specs.Step.{body_of}
+use Rattle.chr_semantics.specs.Subst.{Subst}
 use Rattle.chr_find.specs.First.{IsFirst}
 use Rattle.chr_find.specs.declared.active.Active.{Active}
 use Rattle.chr_find.specs.declared.active.Cursor.{Cursor}
@@ -29,3 +31,9 @@ module _ {A : Type 0} (b : BaseModel) (s : Active A) where
   FindsNext c found =
       ForOwn (λ a. IsSpent (rows_of b) b.entries.list s.number (rule_view s.rule.now) s.place a (take (length (rule_view s.rule.now).heads) c.after) c.from
       → IsFirst (rows_of b) b.entries.list s.number (rule_view s.rule.now) s.place a (length (rule_view s.rule.now).heads) found)
+
+-- the goals are those of the rule's body, where the constraints with these identities fit its heads
+abbrev pub IsBodyFor : BaseModel → Rule → List ℕ → List Element → Type 0
+IsBodyFor b rule ids goals =
+    (t : List Row) → ids_of t ≡ ids → All (λ (r : Row). atom_of (rows_of b) r.0 ≡ Some r.1) t
+    → (m : Subst) → fits rule.heads t ≡ Some m → goals ≡ body_of rule t b.next_var

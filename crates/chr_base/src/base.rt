@@ -78,7 +78,11 @@ impl<A: Allocator + Copy> Base<A> {
     }
 
     /// The row of a constraint with the bindings applied.
-    fn resolved_row(&self, sym: Sym, args: &[Term<A>]) -> Result<Pointer<Row<A>, A>, Memory>
+    pub(crate) fn resolved_row(
+        &self,
+        sym: Sym,
+        args: &[Term<A>],
+    ) -> Result<Pointer<Row<A>, A>, Memory>
         ensures { IfOk result (λ row. row_atom row
             ≡ resolved_atom self.now.bindings.subst (atom_view sym args.now)) }
     {

@@ -5,6 +5,7 @@ mod base;
 mod binding;
 mod firing;
 mod searching;
+mod taking;
 
 pub use base::Base;
 pub use chr_term::Memory;

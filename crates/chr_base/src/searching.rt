@@ -1,11 +1,8 @@
 //! The search for partners.
-ghost use Rattle.std.specs.Prelude.{◌≡◌, All, IfOk, List, None, OnOk, Some, map};
+ghost use Rattle.std.specs.Prelude.{◌≡◌, IfOk, None, OnOk, map};
 ghost use Rattle.chr_semantics.specs.Bounds.{IsBounded};
-ghost use Rattle.chr_semantics.specs.Match.{Row, fits};
-ghost use Rattle.chr_semantics.specs.Search.{atom_of, ids_of};
+ghost use Rattle.chr_semantics.specs.Search.{atom_of};
 ghost use Rattle.chr_semantics.specs.State.{goal};
-ghost use Rattle.chr_semantics.specs.Step.{body_of};
-ghost use Rattle.chr_semantics.specs.Subst.{Subst};
 ghost use Rattle.chr_rules.specs.RuleView.{goal_view, rule_view};
 ghost use Rattle.chr_find.specs.SearchView.{IsSearchable};
 
@@ -18,7 +15,7 @@ use std::alloc::Allocator;
 
 impl<A: Allocator + Copy> Base<A> {
     ghost use Rattle.chr_base.specs.BaseView.{IsFresh, base_view};
-    ghost use Rattle.chr_base.specs.Searching.{FindsFirst, FindsNext, rows_of};
+    ghost use Rattle.chr_base.specs.Searching.{FindsFirst, FindsNext, IsBodyFor};
 
     /// Makes the table ready to be searched. Contracts see the same base, after a refusal too.
     pub fn freshen(&mut self) -> Result<(), Memory>
@@ -70,11 +67,7 @@ impl<A: Allocator + Copy> Base<A> {
     pub fn body(&self, rule: &Rule<A>, ids: &[u64]) -> Result<Vec<Goal<A>, A>, Memory>
         requires fresh { IsFresh self.now }
         requires bounded { IsBounded (rule_view rule.now) }
-        ensures { IfOk result (λ built. (t : List Row) → ids_of t ≡ ids.now →
-            All (λ r. atom_of (rows_of (base_view self.now)) r.0 ≡ Some r.1) t →
-            (m : Subst) → fits (rule_view rule.now).heads t ≡ Some m →
-            map (λ g. goal (goal_view g)) built.items
-            ≡ body_of (rule_view rule.now) t (base_view self.now).next_var) }
+        ensures { IfOk result (λ built. IsBodyFor (base_view self.now) (rule_view rule.now) ids.now (map (λ g. goal (goal_view g)) built.items)) }
     {
         let next = self.bindings.len();
         build_fired(self.alloc, &self.table, rule, ids, next)

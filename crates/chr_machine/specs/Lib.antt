@@ -8,3 +8,4 @@ pub mod NeedView
 pub mod Answering
 pub mod Gathering
 pub mod MachineView
+pub mod OutcomeView

@@ -1,6 +1,8 @@
 //! The machine as its callers see it.
 ghost use Rattle.std.specs.Prelude.{◌≡◌, ◌≤◌, IfOk, OnErr, option_map};
 ghost use Rattle.chr_semantics.specs.Bounds.{IsQueryBounded};
+ghost use Rattle.chr_semantics.specs.Outcome.{outcome_of};
+ghost use Rattle.chr_semantics.specs.Snapshot.{snapshot_of};
 ghost use Rattle.chr_semantics.specs.Tasks.{guest, tasks};
 ghost use Rattle.chr_semantics.specs.declared.limits.TheConstants.{MAX_TRANSITIONS};
 ghost use Rattle.chr_rules.specs.ProgramView.{names_of, rules_of};
@@ -8,20 +10,22 @@ ghost use Rattle.chr_rules.specs.RuleView.{query_view};
 ghost use Rattle.chr_store.specs.HistoryView.{entries_view};
 ghost use Rattle.chr_store.specs.Numbers.{numbers};
 ghost use Rattle.chr_store.specs.StoreView.{store_view};
-ghost use Rattle.chr_find.specs.SnapshotView.{guest_view, tasks_view};
+ghost use Rattle.chr_find.specs.SnapshotView.{IsSnapshot, guest_view, tasks_view};
 ghost use Rattle.chr_trace.specs.State.{stack_view, status_view};
 ghost use Rattle.chr_trace.specs.Texts.{texts};
 ghost use Rattle.chr_resume.specs.ResumingView.{program_in};
 ghost use Rattle.chr_machine.specs.Model.{model_of, state_in};
 ghost use Rattle.chr_machine.specs.NeedView.{Answers, need, need_view, plain};
+ghost use Rattle.chr_machine.specs.OutcomeView.{ended_in, outcome_view};
 ghost use Rattle.chr_machine.specs.Proper.{propers};
 ghost use Rattle.chr_machine.specs.Step.{IsCounted, IsProper, IsReady};
 
 use crate::answer::Answer;
 use crate::need::Need;
+use crate::outcome::Outcome;
 use crate::state::{Execution, Stepped};
 use chr_bind::Bindings;
-use chr_find::{Found, Task};
+use chr_find::{Found, Snapshot, Task};
 use chr_rules::{Program, Query};
 use chr_store::{History, Id, Store};
 use chr_term::{Memory, Sym, Term, VarNames};
@@ -136,6 +140,25 @@ impl<'p, A: Allocator + Copy> Machine<'p, A> {
             ≡ tasks (machine_view self.now).rules (state_in (machine_view self.now))) }
     {
         self.execution.tasks()
+    }
+
+    /// A snapshot of the state with its tasks and its guest, to be searched elsewhere. The first one costs the store; each further one what has
+    /// changed since, the tasks, and the stack as far as they reach. The only error is want of memory.
+    pub fn snapshot(&mut self) -> Result<Snapshot<A>, Memory>
+        ensures same { machine_view self.new ≡ machine_view self.old }
+        ensures shown { let m = machine_view self.old in
+            IfOk result (λ shared. IsSnapshot shared (snapshot_of m.rules (state_in m))) }
+    {
+        self.execution.snapshot()
+    }
+
+    /// What the run has come to, with its trace.
+    pub fn finish(self) -> Outcome<A>
+        ensures state { ended_in result ≡ state_in (machine_view self.entry) }
+        ensures outcome { let m = machine_view self.entry in
+            outcome_view result ≡ outcome_of (state_in m) m.steps m.lines m.var_names }
+    {
+        self.execution.finish()
     }
 
     /// The number of transitions that were made.

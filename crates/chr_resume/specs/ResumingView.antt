@@ -6,6 +6,7 @@ use Rattle.chr_find.specs.declared.active.Active.{Active}
 use Rattle.chr_find.specs.declared.active.Cursor.{Cursor}
 use Rattle.chr_base.specs.BaseView.{BaseModel, base_view}
 use Rattle.chr_base.specs.BaseView as base
+use Rattle.chr_base.specs.Taking as taking
 use Rattle.chr_resume.specs.Bookmarks.{IsAhead}
 use Rattle.chr_resume.specs.declared.resuming.Resuming.{Resuming}
 
@@ -21,6 +22,10 @@ module _ {A : Type 0} where
   -- the table can be searched for what it shows
   abbrev pub IsFresh : Resuming A → Type 0
   IsFresh r = base.IsFresh r.base
+
+  -- it can be shared for what it shows
+  abbrev pub IsShareable : Resuming A → Type 0
+  IsShareable r = taking.IsShareable r.base
 
   -- the search for the active constraint may go on at the cursor
   abbrev pub GoesOn : Resuming A → Active A → Option Cursor → Type 0

@@ -98,4 +98,14 @@ impl<'p, A: Allocator + Copy> Resuming<'p, A> {
     {
         self.base.add(sym, args)
     }
+
+    /// The constraints, the bindings, and what has fired.
+    pub fn into_parts(self) -> (Store<A>, Bindings<A>, History<A>)
+        ensures store { store_view result.0 ≡ (base_in self.entry).store }
+        ensures subst { result.1.subst ≡ (base_in self.entry).subst }
+        ensures len { result.1.len ≡ (base_in self.entry).next_var }
+        ensures entries { entries_view result.2 ≡ (base_in self.entry).entries }
+    {
+        self.base.into_parts()
+    }
 }

@@ -1,25 +1,26 @@
 //! The search for partners, which goes on.
-ghost use Rattle.std.specs.Prelude.{◌≡◌, All, IfOk, List, None, OnOk, Some, map, slice_get, vec_capacity, vec_len, ◌<◌};
+ghost use Rattle.std.specs.Prelude.{◌≡◌, IfOk, None, OnOk, Some, map, slice_get, vec_capacity, vec_len, ◌<◌};
 ghost use Rattle.chr_semantics.specs.Bounds.{IsBounded};
-ghost use Rattle.chr_semantics.specs.Match.{Row, fits};
-ghost use Rattle.chr_semantics.specs.Search.{atom_of, ids_of};
-ghost use Rattle.chr_semantics.specs.State.{goal};
-ghost use Rattle.chr_semantics.specs.Step.{body_of};
-ghost use Rattle.chr_semantics.specs.Subst.{Subst};
+ghost use Rattle.chr_semantics.specs.Search.{atom_of};
+ghost use Rattle.chr_semantics.specs.Snapshot.{snapshot_for};
+ghost use Rattle.chr_semantics.specs.State.{State, goal};
 ghost use Rattle.chr_rules.specs.ProgramView.{rules_of};
 ghost use Rattle.chr_rules.specs.RuleView.{goal_view, rule_view};
 ghost use Rattle.chr_find.specs.SearchView.{IsSearchable};
-ghost use Rattle.chr_base.specs.Searching.{FindsFirst, rows_of};
+ghost use Rattle.chr_find.specs.SnapshotView.{IsSnapshot, guest_view, tasks_view};
+ghost use Rattle.chr_base.specs.Searching.{FindsFirst, IsBodyFor};
+ghost use Rattle.chr_base.specs.Taking.{IsStateOf};
 
 use crate::Memory;
 use crate::resuming::Resuming;
-use chr_find::{Active, Cursor};
+use chr_find::{Active, Cursor, Snapshot, Task};
 use chr_rules::{Goal, Rule};
 use chr_store::Id;
+use chr_term::{Sym, Term};
 use std::alloc::Allocator;
 
 impl<'p, A: Allocator + Copy> Resuming<'p, A> {
-    ghost use Rattle.chr_resume.specs.ResumingView.{GoesOn, IsFresh, base_in, program_in};
+    ghost use Rattle.chr_resume.specs.ResumingView.{GoesOn, IsFresh, IsShareable, base_in, program_in};
 
     /// Makes the table ready to be searched. Contracts see the same base, after a refusal too.
     pub fn freshen(&mut self) -> Result<(), Memory>
@@ -30,15 +31,35 @@ impl<'p, A: Allocator + Copy> Resuming<'p, A> {
         self.base.freshen()
     }
 
+    /// Makes the table ready to be shared. The first call costs the store, and each further one what has changed since. Contracts see the
+    /// same base, after a refusal too.
+    pub fn keep_keys(&mut self) -> Result<(), Memory>
+        ensures same { base_in self.new ≡ base_in self.old }
+        ensures ok { OnOk result (IsShareable self.new) }
+        ensures program { program_in self.new ≡ program_in self.old }
+    {
+        self.base.keep_keys()
+    }
+
+    /// The constraints and what has fired, as they stand now, with tasks and a guest, which is given as it stands on the stack. It costs some
+    /// pointers. The only error is want of memory.
+    pub fn snapshot(
+        &self,
+        tasks: Vec<Task, A>,
+        guest: Option<(Sym, &[Term<A>])>,
+    ) -> Result<Snapshot<A>, Memory>
+        requires { IsShareable self.now }
+        ensures { IfOk result (λ shared. (s : State) → IsStateOf (base_in self.now) s →
+            IsSnapshot shared (snapshot_for s (tasks_view tasks.items) (guest_view guest.entry))) }
+    {
+        self.base.snapshot(tasks, guest)
+    }
+
     /// The goals of the body of a rule that fires with constraints, given in head order, whose heads fit them.
     pub fn body(&self, rule: &Rule<A>, ids: &[u64]) -> Result<Vec<Goal<A>, A>, Memory>
         requires fresh { IsFresh self.now }
         requires bounded { IsBounded (rule_view rule.now) }
-        ensures { IfOk result (λ built. (t : List Row) → ids_of t ≡ ids.now →
-            All (λ r. atom_of (rows_of (base_in self.now)) r.0 ≡ Some r.1) t →
-            (m : Subst) → fits (rule_view rule.now).heads t ≡ Some m →
-            map (λ g. goal (goal_view g)) built.items
-            ≡ body_of (rule_view rule.now) t (base_in self.now).next_var) }
+        ensures { IfOk result (λ built. IsBodyFor (base_in self.now) (rule_view rule.now) ids.now (map (λ g. goal (goal_view g)) built.items)) }
     {
         self.base.body(rule, ids)
     }

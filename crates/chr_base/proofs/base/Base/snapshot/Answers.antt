@@ -1,0 +1,26 @@
+use Rattle.std.proofs.Common.{ap, option_map, refl, subst, sym, ◌≡◌, ◌∙◌, ◌≤◌, ℕ}
+use Rattle.std.proofs.lemmas.Result.{IfOk-weaker}
+use Rattle.chr_semantics.specs.Snapshot.{snapshot_for}
+use Rattle.chr_store.specs.Rows.{row_atom}
+use Rattle.chr_find.specs.SnapshotView.{IsTaken, guest_view, tasks_view}
+use Rattle.chr_base.specs.Agreement.{under}
+use Rattle.chr_base.proofs.Taken.{taken_is}
+use Rattle.chr_base.proofs.base.Base.snapshot.Goals as goal
+
+pub of-requires-clause-free : goal.of-requires-clause-free
+of-requires-clause-free g c = λ i h.
+    let b = c.args.self.now in
+    b.agrees.resolved c.requires.fresh.resolved i
+    ∙ ap (under b.bindings.subst) (b.agrees.given i (subst (λ (n : ℕ). n ≤ i) c.next.ensures h))
+
+pub returns : goal.returns
+returns g c =
+    let b = c.args.self.now in
+    let ts = tasks_view c.args.tasks.items in
+    let guest = guest_view c.args.guest in
+    let resolved = option_map row_atom c.in_ok-resolved.resolved in
+    IfOk-weaker c.of.result _ _
+    (λ shared says s of. says (snapshot_for s ts guest)
+    (subst (λ (n : ℕ). IsTaken b.table n ts resolved (snapshot_for s ts guest)) (sym c.next.ensures)
+    (taken_is b c.requires.fresh s of ts ts guest resolved refl c.in_ok-resolved.ensures)))
+    c.of.ensures

@@ -1,0 +1,14 @@
+pub mod Flags
+pub mod Holds
+pub mod Identities
+pub mod Living
+pub mod Newest
+pub mod Places
+pub mod Replay
+pub mod Risen
+pub mod Served
+pub mod Spots
+pub mod Stands
+pub mod Sums
+pub mod SumsLaw
+pub mod Tells

@@ -1,0 +1,5 @@
+pub mod Kept
+pub mod Replay
+pub mod Rounds
+pub mod Stands
+pub mod Sums

@@ -1,0 +1,11 @@
+//! Snapshots of a run that all threads read, and answers that are true of them.
+#![tactic(auto)]
+
+mod answer;
+mod run;
+mod shelf;
+
+pub use answer::{Answer, Unsolved, solve};
+pub use chr_term::Memory;
+pub use run::Run;
+pub use shelf::{Shelf, Ticket};

@@ -1,0 +1,3 @@
+pub mod PlaceView
+pub mod PlacesValue
+pub mod SpotsView
