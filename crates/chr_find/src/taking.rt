@@ -1,5 +1,5 @@
 //! Snapshots that are taken of a store, bindings and a history.
-ghost use Rattle.std.specs.Prelude.{◌≡◌, ◌||◌, ◌&&◌, ◌==◌, ◌≤◌, IfOk, List, None, OnOk, ℕ, cond, is_some, length, option_and_then, option_map, take, true};
+ghost use Rattle.std.specs.Prelude.{◌≡◌, ◌||◌, ◌&&◌, ◌==◌, ◌≤◌, IfOk, List, None, OnOk, ℕ, cond, false, is_some, length, option_and_then, option_map, take, true};
 ghost use Rattle.std.specs.List.{list_all};
 ghost use Rattle.chr_semantics.specs.Program.{occurrence};
 ghost use Rattle.chr_semantics.specs.Search.{atom_of, fired_before, has_number, same_ids};
@@ -28,6 +28,27 @@ use chr_store::{Fired, History, Id, Row, Store};
 use chr_term::{Sym, Term};
 use std::alloc::Allocator;
 
+/// A constraint with bindings applied.
+fn resolved_row<A: Allocator + Copy>(bindings: &Bindings<A>, row: &Row<A>) -> Result<Row<A>, Memory>
+    ensures { IfOk result (λ made. row_atom made ≡ resolved_atom bindings.now.subst (row_atom row.now)) }
+{
+    let args = bindings.resolve_all(row.args.as_slice())?;
+    Ok(Row { sym: row.sym, args })
+}
+
+/// Adds a constraint, where there is none.
+fn put_row<A: Allocator + Copy>(table: &mut Table<A>, id: Id, row: Row<A>) -> Result<(), Memory>
+    requires { atom_at table.old id.0 ≡ None }
+    ensures atoms { OnOk result ((i : ℕ) → atom_at table.new i
+        ≡ cond (i == id.0) (Some (row_atom row)) (atom_at table.old i)) }
+    ensures fired { (r : ℕ) (ids : List ℕ) → fired_at table.new r ids ≡ fired_at table.old r ids }
+{
+    let row = Pointer::new(table.alloc, row)?;
+    table.room(1)?;
+    table.add(id, row);
+    Ok(())
+}
+
 /// Adds a constraint with bindings applied, if it is in the scope.
 fn add_row<A: Allocator + Copy>(
     table: &mut Table<A>,
@@ -45,12 +66,9 @@ fn add_row<A: Allocator + Copy>(
     if !scope.has_symbol(row.sym) {
         return Ok(());
     }
-    let args = bindings.resolve_all(row.args.as_slice())?;
-    let row = Row { sym: row.sym, args };
+    let row = resolved_row(bindings, row)?;
     if scope.has_row(&row) {
-        let row = Pointer::new(table.alloc, row)?;
-        table.room(1)?;
-        table.add(id, row);
+        put_row(table, id, row)?;
     }
     Ok(())
 }
@@ -139,8 +157,28 @@ fn add_firings<A: Allocator + Copy>(
     Ok(())
 }
 
-/// The constraints of a store with bindings applied, and the firings of a history whose constraints all live, as far as they are in the
-/// scope.
+/// Adds to an empty table the constraints of a store with bindings applied, and the firings of a history whose constraints all live, as far
+/// as they are in the scope.
+fn fill<A: Allocator + Copy>(
+    table: &mut Table<A>,
+    store: &Store<A>,
+    bindings: &Bindings<A>,
+    history: &History<A>,
+    scope: Scope<'_, A>,
+) -> Result<(), Memory>
+    requires no_row { (i : ℕ) → atom_at table.old i ≡ None }
+    requires no_firing { (r : ℕ) (ids : List ℕ) → fired_at table.old r ids ≡ false }
+    ensures { OnOk result (IsTakenOf scope.entry bindings.now.subst (store_view store.now).rows
+        (entries_view history.now).list table.new) }
+{
+    add_rows(table, store, bindings, scope)?;
+    add_firings(table, store, history, scope)?;
+    table.settle()?;
+    table.keep_keys()?;
+    Ok(())
+}
+
+/// A table with these.
 fn taken<A: Allocator + Copy>(
     alloc: A,
     store: &Store<A>,
@@ -153,10 +191,7 @@ fn taken<A: Allocator + Copy>(
 {
     let plan = Pointer::new(alloc, Plan::first(alloc)?)?;
     let mut table = Table::new(alloc, plan);
-    add_rows(&mut table, store, bindings, scope)?;
-    add_firings(&mut table, store, history, scope)?;
-    table.settle()?;
-    table.keep_keys()?;
+    fill(&mut table, store, bindings, history, scope)?;
     Ok(table)
 }
 

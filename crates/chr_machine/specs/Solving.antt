@@ -10,6 +10,7 @@ use Rattle.chr_semantics.specs.Text.{line_text}
 use Rattle.chr_semantics.specs.Trace.{solve_line}
 use Rattle.chr_semantics.specs.Tree.{Tree}
 use Rattle.chr_semantics.specs.Value.{value}
+use Rattle.chr_bind.specs.Comparison.{comparison_view}
 use Rattle.chr_bind.specs.Values.{fault_view}
 use Rattle.chr_bind.specs.declared.fault.Fault.{Fault}
 use Rattle.chr_trace.specs.State.{status_view}
@@ -17,6 +18,8 @@ use Rattle.chr_trace.specs.Texts.{texts}
 use Rattle.chr_resume.specs.ResumingView.{base_in, program_in}
 use Rattle.chr_machine.specs.Model.{Model, model_of, state_in, topped}
 use Rattle.chr_machine.specs.Step.{Counts, IsReady, SameRun}
+use Rattle.chr_machine.specs.declared.solving.Kind.{Kind}
+use Rattle.chr_machine.specs.declared.solving.Kind.TheVariants.{Tell, Evaluate, Compare}
 use Rattle.chr_machine.specs.declared.solving.Solved.{Solved}
 use Rattle.chr_machine.specs.declared.solving.Solved.TheVariants.{Holds, Ends}
 use Rattle.chr_machine.specs.declared.state.Execution.{Execution}
@@ -78,6 +81,12 @@ module _ {A : Type 0} (g : Goal) (old new : Execution A) (solved : Solved) where
   -- the goal is solved
   abbrev pub SolvesGoal : Type 0
   SolvesGoal = let m = model_of old in Solves g (solve (with_goal g m) m.stack g) old new solved
+
+-- the built-in of a kind, of these sides
+abbrev pub kind_view : Kind → Tree → Tree → Goal
+kind_view Tell t u = tell t u
+kind_view Evaluate t u = evaluate t u
+kind_view (Compare c) t u = compare (comparison_view c) t u
 
 -- the goal is no constraint
 abbrev pub IsBuiltIn : Goal → Type 0

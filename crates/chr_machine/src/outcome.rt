@@ -32,6 +32,24 @@ pub struct Outcome<A: Allocator = Global> {
 }
 
 impl<A: Allocator + Copy> Outcome<A> {
+    /// Appends the lines that say how the run stands. Where memory is refused, the text is as before.
+    fn write_ending(&self, program: &Program<A>, out: &mut Vec<u8, A>) -> Result<(), Memory>
+        ensures ok { OnOk result (out.new.items ≡ out.old.items ++ lines_text (outcome
+            (names_of program.now) self.now.var_names (rules_of program.now) (ended_in self.now))) }
+        ensures err { OnErr result (out.new.items ≡ out.old.items) }
+    {
+        let ending = Ending {
+            program,
+            var_names: &self.var_names,
+            status: self.status,
+            stack: self.stack.as_slice(),
+            store: &self.store,
+            bindings: &self.bindings,
+            history: self.history.list(),
+        };
+        ending.write(out)
+    }
+
     /// Appends the text of the run under its program: the lines of the trace, and those that say how it stands. Where memory is refused,
     /// the text is as before.
     #[tactic(auto, using(chr_term::proofs::Extensions::extended_on, chr_term::proofs::Extensions::taken_back))]
@@ -42,16 +60,7 @@ impl<A: Allocator + Copy> Outcome<A> {
     {
         let len = out.len();
         write_lines(self.lines.as_slice(), out)?;
-        let ending = Ending {
-            program,
-            var_names: &self.var_names,
-            status: self.status,
-            stack: self.stack.as_slice(),
-            store: &self.store,
-            bindings: &self.bindings,
-            history: self.history.list(),
-        };
-        match ending.write(out) {
+        match self.write_ending(program, out) {
             Ok(()) => Ok(()),
             Err(error) => {
                 out.truncate(len);

@@ -1,16 +1,16 @@
 //! A step, and a run.
-ghost use Rattle.std.specs.Prelude.{◌≡◌, ◌<◌, ◌≤◌, ◌+◌, ◌-◌, [], IfErr, IfOk, OnErr, OnOk, vec_capacity, vec_len};
+ghost use Rattle.std.specs.Prelude.{◌≡◌, ◌<◌, ◌≤◌, ◌+◌, ◌-◌, ◌++◌, [], IfErr, IfOk, OnErr, OnOk, map, vec_capacity, vec_len};
 ghost use Rattle.chr_semantics.specs.Bounds.{IsQueryBounded};
-ghost use Rattle.chr_semantics.specs.State.{running, start};
+ghost use Rattle.chr_semantics.specs.State.{goal, running, start, status_at};
 ghost use Rattle.chr_semantics.specs.declared.limits.TheConstants.{MAX_CHANGES, MAX_TRANSITIONS};
 ghost use Rattle.chr_rules.specs.ProgramView.{names_of, rules_of};
-ghost use Rattle.chr_rules.specs.RuleView.{query_view};
-ghost use Rattle.chr_trace.specs.State.{elem_view, status_view};
+ghost use Rattle.chr_rules.specs.RuleView.{goal_view, query_view};
+ghost use Rattle.chr_trace.specs.State.{elem_view, stack_view, status_view};
 ghost use Rattle.chr_resume.specs.ResumingView.{base_in, program_in};
 ghost use Rattle.chr_machine.specs.Answering.{AnswersStep};
 ghost use Rattle.chr_machine.specs.MachineView.{Runs, Starts, Steps};
 ghost use Rattle.chr_machine.specs.Model.{model_of, state_in, topped};
-ghost use Rattle.chr_machine.specs.Step.{IsCounted, IsProper, IsReady, Kept, Made};
+ghost use Rattle.chr_machine.specs.Step.{IsCounted, IsProper, IsReady, IsSameBelow, Kept, Made};
 
 use crate::answer::Answer;
 use crate::firing::put_goals;
@@ -40,19 +40,33 @@ impl<'p, A: Allocator + Copy> Execution<'p, A> {
         let _rules = program.rules();
         let Query { goals, var_names } = query;
         let base = Resuming::new(alloc, program, var_names.len())?;
-        let mut stack = Vec::with_capacity(alloc, goals.len())?;
-        put_goals(&mut stack, goals);
         let mut execution = Execution {
             var_names,
-            stack,
+            stack: Vec::new(alloc),
             base,
             status: Status::Running,
             steps: 0,
             lines: Vec::new(alloc),
             alloc,
         };
-        execution.settle();
+        execution.load(goals)?;
         Ok(execution)
+    }
+
+    /// Puts the goals of a query on the stack, in the place of what stands there.
+    fn load(&mut self, goals: Vec<Goal<A>, A>) -> Result<(), Memory>
+        ensures stack { OnOk result
+            (stack_view self.new.stack.items ≡ map (λ g. goal (goal_view g)) goals.items ++ []) }
+        ensures status { OnOk result
+            (status_view self.new.status ≡ status_at (stack_view self.new.stack.items)) }
+        ensures below { OnOk result (IsSameBelow self.old self.new) }
+        ensures ready { OnOk result (IsReady self.new) }
+    {
+        let mut stack = Vec::with_capacity(self.alloc, goals.len())?;
+        put_goals(&mut stack, goals);
+        self.stack = stack;
+        self.settle();
+        Ok(())
     }
 
     /// The transition of the element that was on top. Where it needs a search, it makes one, unless the answer is known.

@@ -9,7 +9,7 @@ ghost use Rattle.chr_semantics.specs.State.{goal as goal_element};
 ghost use Rattle.chr_semantics.specs.Subst.{apply};
 ghost use Rattle.chr_semantics.specs.Text.{line_text};
 ghost use Rattle.chr_semantics.specs.Trace.{fails, faults};
-ghost use Rattle.chr_semantics.specs.Tree.{int};
+ghost use Rattle.chr_semantics.specs.Tree.{Tree, int};
 ghost use Rattle.chr_semantics.specs.Value.{value as value_in};
 ghost use Rattle.chr_bind.specs.Comparison.{comparison_view};
 ghost use Rattle.chr_bind.specs.Values.{fault_view, value_view};
@@ -18,7 +18,7 @@ ghost use Rattle.chr_term.specs.TermView.{view};
 ghost use Rattle.chr_trace.specs.State.{elem_view, stack_view, status_view};
 ghost use Rattle.chr_resume.specs.ResumingView.{base_in, program_in};
 ghost use Rattle.chr_machine.specs.Model.{model_of};
-ghost use Rattle.chr_machine.specs.Solving.{AreValues, Compares, Evaluates, IsBuiltIn, Logged, Passes, SolvesGoal, Tells, shown};
+ghost use Rattle.chr_machine.specs.Solving.{AreValues, Compares, Evaluates, IsBuiltIn, Logged, Passes, SolvesGoal, Tells, kind_view, shown};
 ghost use Rattle.chr_machine.specs.Step.{IsSameBelow, Kept, Made};
 
 use crate::state::Execution;
@@ -34,6 +34,30 @@ use std::alloc::Allocator;
 pub enum Solved {
     Holds,
     Ends(Status),
+}
+
+/// What a built-in does with its sides.
+#[derive(Clone, Copy, Drop)]
+pub enum Kind {
+    Tell,
+    Evaluate,
+    Compare(Comparison),
+}
+
+/// What the built-in of an operator does.
+fn kind_of(op: Op) -> Kind
+    ensures { (t u : Tree) → builtin_view op t u ≡ kind_view result t u }
+{
+    match op {
+        Op::Unify => Kind::Tell,
+        Op::Is => Kind::Evaluate,
+        Op::Less => Kind::Compare(Comparison::Less),
+        Op::Greater => Kind::Compare(Comparison::Greater),
+        Op::AtMost => Kind::Compare(Comparison::AtMost),
+        Op::AtLeast => Kind::Compare(Comparison::AtLeast),
+        Op::Equals => Kind::Compare(Comparison::Equals),
+        Op::Differs => Kind::Compare(Comparison::Differs),
+    }
 }
 
 impl<'p, A: Allocator + Copy> Execution<'p, A> {
@@ -225,15 +249,10 @@ impl<'p, A: Allocator + Copy> Execution<'p, A> {
         ensures err { OnErr result (Kept self.old self.new) }
         ensures room { OnErr result (vec_len self.new.stack < vec_capacity self.new.stack) }
     {
-        match op {
-            Op::Unify => self.tell(goal, left, right),
-            Op::Is => self.evaluate(goal, left, right),
-            Op::Less => self.compare(goal, Comparison::Less, left, right),
-            Op::Greater => self.compare(goal, Comparison::Greater, left, right),
-            Op::AtMost => self.compare(goal, Comparison::AtMost, left, right),
-            Op::AtLeast => self.compare(goal, Comparison::AtLeast, left, right),
-            Op::Equals => self.compare(goal, Comparison::Equals, left, right),
-            Op::Differs => self.compare(goal, Comparison::Differs, left, right),
+        match kind_of(op) {
+            Kind::Tell => self.tell(goal, left, right),
+            Kind::Evaluate => self.evaluate(goal, left, right),
+            Kind::Compare(comparison) => self.compare(goal, comparison, left, right),
         }
     }
 

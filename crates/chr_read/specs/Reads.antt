@@ -1,5 +1,5 @@
 -- What the functions of the reader say, by the automaton.
-use Rattle.std.specs.Prelude.{◌≡◌, ◌≢◌, ℕ, ◌+◌, List, [], ◌∷◌, ◌++◌, Option, None, Result, MatchResult, true}
+use Rattle.std.specs.Prelude.{◌≡◌, ◌≢◌, ℕ, ◌+◌, List, [], ◌∷◌, ◌++◌, Option, None, Some, Result, MatchResult, true}
 use Rattle.std.specs.Borrow.{Bor}
 use Rattle.chr_semantics.specs.Tokens.{Additive, Place, Sign, Token, simplifies, propagates, name, additive, multiplicative, relation, sign, Placed, at}
 use Rattle.chr_semantics.specs.Syntax as syntax
@@ -12,7 +12,7 @@ use Rattle.chr_read.specs.declared.syntax.Expr.{Expr}
 use Rattle.chr_read.specs.declared.syntax.Item.{Item}
 use Rattle.chr_read.specs.declared.syntax.Head.{Head}
 use Rattle.chr_read.specs.SyntaxView.{head_view, head_views, item_view, item_views, view, views}
-use Rattle.chr_read.specs.Automaton.{Prefix, Frame, Container, Section, RuleStart, Verdict, asked, behind, body, elements_step, item_step, items_step, depth, elements, expected, no_prefix, state_after_primary, guarded, hashed, have, heads, limited_room, listed, marked, named, of_list, step_verdict, paren, run, signed, too_deep, want, state_before_item, section_with_head}
+use Rattle.chr_read.specs.Automaton.{Prefix, Frame, Container, Section, RuleStart, Verdict, asked, behind, body, elements_step, item_step, items_step, depth, elements, expected, no_prefix, state_after_primary, guarded, hashed, have, heads, limited_room, listed, marked, named, of_list, step_verdict, paren, run, signed, tail, too_deep, want, state_before_item, section_with_head}
 
 -- the sign, or one of the kind, does not come first
 abbrev pub Lacks : Sign → List Placed → Type 0
@@ -93,10 +93,20 @@ ReadsProduct room ts r = (s : Option (syntax.Expr × Additive)) (k : List Frame)
 abbrev pub ReadsSum : {A : Type 0} → ℕ → List Placed → Reading (Expr A) → Type 0
 ReadsSum room ts r = (k : List Frame) → Leaves room k → Goes (run limited_room (want no_prefix k) ts) r (λ x. run limited_room (have None (view x.0) k) (placed_views x.1.now))
 
+-- what a list ends with: `[]`, where it has no end of its own
+abbrev pub end_view : {A : Type 0} → Option (Expr A) → syntax.Expr
+end_view None = syntax.nil
+end_view (Some e) = view e
+
 -- elements are read, and what comes now closes them
 abbrev pub elements_verdict : Container → List syntax.Expr → Prefix → List Frame → List Placed → Verdict
 elements_verdict q es b k [] = expected []
 elements_verdict q es b k (at p t ∷ ts) = step_verdict (elements_step t q es b k) (at p t ∷ ts) (λ s. run limited_room s ts)
+
+-- after the elements of a list
+abbrev pub ReadsListEnd : {A : Type 0} → ℕ → List Placed → Reading (Option (Expr A)) → Type 0
+ReadsListEnd room ts r = (es : List syntax.Expr) (b : Prefix) (k : List Frame) → Leaves room (tail es b ∷ k)
+    → Goes (elements_verdict of_list es b k ts) r (λ x. run limited_room (state_after_primary b (syntax.list es (end_view x.0)) k) (placed_views x.1.now))
 
 abbrev pub ReadsElements : {A V : Type 0} → (V → List (Expr A)) → ℕ → List Placed → Reading V → Type 0
 ReadsElements items room ts r = (q : Container) (b : Prefix) (k : List Frame) → Leaves room (elements q [] b ∷ k)

@@ -4,7 +4,7 @@ ghost use Rattle.std.specs.Str.{encode_utf8_all};
 ghost use Rattle.chr_semantics.specs.Syntax.{call, exprs_of, list as syntax_list, nil};
 ghost use Rattle.chr_semantics.specs.Tokens.{comma};
 ghost use Rattle.chr_tokens.specs.TokenView.{placed_views};
-ghost use Rattle.chr_read.specs.Reads.{Lacks, NoAdditive, NoMultiplicative, ReadsElements, ReadsInParens, ReadsList, ReadsNamed, ReadsPrimary, ReadsProduct, ReadsSigned, ReadsSum};
+ghost use Rattle.chr_read.specs.Reads.{Lacks, NoAdditive, NoMultiplicative, ReadsElements, ReadsInParens, ReadsList, ReadsListEnd, ReadsNamed, ReadsPrimary, ReadsProduct, ReadsSigned, ReadsSum, end_view};
 ghost use Rattle.chr_read.specs.SyntaxView.{chain, operand_views, view, views};
 
 use crate::halt::Halt;
@@ -211,17 +211,48 @@ fn list<'a, A: Allocator + Copy>(
     if let Some(after) = after_sign(text, Sign::CloseList) {
         return Ok((list_of(Vec::new(alloc)), after));
     }
-    let (items, end) = elements(alloc, text, room)?;
-    if let Some(after) = after_sign(end, Sign::CloseList) {
-        return Ok((list_of(items), after));
+    let (items, rest) = elements(alloc, text, room)?;
+    let (last, after) = list_end(alloc, rest, room)?;
+    Ok((list_that_ends(alloc, items, last)?, after))
+}
+
+/// The end of a list, where it has one of its own, and its closing bracket.
+#[cycle(expr)]
+#[tactic(auto, using(crate::proofs::Steps::steps))]
+fn list_end<'a, A: Allocator + Copy>(
+    alloc: A,
+    text: &'a [Placed<'a>],
+    room: usize,
+) -> Result<(Option<Expr<A>>, &'a [Placed<'a>]), Halt<'a>>
+    requires room { room < MAX_OPEN_BRACKETS }
+    requires no_comma { Lacks comma (placed_views text.now) }
+    ensures reads { ReadsListEnd room (placed_views text.now) result }
+    ensures shorter { IfOk result (λ x. length x.1.now < length text.now) }
+{
+    if let Some(after) = after_sign(text, Sign::CloseList) {
+        return Ok((None, after));
     }
-    let Some(after) = after_sign(end, Sign::Bar) else {
-        return Err(Halt::Expected(end));
+    let Some(after) = after_sign(text, Sign::Bar) else {
+        return Err(Halt::Expected(text));
     };
     let (last, end) = sum(alloc, after, room)?;
     match after_sign(end, Sign::CloseList) {
-        Some(after) => Ok((list_with_end(alloc, items, last)?, after)),
+        Some(after) => Ok((Some(last), after)),
         None => Err(Halt::Expected(end)),
+    }
+}
+
+/// A list of these elements that ends so.
+fn list_that_ends<A: Allocator + Copy>(
+    alloc: A,
+    items: Vec<Expr<A>, A>,
+    last: Option<Expr<A>>,
+) -> Result<Expr<A>, Memory>
+    ensures { IfOk result (λ e. view e ≡ syntax_list (views items.items) (end_view last)) }
+{
+    match last {
+        None => Ok(list_of(items)),
+        Some(last) => list_with_end(alloc, items, last),
     }
 }
 
@@ -232,7 +263,7 @@ fn list_of<A: Allocator>(items: Vec<Expr<A>, A>) -> Expr<A>
     Expr::List(items)
 }
 
-/// A list of these elements that ends so.
+/// A list of these elements that ends with this.
 fn list_with_end<A: Allocator + Copy>(
     alloc: A,
     items: Vec<Expr<A>, A>,

@@ -15,13 +15,12 @@ use Rattle.chr_semantics.specs.Checked.{Checked, RuleErrorKind, guard_variable, 
 use Rattle.chr_semantics.specs.Bounds.{AreBounded, IsBounded, IsQueryBounded, IsTestBelow}
 use Rattle.chr_rules.specs.RuleView.{rule_view, rules_view}
 use Rattle.chr_rules.specs.declared.rule.Rule.{Rule}
-use Rattle.chr_rules.specs.Checks.{wrong_items, wrong_rule}
+use Rattle.chr_rules.specs.Checks.{head_variables, too_many, wrong_items, wrong_rule}
 use Rattle.chr_rules.proofs.Covered.{heads_cover}
 use Rattle.chr_rules.proofs.Counted.{goals_count, heads_count, tests_count}
 use Rattle.chr_rules.proofs.Few.{few_heads, heads_made}
 use Rattle.chr_rules.proofs.Kept.{kept_in_all, kept_in_checked}
 use Rattle.chr_rules.proofs.Mistakes.{none_each}
-use Rattle.chr_rules.proofs.Ruled.{head_variables, too_many}
 use Rattle.chr_rules.proofs.Unmet.{tests_stay}
 
 at_most : (m n : ℕ) → nat_lt m n ≡ false → n ≤ m
@@ -30,7 +29,7 @@ at_most m n h = grind (arith, h)
 -- an accepted rule
 rule_bounded : (names : Names) (d k : ℕ) (earlier : Program) (r : syntax.Rule) → error_in_rule names d earlier r ≡ None → IsBounded (rule_from names k r).1
 rule_bounded names d k earlier r h =
-    let all = wrong_items names d r ++ (wrong_rule (head_variables names r) earlier r ++ too_many names r) in
+    let all = wrong_items names d r ++ (wrong_rule (head_variables names r) earlier r ++ too_many (rule_from names 0 r).1.vars) in
     let hs = in_turn head_from (fresh_scope names, []) (all_heads r) in
     let gs = in_turn test_from (hs.0, []) r.guard in
     let heads = heads_count (fresh_scope names) (all_heads r) in

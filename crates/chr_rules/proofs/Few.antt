@@ -8,16 +8,15 @@ use Rattle.chr_semantics.specs.Syntax as syntax
 use Rattle.chr_semantics.specs.Syntax.{Exprs, Item, Part, declares, ignored, rule, plain, related}
 use Rattle.chr_semantics.specs.Meaning.{Scope, all_heads, atom_from, call_of, fresh_scope, head_from, head_of, in_turn, rule_from, with_turn}
 use Rattle.chr_semantics.specs.Checked.{Checked, too_many_heads, too_many_rules, each, error_in_rule, rule_in, with_rule}
-use Rattle.chr_rules.specs.Checks.{wrong_items, wrong_rule}
+use Rattle.chr_rules.specs.Checks.{head_variables, too_many, wrong_items, wrong_rule}
 use Rattle.chr_rules.specs.Index.{head_count}
 use Rattle.chr_rules.proofs.Kept.{kept_in_all}
 use Rattle.chr_rules.proofs.Mistakes.{none_each}
-use Rattle.chr_rules.proofs.Ruled.{head_variables, too_many}
 
 -- an accepted rule has few heads, and there are few rules before it
 pub few_heads : (names : Names) (d : ℕ) (earlier : Program) (r : syntax.Rule) → error_in_rule names d earlier r ≡ None → (length (all_heads r) ≤ 8) × (length earlier < 1024)
 few_heads names d earlier r h =
-    let all = wrong_items names d r ++ (wrong_rule (head_variables names r) earlier r ++ too_many names r) in
+    let all = wrong_items names d r ++ (wrong_rule (head_variables names r) earlier r ++ too_many (rule_from names 0 r).1.vars) in
     (below (none_each all 7 (nat_lt 8 (length (all_heads r)), too_many_heads) h refl), above (none_each all 9 (nat_le 1024 (length earlier), too_many_rules) h refl))
   where
     below : {n : ℕ} → nat_lt 8 n ≡ false → n ≤ 8

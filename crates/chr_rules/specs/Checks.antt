@@ -2,13 +2,13 @@
 use Rattle.std.specs.Prelude.{ℕ, ◌≡◌, ◌≢◌, Bool, List, [], ◌∷◌, ◌++◌, ◌&&◌, nat_lt, nat_le, length, Option, Some, option_map, Result, Ok, Err}
 use Rattle.std.specs.List.{list_any}
 use Rattle.chr_semantics.specs.Names.{Names}
-use Rattle.chr_semantics.specs.Program.{Program}
+use Rattle.chr_semantics.specs.Program.{Goal, Program, Test}
 use Rattle.chr_semantics.specs.Syntax as syntax
 use Rattle.chr_semantics.specs.Syntax.{Item}
-use Rattle.chr_semantics.specs.Meaning.{all_heads, has_backslash, propagates}
+use Rattle.chr_semantics.specs.Meaning.{Scope, all_heads, fresh_scope, goal_from, has_backslash, head_from, in_turn, propagates, rule_from, test_from}
 use Rattle.chr_semantics.specs.Checked as semantics
 use Rattle.chr_semantics.specs.Checked.{undeclared, builtin_in_head, not_a_goal, not_a_test, guard_variable, guard_only, duplicate_name, too_many_heads, arity_too_large, too_many_rules, backslash_in_propagation, too_many_variables, is_undeclared, is_built_in, is_no_goal, is_no_test, is_guard_only, is_free, is_wide, on_sides, head_items, has_label}
-use Rattle.chr_semantics.specs.declared.limits.TheConstants.{MAX_HEADS, MAX_RULES}
+use Rattle.chr_semantics.specs.declared.limits.TheConstants.{MAX_HEADS, MAX_RULE_VARIABLES, MAX_RULES}
 use Rattle.chr_rules.specs.Parts.{has_sought}
 use Rattle.chr_rules.specs.declared.checks.Check.{Check}
 use Rattle.chr_rules.specs.declared.checks.Check.TheVariants as C
@@ -59,13 +59,39 @@ wrong_items names declared r =
     (list_any is_no_goal (head_items r ++ r.body), not_a_goal) ∷
     (list_any is_no_test r.guard, not_a_test) ∷ []
 
--- what is wrong with a rule whose heads have these variables
-abbrev pub wrong_rule : List (List ℕ) → Program → syntax.Rule → List (Bool × semantics.RuleErrorKind)
-wrong_rule vars earlier r =
+-- what is wrong with the items, the label and the number of heads of a rule whose heads have these variables
+abbrev pub wrong_parts : List (List ℕ) → Program → syntax.Rule → List (Bool × semantics.RuleErrorKind)
+wrong_parts vars earlier r =
     (list_any (on_sides (is_free vars)) r.guard, guard_variable) ∷
     (list_any is_guard_only r.body, guard_only) ∷
     (has_label r.label earlier, duplicate_name) ∷
     (nat_lt MAX_HEADS (length (all_heads r)), too_many_heads) ∷
-    (list_any (on_sides is_wide) (head_items r ++ (r.guard ++ r.body)), arity_too_large) ∷
+    (list_any (on_sides is_wide) (head_items r ++ (r.guard ++ r.body)), arity_too_large) ∷ []
+
+-- what is wrong with the number and the arrow of a rule
+abbrev pub wrong_number_or_arrow : Program → syntax.Rule → List (Bool × semantics.RuleErrorKind)
+wrong_number_or_arrow earlier r =
     (nat_le MAX_RULES (length earlier), too_many_rules) ∷
     (propagates r.arrow && has_backslash r, backslash_in_propagation) ∷ []
+
+-- what is wrong with a rule whose heads have these variables
+abbrev pub wrong_rule : List (List ℕ) → Program → syntax.Rule → List (Bool × semantics.RuleErrorKind)
+wrong_rule vars earlier r = wrong_parts vars earlier r ++ wrong_number_or_arrow earlier r
+
+-- what is wrong with so many variables
+abbrev pub too_many : ℕ → List (Bool × semantics.RuleErrorKind)
+too_many n = (nat_lt MAX_RULE_VARIABLES n, too_many_variables) ∷ []
+
+-- the variables of the heads
+abbrev pub head_variables : Names → syntax.Rule → List (List ℕ)
+head_variables names r = (in_turn head_from (fresh_scope names, []) (all_heads r)).0.variables
+
+-- what is wrong with a rule whose items are right
+abbrev pub wrong_beside_items : Names → Program → syntax.Rule → List (Bool × semantics.RuleErrorKind)
+wrong_beside_items names earlier r = wrong_rule (head_variables names r) earlier r ++ too_many (rule_from names 0 r).1.vars
+
+-- the tests of the guard, and then the goals of the body
+abbrev pub guard_and_body_from : Scope → syntax.Rule → Scope × List Test × List Goal
+guard_and_body_from s r =
+    let guard = in_turn test_from (s, []) r.guard in
+    let body = in_turn goal_from (guard.0, []) r.body in (body.0, guard.1, body.1)

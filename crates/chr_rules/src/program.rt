@@ -1,10 +1,12 @@
 //! Programs: their checks, their rules, and the occurrences of each symbol.
 ghost use Rattle.std.specs.Prelude.{◌≡◌, ◌≢◌, ◌<◌, ◌^◌, IfErr, IfOk, IfSome, Ok, OnSome, Some, length, option_map, slice_get};
 ghost use Rattle.chr_semantics.specs.Checked.{checked, checked_query};
+ghost use Rattle.chr_semantics.specs.Names.{first_names};
 ghost use Rattle.chr_semantics.specs.Program.{occurrence, occurrences};
-ghost use Rattle.chr_read.specs.SyntaxView.{program_view, query_view as syntax_query};
+ghost use Rattle.chr_read.specs.SyntaxView.{part_views, program_view, query_view as syntax_query};
 ghost use Rattle.chr_semantics.specs.Bounds.{AreBounded, IsBounded, IsQueryBounded};
 ghost use Rattle.chr_rules.specs.Bounds.{bounds};
+ghost use Rattle.chr_rules.specs.Building.{checked_of};
 ghost use Rattle.chr_rules.specs.Checks.{IsError};
 ghost use Rattle.chr_rules.specs.Grown.{Grows};
 ghost use Rattle.chr_rules.specs.Index.{AreListed, IsPlaceIn, head_count, pair_of, pair_view, pairs_of, pairs_view};
@@ -18,7 +20,7 @@ use crate::goal::Query;
 use crate::index::{Occurrence, index_of};
 use crate::queries::query;
 use crate::rule::Rule;
-use chr_read::{ProgramSyntax, QuerySyntax};
+use chr_read::{Part, ProgramSyntax, QuerySyntax};
 use chr_term::{Names, Sym};
 use std::alloc::{Allocator, Global};
 
@@ -47,19 +49,7 @@ impl<A: Allocator + Copy> Program<A> {
         ensures refused { IfErr result (λ e. IsError e (checked (program_view syntax))) }
         ensures bounded { IfOk result (λ program. AreBounded (checked_view program).rules) }
     {
-        let parts = syntax.parts.as_slice();
-        let mut names = Names::new(alloc)?;
-        declare_all(&mut names, parts)?;
-        let declared = names.len();
-        let rules = rules(alloc, &mut names, declared, parts)?;
-        let index = index_of(alloc, rules.as_slice())?;
-        Ok(Program {
-            alloc,
-            names,
-            declared,
-            rules,
-            index,
-        })
+        Program::of_parts(alloc, syntax.parts.as_slice())
     }
 
     /// What a query over this program stands for, or what is wrong with it first. The names grow: new ones go after those that were there.
@@ -81,6 +71,49 @@ impl<A: Allocator + Copy> Program<A> {
     {
         query(self.alloc, &mut self.names, self.declared, &syntax)
     }
+}
+
+impl<A: Allocator + Copy> Program<A> {
+    ghost use Rattle.chr_rules.specs.ProgramView.{checked_view};
+
+    /// What the parts of a syntax stand for, or what is wrong with them first.
+    fn of_parts(alloc: A, parts: &[Part<A>]) -> Result<Program<A>, RuleError>
+        ensures accepted { IfOk result
+            (λ program. checked (part_views parts.now) ≡ Ok (checked_view program)) }
+        ensures refused { IfErr result (λ e. IsError e (checked (part_views parts.now))) }
+        ensures bounded { IfOk result (λ program. AreBounded (checked_view program).rules) }
+    {
+        let mut names = Names::new(alloc)?;
+        let (declared, rules) = declared_and_rules(alloc, &mut names, parts)?;
+        let index = index_of(alloc, rules.as_slice())?;
+        Ok(Program {
+            alloc,
+            names,
+            declared,
+            rules,
+            index,
+        })
+    }
+}
+
+/// How many symbols are the first seven or declared in these parts, and the rules of the parts.
+fn declared_and_rules<A: Allocator + Copy>(
+    alloc: A,
+    names: &mut Names<A>,
+    parts: &[Part<A>],
+) -> Result<(usize, Vec<Rule<A>, A>), RuleError>
+    requires { names.old ≡ first_names }
+    ensures accepted { IfOk result
+        (λ made. checked (part_views parts.now)
+        ≡ Ok (checked_of names.new made.0 (rules_view made.1.items))) }
+    ensures refused { IfErr result (λ e. IsError e (checked (part_views parts.now))) }
+    ensures bounded { IfOk result (λ made. AreBounded (rules_view made.1.items)) }
+    ensures few { IfOk result (λ made. head_count (rules_view made.1.items) < 2 ^ 31) }
+{
+    declare_all(names, parts)?;
+    let declared = names.len();
+    let rules = rules(alloc, names, declared, parts)?;
+    Ok((declared, rules))
 }
 
 impl<A: Allocator> Program<A> {

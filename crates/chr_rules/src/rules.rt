@@ -1,19 +1,22 @@
 //! One rule: what is wrong with it, or what it stands for.
-ghost use Rattle.std.specs.Prelude.{◌≡◌, ◌&&◌, ◌+◌, [], IfErr, IfOk, None, bytes_eq, length, option_map, string_bytes};
+ghost use Rattle.std.specs.Prelude.{◌≡◌, ◌&&◌, ◌+◌, [], IfErr, IfOk, None, OnOk, bytes_eq, length, map, option_map, string_bytes};
 ghost use Rattle.std.specs.List.{list_any};
 ghost use Rattle.chr_semantics.specs.Checked.{first_of, has_label, error_in_rule};
 ghost use Rattle.chr_semantics.specs.Meaning.{all_heads, has_backslash, head_from, in_turn, kept_count, label_of, propagates, rule_from, scope};
 ghost use Rattle.chr_read.specs.SyntaxView.{arrow_view, rule_view as syntax_rule};
-ghost use Rattle.chr_rules.specs.Checks.{IsFault, fault_of, wrong_items, wrong_rule};
+ghost use Rattle.chr_bind.specs.Guards.{test_view};
+ghost use Rattle.chr_rules.specs.Checks.{IsFault, fault_of, guard_and_body_from, too_many, wrong_beside_items, wrong_items, wrong_number_or_arrow, wrong_parts, wrong_rule};
 ghost use Rattle.chr_rules.specs.Heads.{IsFlagged, heads_of};
-ghost use Rattle.chr_rules.specs.RuleView.{rule_view, rules_view};
+ghost use Rattle.chr_rules.specs.RuleView.{goal_view, rule_view, rules_view};
 
 use crate::checks::{Check, in_all_heads, in_heads_and_body, in_items, in_rule};
 use crate::error::RuleErrorKind;
+use crate::goal::Goal;
 use crate::goals::{Heads, add_heads, goals, no_heads, tests};
 use crate::parts::Sought;
 use crate::rule::Rule;
 use crate::variables::Variables;
+use chr_bind::Test;
 use chr_read::{Arrow, RuleSyntax};
 use chr_semantics::limits::{MAX_HEADS, MAX_RULE_VARIABLES, MAX_RULES};
 use chr_term::{Memory, Names};
@@ -41,26 +44,67 @@ pub(crate) fn rule<'s, A: Allocator + Copy>(
         return Err(fault);
     }
     let mut variables = Variables::new(alloc);
-    let heads = heads(alloc, names, &mut variables, written)?;
-    if let Some(fault) = wrong_rule(&variables, earlier, written) {
+    rule_beside_items(alloc, names, &mut variables, earlier, written)
+}
+
+/// The rule, whose items are right, after these, or what else is wrong with it first.
+fn rule_beside_items<'s, A: Allocator + Copy>(
+    alloc: A,
+    names: &mut Names<A>,
+    variables: &mut Variables<'s, A>,
+    earlier: &[Rule<A>],
+    written: &'s RuleSyntax<A>,
+) -> Result<Rule<A>, RuleErrorKind>
+    requires { variables.old ≡ [] }
+    ensures accepted { IfOk result
+        (λ rule. first_of
+        (wrong_beside_items names.old (rules_view earlier.now) (syntax_rule written.now))
+        ≡ None) }
+    ensures rule { IfOk result
+        (λ rule. (names.new, rule_view rule)
+        ≡ rule_from names.old (length (rules_view earlier.now) + 1) (syntax_rule written.now)) }
+    ensures refused { IfErr result
+        (λ fault. IsFault fault (first_of
+        (wrong_beside_items names.old (rules_view earlier.now) (syntax_rule written.now)))) }
+{
+    let heads = heads(alloc, names, variables, written)?;
+    if let Some(fault) = wrong_rule(variables, earlier, written) {
         return Err(fault);
     }
     let head_vars = variables.len();
-    let guard = tests(alloc, names, &mut variables, written.guard.as_slice())?;
-    let body = goals(alloc, names, &mut variables, written.body.as_slice())?;
-    if variables.len() > MAX_RULE_VARIABLES {
-        return Err(RuleErrorKind::TooManyVariables);
-    }
+    let made = guard_and_body(alloc, names, variables, written)?;
     Ok(Rule {
         label: label(alloc, count(earlier) + 1, &written.label)?,
         kept: kept_count(written),
         heads: heads.atoms,
         passive: heads.passive,
-        guard,
-        body,
+        guard: made.0,
+        body: made.1,
         vars: variables.len(),
         head_vars,
     })
+}
+
+/// The guard and the body of a rule, unless its variables are too many.
+fn guard_and_body<'s, A: Allocator + Copy>(
+    alloc: A,
+    names: &mut Names<A>,
+    variables: &mut Variables<'s, A>,
+    written: &'s RuleSyntax<A>,
+) -> Result<(Vec<Test<A>, A>, Vec<Goal<A>, A>), RuleErrorKind>
+    ensures made { IfOk result
+        (λ made. (scope names.new variables.new, map test_view made.0.items, map goal_view made.1.items)
+        ≡ guard_and_body_from (scope names.old variables.old) (syntax_rule written.now)) }
+    ensures few { OnOk result (first_of (too_many (length variables.new)) ≡ None) }
+    ensures refused { IfErr result (λ fault. IsFault fault (first_of (too_many
+        (length (guard_and_body_from (scope names.old variables.old) (syntax_rule written.now)).0.variables)))) }
+{
+    let guard = tests(alloc, names, variables, written.guard.as_slice())?;
+    let body = goals(alloc, names, variables, written.body.as_slice())?;
+    if variables.len() > MAX_RULE_VARIABLES {
+        return Err(RuleErrorKind::TooManyVariables);
+    }
+    Ok((guard, body))
 }
 
 /// The heads on both sides of a `\`.
@@ -126,6 +170,22 @@ fn wrong_rule<A: Allocator + Copy>(
         ≡ option_map fault_of
         (first_of (wrong_rule variables.now (rules_view earlier.now) (syntax_rule rule.now))) }
 {
+    if let Some(fault) = wrong_parts(variables, earlier, rule) {
+        return Some(fault);
+    }
+    wrong_number_or_arrow(earlier, rule)
+}
+
+/// What is wrong first with the items, the label and the number of heads of such a rule.
+fn wrong_parts<A: Allocator + Copy>(
+    variables: &Variables<'_, A>,
+    earlier: &[Rule<A>],
+    rule: &RuleSyntax<A>,
+) -> Option<RuleErrorKind>
+    ensures { result
+        ≡ option_map fault_of
+        (first_of (wrong_parts variables.now (rules_view earlier.now) (syntax_rule rule.now))) }
+{
     if in_items(Check::Part(Sought::Free(variables)), rule.guard.as_slice()) {
         return Some(RuleErrorKind::GuardVariable);
     }
@@ -141,6 +201,18 @@ fn wrong_rule<A: Allocator + Copy>(
     if in_rule(Check::Part(Sought::Wide), rule) {
         return Some(RuleErrorKind::ArityTooLarge);
     }
+    None
+}
+
+/// What is wrong first with the number and the arrow of a rule.
+fn wrong_number_or_arrow<A: Allocator>(
+    earlier: &[Rule<A>],
+    rule: &RuleSyntax<A>,
+) -> Option<RuleErrorKind>
+    ensures { result
+        ≡ option_map fault_of
+        (first_of (wrong_number_or_arrow (rules_view earlier.now) (syntax_rule rule.now))) }
+{
     if count(earlier) >= MAX_RULES {
         return Some(RuleErrorKind::TooManyRules);
     }

@@ -1,11 +1,14 @@
 //! Runs, and their texts.
-ghost use Rattle.std.specs.Prelude.{◌≡◌, ◌≤◌, IfErr, IfOk, OnOk, true};
+ghost use Rattle.std.specs.Prelude.{◌≡◌, ◌≤◌, ◌+◌, [], IfErr, IfOk, OnOk, true};
 ghost use Rattle.chr_semantics.specs.Accepted.{IsAccepted, IsAcceptedProgram, IsAcceptedQuery};
 ghost use Rattle.chr_semantics.specs.Bounds.{IsQueryBounded};
+ghost use Rattle.chr_semantics.specs.Names.{Names};
+ghost use Rattle.chr_semantics.specs.Program.{Program as Rules, Query as Goals};
 ghost use Rattle.chr_semantics.specs.declared.limits.TheConstants.{MAX_TRANSITIONS};
 ghost use Rattle.chr_rules.specs.ProgramView.{names_of, rules_of};
 ghost use Rattle.chr_rules.specs.ProgramView.{checked_view};
 ghost use Rattle.chr_rules.specs.RuleView.{query_view};
+ghost use Rattle.chr_machine.specs.MachineView.{Starts, machine_view};
 ghost use Rattle.chr_run.specs.Run.{IsInto, PastLimits, Sends, WithinLimits};
 ghost use Rattle.chr_run.specs.Texts.{IsProgramError, IsQueryError, IsTextError, IsTextRun};
 
@@ -32,6 +35,21 @@ fn check_limits(n: u64, workers: u32) -> Result<(), RunError>
     Ok(())
 }
 
+/// The run of n transitions of a machine at the start of a query, with a buffer of its own.
+fn send_started<A: Allocator + Copy, W: Write>(
+    alloc: A,
+    machine: &mut Machine<'_, A>,
+    n: u64,
+    writer: &mut W,
+) -> Result<Status, TextError>
+    requires start { (machine_view machine.old).lines ≡ [] }
+    requires limit { (machine_view machine.old).steps + n ≤ MAX_TRANSITIONS }
+    ensures { (names : Names) (rules : Rules) (query : Goals) → Starts names rules query (machine_view machine.old)
+        → Sends names rules query n (W.contents writer.old) (W.contents writer.new) result }
+{
+    send_machine(machine, n, &mut Vec::new(alloc), writer)
+}
+
 /// The run of n transitions, whose text goes out while it goes on.
 fn send_run<A: Allocator + Copy, W: Write>(
     alloc: A,
@@ -47,7 +65,7 @@ fn send_run<A: Allocator + Copy, W: Write>(
 {
     match Machine::start(alloc, program, query) {
         Err(_) => Err(TextError::Run(RunError::Memory)),
-        Ok(mut machine) => send_machine(&mut machine, n, &mut Vec::new(alloc), writer),
+        Ok(mut machine) => send_started(alloc, &mut machine, n, writer),
     }
 }
 
@@ -133,6 +151,22 @@ fn accepted<A: Allocator + Copy>(
     Ok(Texts { program, query })
 }
 
+/// The run of a program and a query that are accepted.
+fn run_accepted<A: Allocator + Copy, W: Write>(
+    alloc: A,
+    texts: Texts<A>,
+    n: u64,
+    workers: u32,
+    writer: &mut W,
+) -> Result<Status, TextError>
+    requires { IsQueryBounded (query_view texts.query) }
+    ensures { IsInto (names_of texts.program) (rules_of texts.program) (query_view texts.query) n workers
+        (W.contents writer.old) (W.contents writer.new) result }
+{
+    let query = texts.query;
+    run_into(alloc, &texts.program, query, n, workers, writer)
+}
+
 /// Reads a program and a query, runs the first n transitions and writes the text of the run. The limits are looked at first, then the
 /// program, then the query. After Write or want of memory what went out is a first part of that text; after another refusal nothing went
 /// out.
@@ -151,6 +185,5 @@ pub fn run_text<A: Allocator + Copy, W: Write>(
         return Err(TextError::Run(error));
     }
     let texts = accepted(alloc, program, query)?;
-    let query = texts.query;
-    run_into(alloc, &texts.program, query, n, workers, writer)
+    run_accepted(alloc, texts, n, workers, writer)
 }

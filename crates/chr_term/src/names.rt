@@ -46,14 +46,23 @@ impl<A: Allocator + Copy> Names<A> {
         ensures { IfOk result (λ names. names ≡ first_names) }
     {
         let mut names = Names::empty(alloc);
-        names.intern("[]", 0)?;
-        names.intern("[|]", 2)?;
-        names.intern("+", 2)?;
-        names.intern("-", 2)?;
-        names.intern("*", 2)?;
-        names.intern("//", 2)?;
-        names.intern("mod", 2)?;
+        names.begin()?;
         Ok(names)
+    }
+
+    /// Enters these seven, where there is none yet.
+    fn begin(&mut self) -> Result<(), Memory>
+        requires { self.old ≡ [] }
+        ensures { OnOk result (self.new ≡ first_names) }
+    {
+        self.intern("[]", 0)?;
+        self.intern("[|]", 2)?;
+        self.intern("+", 2)?;
+        self.intern("-", 2)?;
+        self.intern("*", 2)?;
+        self.intern("//", 2)?;
+        self.intern("mod", 2)?;
+        Ok(())
     }
 
     fn empty(alloc: A) -> Names<A>

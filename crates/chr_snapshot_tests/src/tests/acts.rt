@@ -88,7 +88,7 @@ fn follow(
 }
 
 /// A program, the constraints of a query, and what a script does with them.
-pub fn play(
+pub(super) fn play(
     rt: &impl Abort,
     alloc: Global,
     (rules, query): (&str, &str),

@@ -177,7 +177,7 @@ fn follow(rt: &impl Abort, scene: &mut Scene, acts: &[Act<'_>]) -> Result<(), Me
 }
 
 /// What a script does with an empty store, an empty history, and so many variables.
-pub fn play(
+pub(super) fn play(
     rt: &impl Abort,
     alloc: Global,
     variables: usize,

@@ -74,7 +74,7 @@ fn failing_goal(rt: HostRuntime) -> Result<(), Fail> {
 }
 
 /// So many lines, in a list of their own.
-pub fn some_lines<A: Allocator + Copy>(
+pub(super) fn some_lines<A: Allocator + Copy>(
     alloc: A,
     wanted: &[&str],
 ) -> Result<Vec<Vec<u8, A>, A>, Memory> {

@@ -25,6 +25,9 @@ decreases-in_parens g l = l.room * 8 + 7
 abbrev pub decreases-list : goal.decreases-list
 decreases-list g l = l.room * 8 + 7
 
+abbrev pub decreases-list_end : goal.decreases-list_end
+decreases-list_end g l = l.room * 8 + 5
+
 abbrev pub decreases-elements : goal.decreases-elements
 decreases-elements g l = l.room * 8 + 6
 

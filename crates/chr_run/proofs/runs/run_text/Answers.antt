@@ -8,4 +8,4 @@ returns-in-Err g c = limits_refuse _ _ _ _ _ c.in-Err.error c.in-Err.ensures.err
 
 pub returns : goal.returns
 returns g c =
-    accepted_run _ _ (names_of c.in_ok-texts.texts.program) (rules_of c.in_ok-texts.texts.program) (query_view c.in_ok-texts.texts.query) _ _ _ _ _ c.in_ok-texts.ensures.ok c.run_into.ensures
+    accepted_run _ _ (names_of c.in_ok-texts.texts.program) (rules_of c.in_ok-texts.texts.program) (query_view c.in_ok-texts.texts.query) _ _ _ _ _ c.in_ok-texts.ensures.ok c.run_accepted.ensures

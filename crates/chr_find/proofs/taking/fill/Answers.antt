@@ -4,7 +4,7 @@ use Rattle.chr_semantics.specs.Search.{fired_before}
 use Rattle.chr_store.specs.HistoryView.{entries_view}
 use Rattle.chr_store.specs.StoreView.{store_view}
 use Rattle.chr_find.specs.ScopeView.{entries_kept}
-use Rattle.chr_find.proofs.taking.taken.Goals as goal
+use Rattle.chr_find.proofs.taking.fill.Goals as goal
 
 pub returns : goal.returns
 returns g c =
@@ -17,5 +17,5 @@ returns g c =
           c.in_ok-keep_keys.ensures.fired r ids
           ∙ (c.in_ok-settle.ensures.fired r ids
           ∙ (c.in_ok-add_firings.ensures.fired r ids short
-          ∙ ap (λ (b : Bool). b || fired_before (entries_kept c.args.scope rows (entries_view c.args.history.now).list) r ids) (c.in_ok-add_rows.ensures.fired r ids ∙ c.new-table.ensures.fired r ids)));
+          ∙ ap (λ (b : Bool). b || fired_before (entries_kept c.args.scope rows (entries_view c.args.history.now).list) r ids) (c.in_ok-add_rows.ensures.fired r ids ∙ c.requires.no_firing r ids)));
     }
