@@ -2,6 +2,7 @@ pub mod AnswerView
 pub mod AtomCode
 pub mod Barren
 pub mod Enough
+pub mod FewView
 pub mod Finding
 pub mod Finds
 pub mod Firings

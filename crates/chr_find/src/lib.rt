@@ -4,6 +4,7 @@
 mod active;
 mod answer;
 mod count;
+mod few;
 mod finding;
 mod fired;
 mod firings;
@@ -31,8 +32,9 @@ mod table;
 mod taking;
 
 pub use active::{Active, Cursor};
-pub use answer::{Found, find};
+pub use answer::{Found, find, find_few};
 pub use chr_term::Memory;
+pub use few::Few;
 pub use plan::Plan;
 pub use rebinding::Rebound;
 pub use snapshot::{Snapshot, Task};

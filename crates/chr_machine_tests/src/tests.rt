@@ -147,7 +147,7 @@ fn both_of<A: Allocator + Copy>(
 
 /// An allocator, and the type of the lists that searches answer. A function for any allocator names that type where it takes such lists.
 #[derive(Drop)]
-pub struct Lists<A, S = SmallVec<Id, 8, A>> {
+struct Lists<A, S = SmallVec<Id, 8, A>> {
     pub alloc: A,
     list: PhantomData<S>,
 }

@@ -1,7 +1,7 @@
 -- What a ticket and an answer show.
 use Rattle.std.specs.Prelude.{ℕ, List, Option, map, option_map}
 use Rattle.chr_semantics.specs.Tasks as tasks
-use Rattle.chr_store.specs.Numbers.{numbers}
+use Rattle.chr_find.specs.FewView.{few_ids}
 use Rattle.chr_find.specs.SnapshotView.{task_view}
 use Rattle.chr_find.specs.declared.snapshot.Snapshot.{Snapshot}
 use Rattle.chr_shelf.specs.declared.answer.Answer.{Answer}
@@ -23,10 +23,9 @@ module _ {J A : Type 0} {G : Ghosts J} where
   abbrev pub shots_in : List (Ticket J A G) → List (Snapshot A)
   shots_in ts = map shot_of ts
 
-module _ {J A S : Type 0} {G : Ghosts J} where
   -- the task of an answer, and the identities that were found for it
-  abbrev pub task_of : Answer J A S G → tasks.Task
+  abbrev pub task_of : Answer J A G → tasks.Task
   task_of a = task_view a.task
 
-  abbrev pub ids_of : Answer J A S G → Option (List ℕ)
-  ids_of a = option_map (λ ids. numbers ids.items) a.found.ids
+  abbrev pub ids_of : Answer J A G → Option (List ℕ)
+  ids_of a = option_map few_ids a.found.ids

@@ -2,31 +2,26 @@
 ghost use Rattle.std.proofs.Props.{props};
 ghost use Rattle.std.specs.Prelude.{◌≡◌, IfErr, IfOk, option_map, slice_get};
 ghost use Rattle.chr_rules.specs.ProgramView.{rules_of};
-ghost use Rattle.chr_store.specs.Numbers.{numbers};
 ghost use Rattle.chr_semantics.specs.Snapshot as semantics;
+ghost use Rattle.chr_find.specs.FewView.{few_ids};
 ghost use Rattle.chr_find.specs.SnapshotView.{IsSnapshot, task_view};
 ghost use Rattle.chr_shelf.specs.Answers.{IsTrueIn, LacksTask};
 
 use crate::run::Run;
 use crate::shelf::{Shelf, Ticket};
-use chr_find::{Found, Snapshot, Task, find};
+use chr_find::{Few, Found, Snapshot, Task, find_few};
 use chr_rules::Program;
-use chr_store::Id;
-use smallvec::SmallVec;
 use std::alloc::{Allocator, Global};
-use std::marker::PhantomData;
 
-/// The answer to a task: what a search finds in the snapshot where the task stands. `solve` alone makes one. `S` is the type of the list of
-/// identities, which a function for any allocator has to name.
+/// The answer to a task: what a search finds in the snapshot where the task stands. `solve` alone makes one.
 #[derive(Drop)]
-pub struct Answer<J: Run, A: Allocator = Global, S = SmallVec<Id, 8, A>> {
+pub struct Answer<J: Run, A: Allocator = Global> {
     ticket: Ticket<J, A>,
     index: u32,
     task: Task,
-    found: Found<SmallVec<Id, 8, A>>,
-    list: PhantomData<S>,
+    found: Found<Few>,
     ghost of_run: { IsTrueIn J.rules ticket.pushed.value index (task_view task)
-        (option_map (λ ids. numbers ids.items) found.ids) } by { Prim.hlevel props },
+        (option_map few_ids found.ids) } by { Prim.hlevel props },
 }
 
 /// Why a task was not solved.
@@ -67,14 +62,13 @@ pub fn solve<J: Run, A: Allocator + Copy>(
         None => return Err((ticket, Unsolved::NoTask)),
         Some(task) => task,
     };
-    match find(program, snapshot, task) {
+    match find_few(program, snapshot, task) {
         Err(_) => Err((ticket, Unsolved::Memory)),
         Ok(found) => Ok(Answer {
             ticket,
             index,
             task,
             found,
-            list: PhantomData,
         }),
     }
 }
@@ -111,8 +105,8 @@ impl<J: Run, A: Allocator> Answer<J, A> {
     }
 
     /// What was found, which is the first firing there.
-    pub fn found(&self) -> &Found<SmallVec<Id, 8, A>>
-        ensures ids { option_map (λ ids. numbers ids.items) result.now.ids ≡ ids_of self.now }
+    pub fn found(&self) -> &Found<Few>
+        ensures ids { option_map few_ids result.now.ids ≡ ids_of self.now }
         ensures of_run { IsTrueIn J.rules (shot_of self.now.ticket) self.now.index (task_of self.now) (ids_of self.now) }
     {
         &self.found

@@ -11,9 +11,8 @@ use chr_shelf::*;
 use chr_store::Id;
 use chr_texts::program_of;
 use refusing_alloc::{Refusing, refused_in_turn};
-use smallvec::SmallVec;
 use std::alloc::{Allocator, Global};
-use std::marker::{Brand, PhantomData};
+use std::marker::Brand;
 use std::process::Abort;
 use std::sync::Wait;
 use std::test::Fail;
@@ -61,16 +60,8 @@ fn assert_tasks(rt: &impl Abort, tasks: &[Task]) {
     }
 }
 
-/// An allocator, and the type of the lists that answers have. A function for any allocator names that type where it takes answers.
-#[derive(Drop)]
-struct Lists<A, S = SmallVec<Id, 8, A>> {
-    alloc: A,
-    list: PhantomData<S>,
-}
-
 /// The first task is solved: its answer is to this ticket and index, and has what the task finds.
-fn assert_answer<J: Run, A: Allocator>(rt: &impl Abort, lists: &Lists<A>, answer: &Answer<J, A>) {
-    let _lists = lists;
+fn assert_answer<J: Run, A: Allocator>(rt: &impl Abort, answer: &Answer<J, A>) {
     assert_eq!(rt; answer.index(), 0);
     assert_eq!(rt; answer.place(), answer.ticket().place());
     assert!(rt; answer.task().goal == Id(3) && answer.task().occurrence == 1);
@@ -83,7 +74,6 @@ fn assert_answer<J: Run, A: Allocator>(rt: &impl Abort, lists: &Lists<A>, answer
 /// Solves the first task.
 fn solve_first<J: Run, A: Allocator + Copy>(
     rt: &impl Abort,
-    lists: &Lists<A>,
     program: &Program<A>,
     shelf: &Shelf<A>,
     ticket: &Ticket<J, A>,
@@ -93,7 +83,7 @@ fn solve_first<J: Run, A: Allocator + Copy>(
 {
     match solve(program, shelf, ticket.again(), 0) {
         Ok(answer) => {
-            assert_answer(rt, lists, &answer);
+            assert_answer(rt, &answer);
             Ok(())
         }
         Err((back, unsolved)) => {
@@ -107,7 +97,6 @@ fn solve_first<J: Run, A: Allocator + Copy>(
 /// There is no fourth task: the ticket comes back.
 fn solve_none<J: Run, A: Allocator + Copy>(
     rt: &impl Abort,
-    lists: &Lists<A>,
     program: &Program<A>,
     shelf: &Shelf<A>,
     ticket: &Ticket<J, A>,
@@ -115,7 +104,6 @@ fn solve_none<J: Run, A: Allocator + Copy>(
     requires name { shelf.now ≡ J.shelf }
     requires rules { rules_of program.now ≡ J.rules }
 {
-    let _lists = lists;
     match solve(program, shelf, ticket.again(), 3) {
         Ok(_) => panic!(rt; "no such task"),
         Err((back, unsolved)) => {
@@ -164,7 +152,6 @@ fn assert_seen<J: Run, A: Allocator + Copy>(
 /// What a shelf shows of a snapshot, and what its tasks find.
 fn assert_calls<J: Run, A: Allocator + Copy>(
     rt: &(impl Abort + Wait),
-    lists: &Lists<A>,
     program: &Program<A>,
     shelf: &Shelf<A>,
     snapshot: Snapshot<A>,
@@ -174,35 +161,27 @@ fn assert_calls<J: Run, A: Allocator + Copy>(
 {
     let ticket = put::<J, A>(rt, shelf, snapshot)?;
     assert_seen(rt, shelf, &ticket);
-    solve_none(rt, lists, program, shelf, &ticket);
-    solve_first(rt, lists, program, shelf, &ticket)
+    solve_none(rt, program, shelf, &ticket);
+    solve_first(rt, program, shelf, &ticket)
 }
 
 /// The same under a name of its own.
 fn calls<A: Allocator + Copy>(
     rt: &(impl Abort + Wait),
-    lists: &Lists<A>,
     program: &Program<A>,
     shelf: &Shelf<A>,
     snapshot: Snapshot<A>,
 ) -> Result<(), Memory> {
-    assert_calls::<Brand, A>(rt, lists, program, shelf, snapshot)
-}
-
-fn lists_of<A: Allocator>(alloc: A) -> Lists<A> {
-    Lists {
-        alloc,
-        list: PhantomData,
-    }
+    assert_calls::<Brand, A>(rt, program, shelf, snapshot)
 }
 
 #[test]
 fn shelf_calls(rt: HostRuntime) -> Result<(), Fail> {
-    let lists = lists_of(rt.alloc());
-    let (program, query) = both_of(lists.alloc, PROGRAM, QUERY)?;
-    let snapshot = snapshot_of(lists.alloc, &program, query)?;
-    let shelf = Shelf::new(lists.alloc)?;
-    calls(&rt, &lists, &program, &shelf, snapshot)?;
+    let alloc = rt.alloc();
+    let (program, query) = both_of(alloc, PROGRAM, QUERY)?;
+    let snapshot = snapshot_of(alloc, &program, query)?;
+    let shelf = Shelf::new(alloc)?;
+    calls(&rt, &program, &shelf, snapshot)?;
     Ok(())
 }
 
@@ -211,16 +190,16 @@ fn shelf_calls(rt: HostRuntime) -> Result<(), Fail> {
 /// For any allocator: proofs for the meter as the allocator would take much longer.
 fn are_through<M: Allocator + Copy>(
     rt: &(impl Abort + Wait),
-    lists: &Lists<M>,
+    alloc: M,
     meter: &Refusing<Global>,
     left: u64,
 ) -> Result<bool, Fail> {
     meter.allow(AMPLE);
-    let (program, query) = both_of(lists.alloc, PROGRAM, QUERY)?;
-    let snapshot = snapshot_of(lists.alloc, &program, query)?;
-    let shelf = Shelf::new(lists.alloc)?;
+    let (program, query) = both_of(alloc, PROGRAM, QUERY)?;
+    let snapshot = snapshot_of(alloc, &program, query)?;
+    let shelf = Shelf::new(alloc)?;
     meter.allow(left);
-    let are_through = calls(rt, lists, &program, &shelf, snapshot).is_ok();
+    let are_through = calls(rt, &program, &shelf, snapshot).is_ok();
     assert_eq!(rt; meter.asked() > left, !are_through, "{left}");
     Ok(are_through)
 }
@@ -237,7 +216,7 @@ fn are_through_metered(
     meter: &Refusing<Global>,
     left: u64,
 ) -> Result<bool, Fail> {
-    are_through(rt, &lists_of(meter), meter, left)
+    are_through(rt, meter, meter, left)
 }
 
 #[test]

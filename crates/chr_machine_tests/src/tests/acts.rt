@@ -8,7 +8,7 @@ use std::alloc::Global;
 
 /// What a script does with a machine, or says of it.
 #[derive(Clone, Copy, Drop)]
-pub enum Act<'a> {
+pub(super) enum Act<'a> {
     /// `step` answers this.
     Step(Stepped),
     /// `run_alone` of so many transitions answers this.
@@ -51,7 +51,7 @@ pub enum Act<'a> {
 
 /// A stack element, as far as a script tells it.
 #[derive(Clone, Copy, PartialEq, Eq, Drop)]
-pub enum Seen {
+pub(super) enum Seen {
     /// A goal of one number.
     Goal(Sym, i128),
     Known(u64, Sym),
@@ -203,7 +203,7 @@ fn follow<A: Allocator + Copy>(
 }
 
 /// A run of the query under the program, and what a script does with it.
-pub fn play(
+pub(super) fn play(
     rt: &impl Abort,
     alloc: Global,
     (program, query): (&str, &str),

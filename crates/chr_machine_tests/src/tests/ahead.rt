@@ -24,7 +24,7 @@ fn are_tasks(tasks: &[Task], wanted: &[(u64, u32)]) -> bool {
 }
 
 /// The tasks of a machine, which a snapshot of its state keeps.
-pub fn assert_tasks<A: Allocator + Copy>(
+pub(super) fn assert_tasks<A: Allocator + Copy>(
     rt: &impl Abort,
     alloc: A,
     machine: &Machine<A>,
@@ -44,7 +44,7 @@ fn is_guest<A: Allocator>(guest: Option<(Sym, &[Term<A>])>, wanted: Option<Sym>)
 }
 
 /// The guest of a machine, which a snapshot of its state keeps.
-pub fn assert_guest<A: Allocator + Copy>(
+pub(super) fn assert_guest<A: Allocator + Copy>(
     rt: &impl Abort,
     alloc: A,
     machine: &Machine<A>,
@@ -148,10 +148,10 @@ fn nothing_ahead(rt: HostRuntime) -> Result<(), Fail> {
 }
 
 /// The identities under the keys 1 and 2, and those without a key.
-pub type Keyed<'a> = (&'a [u64], &'a [u64], &'a [u64]);
+pub(super) type Keyed<'a> = (&'a [u64], &'a [u64], &'a [u64]);
 
 /// These are what a snapshot lends.
-pub fn assert_lends<A: Allocator + Copy>(
+pub(super) fn assert_lends<A: Allocator + Copy>(
     rt: &impl Abort,
     snapshot: &Snapshot<A>,
     wanted: Keyed<'_>,
@@ -163,7 +163,11 @@ pub fn assert_lends<A: Allocator + Copy>(
 }
 
 /// The same of the store.
-pub fn assert_stored<A: Allocator + Copy>(rt: &impl Abort, store: &Store<A>, wanted: Keyed<'_>) {
+pub(super) fn assert_stored<A: Allocator + Copy>(
+    rt: &impl Abort,
+    store: &Store<A>,
+    wanted: Keyed<'_>,
+) {
     let (one, two, none) = wanted;
     assert!(rt; are(store.rows_keyed(P, Some(Key::Int(1))), one));
     assert!(rt; are(store.rows_keyed(P, Some(Key::Int(2))), two));

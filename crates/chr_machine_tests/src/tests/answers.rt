@@ -26,7 +26,7 @@ fn answer_of<A: Allocator + Copy>(
 }
 
 /// One transition as `top` asks, under a limit on its growths. A search is made before these count.
-pub fn step_asked<A: Allocator + Copy>(
+pub(super) fn step_asked<A: Allocator + Copy>(
     lists: &Lists<A>,
     machine: &mut Machine<A>,
     limit: Limit<'_>,
@@ -46,7 +46,7 @@ pub fn step_asked<A: Allocator + Copy>(
 }
 
 /// A transition for each line, as `top` asks.
-pub fn run_asked<A: Allocator + Copy>(
+pub(super) fn run_asked<A: Allocator + Copy>(
     rt: &impl Abort,
     lists: &Lists<A>,
     machine: &mut Machine<A>,
@@ -63,7 +63,7 @@ pub fn run_asked<A: Allocator + Copy>(
 
 /// What a search finds, and how many tries it may have at least and at most.
 #[derive(Clone, Copy, Drop)]
-pub struct Wanted<'a> {
+pub(super) struct Wanted<'a> {
     pub task: (u64, u32),
     pub ids: &'a [u64],
     pub tries: (u64, u64),
@@ -78,7 +78,7 @@ fn finds<A: Allocator>(found: &Found<SmallVec<Id, 8, A>>, wanted: &[u64]) -> boo
 }
 
 /// What a snapshot has for a task.
-pub fn assert_finds<A: Allocator + Copy>(
+pub(super) fn assert_finds<A: Allocator + Copy>(
     rt: &impl Abort,
     _lists: &Lists<A>,
     machine: &Machine<A>,

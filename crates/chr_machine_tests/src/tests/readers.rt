@@ -16,7 +16,7 @@ fn is_seen<A: Allocator>(elem: &Elem<A>, wanted: Seen) -> bool {
 }
 
 /// The stack is this, its top last.
-pub fn assert_stack<A: Allocator>(rt: &impl Abort, stack: &[Elem<A>], wanted: &[Seen]) {
+pub(super) fn assert_stack<A: Allocator>(rt: &impl Abort, stack: &[Elem<A>], wanted: &[Seen]) {
     assert_eq!(rt; stack.len(), wanted.len());
     for (elem, seen) in stack.iter().zip(wanted) {
         assert!(rt; is_seen(elem, *seen));

@@ -17,13 +17,13 @@ const EXAMPLES: [Example; 4] = [GROUND_RULE, GCD, PROPAGATE_THEN_SIMPLIFY, WAKIN
 
 /// How many growths a call is allowed, from where it begins.
 #[derive(Clone, Copy, Drop)]
-pub enum Limit<'m> {
+pub(super) enum Limit<'m> {
     None,
     Growths(&'m Meter, u64),
 }
 
 impl<'m> Limit<'m> {
-    pub fn begin(self) {
+    pub(super) fn begin(self) {
         match self {
             Limit::None => {}
             Limit::Growths(meter, left) => meter.allow(left),

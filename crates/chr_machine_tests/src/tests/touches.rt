@@ -3,7 +3,7 @@ use super::acts::{Act, play};
 use super::*;
 
 /// The stamps of the first symbols that a program declares.
-pub fn assert_stamps<A: Allocator>(rt: &impl Abort, store: &Store<A>, wanted: &[u64]) {
+pub(super) fn assert_stamps<A: Allocator>(rt: &impl Abort, store: &Store<A>, wanted: &[u64]) {
     let mut sym = P.0;
     for stamp in wanted {
         assert_eq!(rt; store.stamp(Sym(sym)), *stamp, "{sym}");
@@ -32,7 +32,7 @@ fn bindings_touch(rt: HostRuntime) -> Result<(), Fail> {
     play(&rt, rt.alloc(), (NO_RULES, query), &acts)
 }
 
-pub const BINDING_TOUCHES: &str = ":- chr_constraint p/1, go/1, o/0.
+pub(super) const BINDING_TOUCHES: &str = ":- chr_constraint p/1, go/1, o/0.
 a @ go(Y) ==> Y = 1.
 r @ go(Z), p(1) # passive ==> o.
 ";

@@ -1,0 +1,15 @@
+pub mod Arrived
+pub mod Few
+pub mod Found
+pub mod Guests
+pub mod Keeps
+pub mod Made
+pub mod Moves
+pub mod Needs
+pub mod Numbered
+pub mod Replayed
+pub mod SameNames
+pub mod Serves
+pub mod Shown
+pub mod Steps
+pub mod Tickets

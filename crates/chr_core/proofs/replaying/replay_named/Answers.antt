@@ -1,0 +1,44 @@
+use Rattle.std.proofs.Common.{ap, subst, sym, ◌∙◌, ◌≡◌}
+use Rattle.std.specs.Prelude.{Option}
+use Rattle.chr_semantics.specs.Names.{Names}
+use Rattle.chr_semantics.specs.Outcome.{outcome_after}
+use Rattle.chr_semantics.specs.Schedule.{Refusal, counts, first_refusal, no_progress, progress}
+use Rattle.chr_semantics.specs.State.{start}
+use Rattle.chr_semantics.proofs.IdleLaw.{idle_law}
+use Rattle.chr_rounds.proofs.Replay.{replay_law}
+use Rattle.chr_rules.specs.ProgramView.{names_of, rules_of}
+use Rattle.chr_rules.specs.RuleView.{query_view}
+use Rattle.chr_rules.proofs.Each.{err_answers}
+use Rattle.chr_schedule.specs.EventView.{events_view}
+use Rattle.chr_core.specs.Replaying.{IsRefusal}
+use Rattle.chr_core.proofs.replaying.replay_named.Goals as goal
+
+pub returns-in_err-replay_all-clause-err : goal.returns-in_err-replay_all-clause-err
+returns-in_err-replay_all-clause-err g c =
+    let e = c.in_err-replay_all.field-0.0 in
+    let all = events_view c.args.events.now in
+    let same : first_refusal g.J.Run.rules (start (query_view c.in_ok-core.core.query)) no_progress 0 all ≡ first_refusal (rules_of c.args.program.now) (start (query_view c.args.query)) no_progress 0 all =
+    λ k. first_refusal (sym c.requires.rules k) (start (c.in_ok-core.ensures.query k)) no_progress 0 all in
+    err_answers c.from_residual-in_err-replay_all.result e (IsRefusal (first_refusal (rules_of c.args.program.now) (start (query_view c.args.query)) no_progress 0 all)) c.from_residual-in_err-replay_all.ensures.1
+    (subst (λ (o : Option Refusal). IsRefusal o e) same c.in_err-replay_all.ensures.err)
+
+pub returns-clause-ok : goal.returns-clause-ok
+returns-clause-ok g c =
+    let p = g.J.Run.rules in
+    let r = query_view c.args.query in
+    let all = events_view c.args.events.now in
+    let rules = c.requires.rules in
+    let query = c.replay_all.ensures.query ∙ c.in_ok-core.ensures.query in
+    let names = c.replay_all.ensures.names ∙ c.in_ok-core.ensures.names in
+    let events = c.in_ok-replay_all.ensures.ok ∙ (λ k. Rattle.chr_semantics.specs.Schedule.performed p (start (c.in_ok-core.ensures.query k)) all) in
+    record {
+      accepted = (λ k. first_refusal (rules k) (start (sym c.in_ok-core.ensures.query k)) no_progress 0 all) ∙ c.in_ok-replay_all.ensures.none;
+      outcome = c.finish-outcome.ensures.outcome
+          ∙ (λ k. outcome_after (names k) p (query k) (progress p (start (query k)) (events k)).steps)
+          ∙ replay_law.outcome (names_of c.args.program.now) p r all
+          ∙ (λ k. outcome_after (names_of c.args.program.now) (sym rules k) r (progress (sym rules k) (start r) all).steps);
+      counts_are = c.counts-counts.ensures
+          ∙ (λ k. counts p (start (query k)) (events k))
+          ∙ idle_law.counts_same p r all
+          ∙ (λ k. counts (sym rules k) (start r) all);
+    }

@@ -1,0 +1,42 @@
+use Rattle.std.proofs.Common.{ap, arith, length, sym, ◌≡◌, ◌∙◌}
+use Rattle.std.proofs.lemmas.List.{length-map}
+use Rattle.std.specs.Prelude.{List}
+use Rattle.chr_semantics.specs.Snapshot.{snapshot_of}
+use Rattle.chr_semantics.specs.State.{start}
+use Rattle.chr_semantics.specs.Step.{after}
+use Rattle.chr_semantics.specs.Tasks.{Task, tasks}
+use Rattle.chr_find.specs.SnapshotView.{task_view}
+use Rattle.chr_machine.specs.MachineView.{machine_view}
+use Rattle.chr_machine.specs.Model.{Model, state_in}
+use Rattle.chr_rules.specs.RuleView.{query_view}
+use Rattle.chr_core.specs.RoundView.{round_of}
+use Rattle.chr_core.proofs.Few.{few_tasks}
+use Rattle.chr_core.proofs.speculation.Core.publish.Goals as goal
+
+pub overflow_cast-count : goal.overflow_cast-count
+overflow_cast-count g c =
+    let m = machine_view c.room_for_round.new.self.machine in
+    let w = snapshot_of m.rules (state_in m) in
+    let count = sym (length-map c.tasks.result.now task_view) ∙ ap (λ (ts : List Task). length ts) (sym (c.tasks.ensures w c.in_ok-snapshot.ensures.shown)) in
+    omega (arith, count, few_tasks m.rules (state_in m))
+
+pub push_round-requires-clause-round : goal.push_round-requires-clause-round
+push_round-requires-clause-round g c =
+    let m = machine_view c.room_for_round.new.self.machine in
+    let n = machine_view c.snapshot.new.self in
+    let rules = c.room_for_round.new.self.at.run.same.rules in
+    let same : m ≡ n = sym c.snapshot.ensures.same in
+    c.in_ok-round.ensures (snapshot_of m.rules (state_in m)) c.in_ok-snapshot.ensures.shown
+    ∙ (λ k. (let w = snapshot_of (rules k) (state_in (same k)) in round_of n w.tasks w.guest))
+
+pub returns-in-Ok-clause-tasks : goal.returns-in-Ok-clause-tasks
+returns-in-Ok-clause-tasks g c =
+    let old = c.args.self.now in
+    let p = g.J.Run.rules in
+    let q = start (query_view old.query) in
+    let m = machine_view c.room_for_round.new.self.machine in
+    let rules = c.room_for_round.new.self.at.run.same.rules in
+    let state = ap state_in c.room_for_round.ensures.same.run.machine_is ∙ old.at.run.state_is ∙ ap (after p q) (sym old.stands.steps_are) in
+    sym (length-map c.tasks.result.now task_view)
+    ∙ ap (λ (ts : List Task). length ts) (sym (c.tasks.ensures (snapshot_of m.rules (state_in m)) c.in_ok-snapshot.ensures.shown))
+    ∙ (λ k. length (tasks (rules k) (state k)))

@@ -1,0 +1,13 @@
+pub mod AnswersView
+pub mod Arriving
+pub mod Codes
+pub mod CoreView
+pub mod Cores
+pub mod ErrorView
+pub mod IsAt
+pub mod KeptView
+pub mod Replaying
+pub mod Rooms
+pub mod RoundView
+pub mod Serving
+pub mod Shown

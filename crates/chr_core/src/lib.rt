@@ -1,0 +1,23 @@
+//! A run with answers that were made elsewhere: rounds, arrivals, steps, and their counts. Whatever arrives, the state is that of the steps
+//! alone.
+#![tactic(auto)]
+
+mod answers;
+mod arriving;
+mod error;
+mod kept;
+mod publishing;
+mod replaying;
+mod round;
+mod serving;
+mod speculation;
+mod stepping;
+mod touching;
+
+pub use arriving::Took;
+pub use chr_machine::{Machine, Need, Outcome, Stepped};
+pub use chr_schedule::Event;
+pub use chr_term::Memory;
+pub use error::{CoreError, ReplayError};
+pub use replaying::replay;
+pub use speculation::{Core, Counts};
