@@ -3,15 +3,29 @@ use Rattle.std.specs.Prelude.{ℕ, List, ◌++◌, codes}
 use Rattle.std.specs.Fmt.{decimal}
 use Rattle.chr_read.specs.ErrorText.{read_error_text}
 use Rattle.chr_rules.specs.ErrorText.{rule_error_kind_text, rule_error_text}
+use Rattle.chr_schedule.specs.ErrorView.{kind_text}
+use Rattle.chr_core.specs.declared.error.ReplayError.{ReplayError}
+use Rattle.chr_core.specs.declared.error.ReplayError.TheVariants as replay
 use Rattle.chr_run.specs.declared.error.RunError.{RunError}
 use Rattle.chr_run.specs.declared.error.RunError.TheVariants.{BudgetTooLarge, TooManyWorkers, Memory}
 use Rattle.chr_run.specs.declared.error.TextError.{TextError}
-use Rattle.chr_run.specs.declared.error.TextError.TheVariants.{Run, Program, Rules, Query, Goals, Write}
+use Rattle.chr_run.specs.declared.error.TextError.TheVariants.{Run, Program, Rules, Query, Goals, Schedule, Replay, Write}
 
 abbrev pub run_error_text : RunError → List ℕ
 run_error_text BudgetTooLarge = codes "BudgetTooLarge"
 run_error_text TooManyWorkers = codes "TooManyWorkers"
 run_error_text Memory = codes "Memory"
+
+-- an event is said by its place
+abbrev pub event_text : ℕ → List ℕ → List ℕ
+event_text place word = codes "schedule event " ++ decimal place ++ codes ": " ++ word
+
+abbrev pub replay_error_text : ReplayError → List ℕ
+replay_error_text (replay.UnknownRound k) = event_text k (codes "UnknownRound")
+replay_error_text (replay.UnknownTask k) = event_text k (codes "UnknownTask")
+replay_error_text replay.Memory = codes "Memory"
+replay_error_text (replay.TooManyRounds k) = event_text k (codes "TooManyRounds")
+replay_error_text (replay.TooManySteps k) = event_text k (codes "TooManySteps")
 
 abbrev pub text_error_text : TextError → List ℕ
 text_error_text (Run e) = run_error_text e
@@ -19,4 +33,6 @@ text_error_text (Program e) = codes "program " ++ read_error_text e
 text_error_text (Rules e) = codes "program " ++ rule_error_text e
 text_error_text (Query e) = codes "query " ++ read_error_text e
 text_error_text (Goals e) = codes "query line " ++ decimal e.line ++ codes ": " ++ rule_error_kind_text e.kind
+text_error_text (Schedule e) = codes "schedule line " ++ decimal e.line ++ codes ": " ++ kind_text e.kind
+text_error_text (Replay e) = replay_error_text e
 text_error_text Write = codes "cannot write"
