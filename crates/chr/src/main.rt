@@ -30,6 +30,7 @@ fn main(rt: HostRuntime) -> io::Result<ExitCode> {
         let words: Vec<String> = env::args(rt)?.skip(1).collect(rt.alloc())?;
         let run = || {
             command(
+                rt,
                 rt.alloc(),
                 words.as_slice(),
                 &Disk(rt),

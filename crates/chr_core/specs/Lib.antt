@@ -3,6 +3,7 @@ pub mod Arriving
 pub mod Codes
 pub mod CoreView
 pub mod Cores
+pub mod ErrorText
 pub mod ErrorView
 pub mod IsAt
 pub mod KeptView

@@ -4,8 +4,10 @@ ghost use Rattle.chr_core.specs.declared.error.CoreError.TheVariants.{Memory as 
 ghost use Rattle.chr_core.specs.declared.error.ReplayError.TheVariants.{Memory as ReplayOutOfMemory};
 
 use std::alloc::AllocError;
+use std::error::Error;
+use std::fmt;
 
-/// Why nothing was published, the first of these.
+/// Why nothing was published, the first of these. It is displayed as its name.
 #[derive(Clone, Copy, PartialEq, Eq, Debug, Drop)]
 pub enum CoreError {
     /// 4,096 rounds stand.
@@ -13,6 +15,34 @@ pub enum CoreError {
     /// Memory was refused.
     Memory,
 }
+
+impl CoreError {
+    ghost use Rattle.std.specs.Prelude.{◌≡◌};
+    ghost use Rattle.chr_core.specs.ErrorText.{core_error_text};
+
+    /// Its name.
+    pub fn word(self) -> &'static str
+        ensures { result.now ≡ core_error_text self }
+    {
+        match self {
+            CoreError::ShelfFull => "ShelfFull",
+            CoreError::Memory => "Memory",
+        }
+    }
+}
+
+impl fmt::Display for CoreError {
+    ghost use Rattle.std.specs.Prelude.{Some};
+    ghost use Rattle.chr_core.specs.ErrorText.{core_error_text};
+
+    ghost output = { λ error. Some (core_error_text error) };
+
+    fn fmt<W: fmt::Write>(&self, f: &mut fmt::Formatter<W>) -> fmt::Result {
+        f.write_str(self.word())
+    }
+}
+
+impl Error for CoreError {}
 
 impl From<AllocError> for CoreError {
     ghost from_gives = { λ _ e. e ≡ OutOfMemory };
@@ -22,7 +52,8 @@ impl From<AllocError> for CoreError {
     }
 }
 
-/// Why a schedule is not replayed: the first event that is refused, by its place, counted from 0; or want of memory.
+/// Why a schedule is not replayed: the first event that is refused, by its place, counted from 0; or want of memory. It is displayed as its
+/// place, where it has one, and its name.
 #[derive(Clone, Copy, PartialEq, Eq, Debug, Drop)]
 pub enum ReplayError {
     /// No round has that number yet.
@@ -36,6 +67,53 @@ pub enum ReplayError {
     /// It would be the 1,000,001st Step.
     TooManySteps(u64),
 }
+
+impl ReplayError {
+    ghost use Rattle.std.specs.Prelude.{◌≡◌};
+    ghost use Rattle.chr_core.specs.ErrorText.{replay_error_place, replay_error_word};
+
+    /// Its name.
+    pub fn word(self) -> &'static str
+        ensures { result.now ≡ replay_error_word self }
+    {
+        match self {
+            ReplayError::UnknownRound(_) => "UnknownRound",
+            ReplayError::UnknownTask(_) => "UnknownTask",
+            ReplayError::Memory => "Memory",
+            ReplayError::TooManyRounds(_) => "TooManyRounds",
+            ReplayError::TooManySteps(_) => "TooManySteps",
+        }
+    }
+
+    /// The place of the event that is refused.
+    pub fn place(self) -> Option<u64>
+        ensures { result ≡ replay_error_place self }
+    {
+        match self {
+            ReplayError::UnknownRound(place)
+            | ReplayError::UnknownTask(place)
+            | ReplayError::TooManyRounds(place)
+            | ReplayError::TooManySteps(place) => Some(place),
+            ReplayError::Memory => None,
+        }
+    }
+}
+
+impl fmt::Display for ReplayError {
+    ghost use Rattle.std.specs.Prelude.{Some};
+    ghost use Rattle.chr_core.specs.ErrorText.{replay_error_text};
+
+    ghost output = { λ error. Some (replay_error_text error) };
+
+    fn fmt<W: fmt::Write>(&self, f: &mut fmt::Formatter<W>) -> fmt::Result {
+        match self.place() {
+            Some(place) => write!(f, "schedule event {place}: {}", self.word()),
+            None => f.write_str(self.word()),
+        }
+    }
+}
+
+impl Error for ReplayError {}
 
 impl From<AllocError> for ReplayError {
     ghost from_gives = { λ _ e. e ≡ ReplayOutOfMemory };

@@ -12,7 +12,9 @@ use std::process::Abort;
 use std::sync::Wait;
 use std::test::Fail;
 
+mod calls;
 mod examples;
+mod random;
 mod replays;
 
 /// A program and a query over it, as texts.

@@ -30,3 +30,5 @@ accepted_run program query names rules q n workers old new (Err (error.Program e
 accepted_run program query names rules q n workers old new (Err (error.Rules e)) a h = absurd h.1.0
 accepted_run program query names rules q n workers old new (Err (error.Query e)) a h = absurd h.1.0
 accepted_run program query names rules q n workers old new (Err (error.Goals e)) a h = absurd h.1.0
+accepted_run program query names rules q n workers old new (Err (error.Schedule e)) a h = absurd h.1.0
+accepted_run program query names rules q n workers old new (Err (error.Replay e)) a h = absurd h.1.0

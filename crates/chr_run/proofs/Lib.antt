@@ -4,3 +4,4 @@ pub mod Sent
 pub mod Sends
 pub mod Inputs
 pub mod Accepted
+pub mod ReplayTexts

@@ -3,4 +3,5 @@ pub mod Output
 pub mod Sending
 pub mod Run
 pub mod Texts
+pub mod Replays
 pub mod Command

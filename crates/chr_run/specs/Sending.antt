@@ -8,7 +8,7 @@ use Rattle.chr_machine.specs.Model.{Model, state_in}
 use Rattle.chr_run.specs.Output.{AppendsPart}
 use Rattle.chr_run.specs.declared.error.RunError.TheVariants.{BudgetTooLarge, TooManyWorkers, Memory}
 use Rattle.chr_run.specs.declared.error.TextError.{TextError}
-use Rattle.chr_run.specs.declared.error.TextError.TheVariants.{Run, Program, Rules, Query, Goals, Write}
+use Rattle.chr_run.specs.declared.error.TextError.TheVariants.{Run, Program, Rules, Query, Goals, Schedule, Replay, Write}
 
 -- what a run can be cut off by
 abbrev pub IsCut : TextError → Type 0
@@ -19,6 +19,8 @@ IsCut (Program e) = ⊥
 IsCut (Rules e) = ⊥
 IsCut (Query e) = ⊥
 IsCut (Goals e) = ⊥
+IsCut (Schedule e) = ⊥
+IsCut (Replay e) = ⊥
 IsCut Write = Unit {0}
 
 -- at most n transitions further

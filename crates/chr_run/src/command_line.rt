@@ -1,8 +1,11 @@
 //! The program `chr`: what it reads, what it writes, and its exit status.
 ghost use Rattle.std.specs.Prelude.{◌≡◌, ◌⊎◌, codes, map, option_map};
 ghost use Rattle.std.specs.String.{string_bytes};
-ghost use Rattle.chr_run.specs.Command.{IsCommand, Refuses, RunsFile, RunsInput, RunsTexts, RunsWords, Shows, after_line, effect, first_line, status_code, unread_text};
+ghost use Rattle.chr_run.specs.Command.{DoesWords, IsCommand, Refuses, RunsFile, RunsInput, RunsTexts, RunsWords, Shows, after_line, effect, first_line, status_code, unread_text};
 
+mod replaying;
+
+use self::replaying::replay_words;
 use crate::error::{RunError, TextError};
 use crate::output::write_bytes;
 use crate::refusal::{say, say_refusal, say_unread};
@@ -12,6 +15,10 @@ use chr_words::files::read_all;
 use chr_words::{Opens, Request, asked, read_file};
 use std::alloc::Global;
 use std::io::{Read, Write};
+use std::sync::Wait;
+
+/// The budget of a run where the words give none.
+const BUDGET: u64 = 100_000;
 
 /// The exit status where there is no run.
 const REFUSED: u8 = 2;
@@ -144,6 +151,35 @@ fn run_words<O: Opens, R: Read, W: Write, E: Write>(
     }
 }
 
+/// The run, or the replay, that the words ask for.
+fn do_words<O: Opens, R: Read, W: Write, E: Write>(
+    rt: &impl Wait,
+    alloc: Global,
+    program: Option<&str>,
+    query: Option<&str>,
+    budget: Option<u64>,
+    replay: Option<&str>,
+    files: &O,
+    input: &mut R,
+    output: &mut W,
+    error: &mut E,
+) -> u8
+    ensures { DoesWords (option_map (λ t. t.now) program.entry) (option_map (λ t. t.now) query.entry)
+        budget (option_map (λ t. t.now) replay.entry) (O.bytes_of files.now) (R.remaining input.old)
+        (effect (W.contents output.old) (W.contents output.new)
+        (E.contents error.old) (E.contents error.new) result) }
+{
+    match replay {
+        None => {
+            let budget = budget.unwrap_or(BUDGET);
+            run_words(alloc, program, query, budget, files, input, output, error)
+        }
+        Some(schedule) => replay_words(
+            rt, alloc, program, query, budget, schedule, files, output, error,
+        ),
+    }
+}
+
 /// Writes a text.
 fn show<W: Write, E: Write>(text: &str, output: &mut W, error: &mut E) -> u8
     ensures { Shows text.now (effect (W.contents output.old) (W.contents output.new)
@@ -159,10 +195,12 @@ fn show<W: Write, E: Write>(text: &str, output: &mut W, error: &mut E) -> u8
 }
 
 /// What the program `chr` does with the words after its name: PROGRAM, the path of a file, then QUERY, the text of a query, and
-/// `--budget N`. With neither PROGRAM nor QUERY the first line of the input is the query, and the rest is the program. The text of the run
-/// goes out, of 100,000 transitions where there is no N, or that of `--help`. The answer is the exit status: 0 done, 2 refused, 3 failed,
-/// 4 a fault, 5 the budget used up. Where it is 2, a line on `error` says why.
+/// `--budget N` or `--replay FILE`. With neither PROGRAM nor QUERY the first line of the input is the query, and the rest is the program.
+/// The text of the run goes out, of 100,000 transitions where there is no N, or that of the replay of the schedule in FILE, whose counts
+/// are said on `error`, or that of `--help`. The answer is the exit status: 0 done, 2 refused, 3 failed, 4 a fault, 5 the budget used up.
+/// Where it is 2, a line on `error` says why.
 pub fn command<O: Opens, R: Read, W: Write, E: Write>(
+    rt: &impl Wait,
     alloc: Global,
     words: &[String],
     files: &O,
@@ -180,8 +218,11 @@ pub fn command<O: Opens, R: Read, W: Write, E: Write>(
                 program,
                 query,
                 budget,
+                replay,
             },
-        ) => run_words(alloc, program, query, budget, files, input, output, error),
+        ) => do_words(
+            rt, alloc, program, query, budget, replay, files, input, output, error,
+        ),
         Ok(Request::Help(text)) => show(text.as_str(), output, error),
         Ok(Request::Refused(text)) => {
             say(error, &[text.as_str()]);

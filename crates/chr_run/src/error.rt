@@ -1,6 +1,8 @@
 //! Why a run, or the run of two texts, is refused.
+use chr_core::ReplayError;
 use chr_read::ReadError;
 use chr_rules::RuleError;
+use chr_schedule::ScheduleError;
 use std::error::Error;
 use std::fmt;
 
@@ -44,7 +46,7 @@ impl fmt::Display for RunError {
 
 impl Error for RunError {}
 
-/// Why the text of a run did not go out whole. It is displayed as `chr` says it.
+/// Why the text of a run, or of a replay, did not go out whole. It is displayed as `chr` says it.
 #[derive(Clone, Copy, PartialEq, Eq, Debug, Drop)]
 pub enum TextError {
     /// The run is refused.
@@ -57,6 +59,10 @@ pub enum TextError {
     Query(ReadError),
     /// There is a mistake in the query.
     Goals(RuleError),
+    /// The text of the schedule is not read.
+    Schedule(ScheduleError),
+    /// The schedule is not replayed.
+    Replay(ReplayError),
     /// The writer failed, or took no byte of some that were left.
     Write,
 }
@@ -74,6 +80,8 @@ impl fmt::Display for TextError {
             TextError::Rules(error) => write!(f, "program {error}"),
             TextError::Query(error) => write!(f, "query {error}"),
             TextError::Goals(error) => write!(f, "query line {}: {}", error.line, error.kind),
+            TextError::Schedule(error) => write!(f, "schedule {error}"),
+            TextError::Replay(error) => write!(f, "{error}"),
             TextError::Write => f.write_str("cannot write"),
         }
     }

@@ -1,16 +1,20 @@
 //! The lines that the program `chr` says where it refuses. They take no memory.
-ghost use Rattle.std.specs.Prelude.{◌++◌, codes, map};
+ghost use Rattle.std.specs.Prelude.{◌++◌, Some, codes, map};
 ghost use Rattle.std.specs.Fmt.{decimal};
 ghost use Rattle.std.specs.List.{concat};
 ghost use Rattle.chr_read.specs.ErrorText.{read_error_text};
 ghost use Rattle.chr_rules.specs.ErrorText.{rule_error_kind_text, rule_error_text};
+ghost use Rattle.chr_schedule.specs.ErrorView.{schedule_error_text};
+ghost use Rattle.chr_core.specs.ErrorText.{placed_text, replay_error_text};
 ghost use Rattle.chr_run.specs.Command.{refusal_text, unread_text};
 ghost use Rattle.chr_run.specs.Output.{AppendsPart};
 
 use crate::error::TextError;
 use crate::output::write_bytes;
+use chr_core::ReplayError;
 use chr_read::ReadError;
 use chr_rules::RuleError;
+use chr_schedule::ScheduleError;
 use itoa::Buffer;
 use std::io::Write;
 
@@ -84,6 +88,40 @@ fn say_query<E: Write>(error: &mut E, wrong: RuleError)
     );
 }
 
+/// Says which line of the schedule is at fault.
+fn say_line<E: Write>(error: &mut E, wrong: ScheduleError)
+    ensures { AppendsPart (E.contents error.old) (E.contents error.new)
+        (codes "chr: " ++ (codes "schedule " ++ schedule_error_text wrong) ++ codes "\n") }
+{
+    let mut line = Buffer::new();
+    let line = line.format(wrong.line);
+    say(
+        error,
+        &["chr: schedule line ", line, ": ", wrong.kind.word(), "\n"],
+    );
+}
+
+/// Says which event of the schedule is refused.
+fn say_event<E: Write>(error: &mut E, place: u64, word: &'static str)
+    ensures { AppendsPart (E.contents error.old) (E.contents error.new)
+        (codes "chr: " ++ placed_text (Some place) word.now ++ codes "\n") }
+{
+    let mut number = Buffer::new();
+    let number = number.format(place);
+    say(error, &["chr: schedule event ", number, ": ", word, "\n"]);
+}
+
+/// Says why a schedule is not replayed.
+fn say_replay<E: Write>(error: &mut E, refused: ReplayError)
+    ensures { AppendsPart (E.contents error.old) (E.contents error.new)
+        (codes "chr: " ++ replay_error_text refused ++ codes "\n") }
+{
+    match refused.place() {
+        Some(place) => say_event(error, place, refused.word()),
+        None => say(error, &["chr: ", refused.word(), "\n"]),
+    }
+}
+
 /// Says why there is no run, as far as it can be written.
 pub fn say_refusal<E: Write>(error: &mut E, refusal: TextError)
     ensures { AppendsPart (E.contents error.old) (E.contents error.new) (refusal_text refusal) }
@@ -94,6 +132,8 @@ pub fn say_refusal<E: Write>(error: &mut E, refusal: TextError)
         TextError::Rules(wrong) => say_rule(error, wrong),
         TextError::Query(unread) => say_place(error, "query ", unread),
         TextError::Goals(wrong) => say_query(error, wrong),
+        TextError::Schedule(wrong) => say_line(error, wrong),
+        TextError::Replay(refused) => say_replay(error, refused),
         TextError::Write => say(error, &["chr: cannot write\n"]),
     }
 }

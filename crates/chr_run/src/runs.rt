@@ -91,9 +91,9 @@ pub fn run_into<A: Allocator + Copy, W: Write>(
 
 /// A program, and a query over it.
 #[derive(Drop)]
-struct Texts<A: Allocator> {
-    program: Program<A>,
-    query: Query<A>,
+pub(crate) struct Texts<A: Allocator> {
+    pub(crate) program: Program<A>,
+    pub(crate) query: Query<A>,
 }
 
 /// The program of a text.
@@ -135,7 +135,7 @@ fn accepted_query<A: Allocator + Copy>(
 }
 
 /// The program and the query of two texts.
-fn accepted<A: Allocator + Copy>(
+pub(crate) fn accepted<A: Allocator + Copy>(
     alloc: A,
     program: &[u8],
     query: &[u8],

@@ -12,6 +12,7 @@ use std::test::Fail;
 mod depth;
 mod lines;
 mod refusals;
+mod replays;
 mod words;
 mod writes;
 

@@ -1,5 +1,6 @@
 -- The errors of the code, as those of the definitions, and their texts.
-use Rattle.std.specs.Prelude.{◌≡◌, ℕ, List, codes, Option, Some, None, option_map, MatchOption, Err}
+use Rattle.std.specs.Prelude.{◌≡◌, ◌++◌, ℕ, List, codes, Option, Some, None, option_map, MatchOption, Err}
+use Rattle.std.specs.Fmt.{decimal}
 use Rattle.chr_semantics.specs.ScheduleText as semantics
 use Rattle.chr_semantics.specs.ScheduleText.{read_schedule}
 use Rattle.chr_schedule.specs.declared.error.ScheduleErrorKind.{ScheduleErrorKind}
@@ -11,6 +12,10 @@ kind_text ScheduleErrorKind.BadLine = codes "BadLine"
 kind_text ScheduleErrorKind.BadNumber = codes "BadNumber"
 kind_text ScheduleErrorKind.TooManyEvents = codes "TooManyEvents"
 kind_text ScheduleErrorKind.Memory = codes "Memory"
+
+-- its line, and the name of its kind
+abbrev pub schedule_error_text : ScheduleError → List ℕ
+schedule_error_text e = codes "line " ++ decimal e.line ++ codes ": " ++ kind_text e.kind
 
 -- what is wrong with a line; nothing is where memory was refused
 abbrev pub kind_view : ScheduleErrorKind → Option semantics.ScheduleErrorKind

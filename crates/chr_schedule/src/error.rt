@@ -19,6 +19,23 @@ pub enum ScheduleErrorKind {
     Memory,
 }
 
+impl ScheduleErrorKind {
+    ghost use Rattle.std.specs.Prelude.{◌≡◌};
+    ghost use Rattle.chr_schedule.specs.ErrorView.{kind_text};
+
+    /// Its name.
+    pub fn word(self) -> &'static str
+        ensures { result.now ≡ kind_text self }
+    {
+        match self {
+            ScheduleErrorKind::BadLine => "BadLine",
+            ScheduleErrorKind::BadNumber => "BadNumber",
+            ScheduleErrorKind::TooManyEvents => "TooManyEvents",
+            ScheduleErrorKind::Memory => "Memory",
+        }
+    }
+}
+
 impl fmt::Display for ScheduleErrorKind {
     ghost use Rattle.std.specs.Prelude.{Some};
     ghost use Rattle.chr_schedule.specs.ErrorView.{kind_text};
@@ -26,12 +43,7 @@ impl fmt::Display for ScheduleErrorKind {
     ghost output = { λ kind. Some (kind_text kind) };
 
     fn fmt<W: fmt::Write>(&self, f: &mut fmt::Formatter<W>) -> fmt::Result {
-        f.write_str(match self {
-            ScheduleErrorKind::BadLine => "BadLine",
-            ScheduleErrorKind::BadNumber => "BadNumber",
-            ScheduleErrorKind::TooManyEvents => "TooManyEvents",
-            ScheduleErrorKind::Memory => "Memory",
-        })
+        f.write_str(self.word())
     }
 }
 
@@ -45,7 +57,7 @@ impl From<AllocError> for ScheduleErrorKind {
     }
 }
 
-/// A text is no schedule: what is wrong first, and where.
+/// A text is no schedule: what is wrong first, and where. It is displayed as its line and the name of its kind.
 #[derive(Clone, Copy, PartialEq, Eq, Debug, Drop)]
 pub struct ScheduleError {
     /// What is wrong.
@@ -70,3 +82,16 @@ impl ScheduleError {
         ScheduleError { kind, line }
     }
 }
+
+impl fmt::Display for ScheduleError {
+    ghost use Rattle.std.specs.Prelude.{Some};
+    ghost use Rattle.chr_schedule.specs.ErrorView.{schedule_error_text};
+
+    ghost output = { λ error. Some (schedule_error_text error) };
+
+    fn fmt<W: fmt::Write>(&self, f: &mut fmt::Formatter<W>) -> fmt::Result {
+        write!(f, "line {}: {}", self.line, self.kind)
+    }
+}
+
+impl Error for ScheduleError {}

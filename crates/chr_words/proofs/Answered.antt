@@ -1,6 +1,6 @@
 -- The answer is what the words ask for.
 use Rattle.std.proofs.Common.{◌≡◌, ◌∙◌, ℕ, Bool, true, false, refl, sym, ap, subst, List, [], ◌∷◌, Option, Some, None, codes, true≢false, inl, inr}
-use Rattle.std.specs.Prelude.{◌⊎◌}
+use Rattle.std.specs.Prelude.{◌⊎◌, option_map}
 use Rattle.clap.specs.Kinds.{IsAmong, Kinds}
 use Rattle.clap.specs.Faults.{fault_of}
 use Rattle.clap.specs.Simple.{matches_of}
@@ -12,24 +12,29 @@ use Rattle.clap.specs.declared.parser.matches.Found.{Found}
 use Rattle.chr_words.specs.declared.words.Request.{Request}
 use Rattle.chr_words.specs.declared.words.Request.TheVariants.{Run, Help, Refused}
 use Rattle.chr_words.specs.App.{chr_app}
-use Rattle.chr_words.specs.Answer.{IsAnswer, IsRead, IsRefusal, budget_of}
-use Rattle.chr_words.specs.Words.{Asks, RunWords, asks_of, help, refused, run}
-use Rattle.chr_words.proofs.Rows.{IsNumbered}
+use Rattle.chr_words.specs.Answer.{IsAnswer, IsRead, IsRefusal}
+use Rattle.chr_words.specs.Words.{Asks, RunWords, Values, asks_of, budget, help, number_of, refused, run}
+use Rattle.chr_words.proofs.Rows.{AreFit}
 use Rattle.chr_words.proofs.Turns.{Shows, are_wrong, is_wrong}
 use Rattle.chr_words.proofs.Walked.{IsParsedAs, all_parsed}
 
-budget_is : (f : Found) (budget : Option Text) (n : ℕ) → one_of (codes "budget") (rows_of f) ≡ budget → IsNumbered budget → (program query : _) → IsRead f (Run program query n) → n ≡ budget_of budget
-budget_is f None n is numbered program query read = read.2 (one_text-rows f (codes "budget") ∙ is)
-budget_is f (Some text) n is numbered program query read = read.3 text (one_text-rows f (codes "budget") ∙ is) (numbered text refl)
+budget_is : (f : Found) (values : Values) (b : Option ℕ) → one_of (codes "budget") (rows_of f) ≡ values.budget → AreFit values → (program query replay : _) → IsRead f (Run program query b replay)
+    → b ≡ option_map number_of values.budget
+budget_is f values b is fit program query replay read = go values.budget refl
+  where
+    go : (said : Option Text) → values.budget ≡ said → b ≡ option_map number_of said
+    go None e = read.2 (one_text-rows f (codes "budget") ∙ is ∙ e)
+    go (Some text) e = read.3 text (one_text-rows f (codes "budget") ∙ is ∙ e) (fit budget text e)
 
 shown : (words : List Text) (f : Found) (run_words : RunWords) (r : Request) → asks_of words ≡ run run_words → rows_of f ≡ matches_of chr_app words → Shows run_words (matches_of chr_app words)
     → IsRead f r → IsAnswer words r
-shown words f run_words (Run program query n) asks rows shows read = (
+shown words f run_words (Run program query b replay) asks rows shows read = (
   run_words,
   asks,
   read.0 ∙ first_value-rows f (codes "PROGRAM") ∙ ap (first_of (codes "PROGRAM")) rows ∙ shows.program,
   read.1 ∙ first_value-rows f (codes "QUERY") ∙ ap (first_of (codes "QUERY")) rows ∙ shows.query,
-  budget_is f run_words.budget n (ap (one_of (codes "budget")) rows ∙ shows.budget) shows.numbered program query read,
+  budget_is f run_words.values b (ap (one_of (codes "budget")) rows ∙ shows.budget) shows.fit program query replay read,
+  read.4 ∙ first_value-rows f (codes "replay") ∙ ap (first_of (codes "replay")) rows ∙ shows.replay,
 )
 shown words f run_words (Help text) asks rows shows read = absurd read
 shown words f run_words (Refused text) asks rows shows read = absurd read
@@ -72,7 +77,7 @@ among_at k a b e among = subst (λ (kinds : Kinds). IsAmong k kinds) e among
 
 -- words at which clap gives an error
 pub answered_refusal : (words : List Text) (k : ErrorKind) (r : Request) → (k ≡ kind.OutOfMemory) ⊎ IsAmong k (fault_of chr_app words) → IsRefusal k r → IsAnswer words r
-answered_refusal words k (Run program query n) has says = absurd says
+answered_refusal words k (Run program query b replay) has says = absurd says
 answered_refusal words k (Help text) has says = go (asks_of words) refl (all_parsed words)
   where
     among : IsAmong k (fault_of chr_app words)

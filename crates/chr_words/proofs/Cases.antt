@@ -6,10 +6,11 @@ use Rattle.std.specs.Str.{bytes_eq, chars}
 use Rattle.std.proofs.Math.Bool.{or-false}
 use Rattle.clap.specs.Kinds.{Kinds, or_else}
 use Rattle.clap.specs.Faults.{bundle_fault, bundle_step_fault, flags_fault, long_fault, settle_fault, short_fault, step_fault, use_fault}
-use Rattle.clap.specs.Walk.{Held, Row, Rule, Text, Waiting, Walk, after_flag, after_step, arg_by_long, arg_by_short, bundle_met, bundle_step, done, long_met, short_met, plain, plain_word, reacted, settled, short_or_plain}
+use Rattle.clap.specs.Walk.{Held, Row, Rule, Text, Waiting, Walk, after_flag, after_step, arg_by_long, arg_by_short, bundle_met, bundle_step, done, idle, long_met, option, short_met, plain, plain_word, reacted, settled_rows, short_or_plain, used}
 use Rattle.clap.specs.declared.error.kind.ErrorKind.{ErrorKind}
 use Rattle.clap.specs.declared.error.kind.ErrorKind.TheVariants as kind
-use Rattle.chr_words.proofs.Rows.{budget_built, help_built}
+use Rattle.chr_words.specs.Words.{Taker, budget, name_of, named, replay}
+use Rattle.chr_words.proofs.Rows.{budget_built, built_of, help_built, replay_built}
 use Rattle.chr_words.proofs.Turns.{is_wrong, rules, top}
 use Rattle.chr_words.proofs.Steps.{at, fault_by, held_at, walk_by}
 
@@ -19,11 +20,25 @@ pub record Wrong (fault : Kinds) : Type 0 where
   pub is : fault ≡ kind ∷ []
   pub wrong : is_wrong kind ≡ true
 
-abbrev pub by_names : Bool → Bool → Option Rule
-by_names a b = cond a (Some budget_built) (cond b (Some help_built) None)
+-- the argument of a name, by the option that takes a value, or by whether the name is that of `--help`
+abbrev pub by_names : Option Taker → Bool → Option Rule
+by_names (Some o) b = Some (built_of o)
+by_names None b = cond b (Some help_built) None
 
-found_is : (name : Text) (a b : Bool) → bytes_eq (codes "budget") name ≡ a → bytes_eq (codes "help") name ≡ b → arg_by_long rules name ≡ by_names a b
-found_is name a b is_a is_b = ap₂ (λ x y. by_names (x || false) (y || false)) is_a is_b ∙ ap₂ by_names (or-false a) (or-false b)
+abbrev named_by : Bool → Bool → Option Taker
+named_by a c = cond a (Some budget) (cond c (Some replay) None)
+
+abbrev rule_by : Bool → Bool → Bool → Option Rule
+rule_by a c b = cond a (Some budget_built) (cond c (Some replay_built) (cond b (Some help_built) None))
+
+rule_is : (a c b : Bool) → rule_by (a || false) (c || false) (b || false) ≡ by_names (named_by a c) b
+rule_is true c b = refl
+rule_is false true b = refl
+rule_is false false true = refl
+rule_is false false false = refl
+
+found_is : (name : Text) (n : Option Taker) (b : Bool) → named name ≡ n → bytes_eq (codes "help") name ≡ b → arg_by_long rules name ≡ by_names n b
+found_is name n b is_n is_b = rule_is (bytes_eq (codes "budget") name) (bytes_eq (codes "replay") name) (bytes_eq (codes "help") name) ∙ ap₂ by_names is_n is_b
 
 -- a long option, by the argument that it names
 abbrev pub long_fault_by : Waiting → ℕ → Held → Text → Option Text → Option Rule → Kinds
@@ -36,47 +51,65 @@ long_walk_by waiting position rows pending word v found =
     let met = after_flag rules waiting word (long_met rules found v (held_at rows pending)).0 (long_met rules found v (held_at rows pending)).1 in
     after_step rules word (at false waiting position rows pending) met.0 met.1
 
-module _ (waiting : Waiting) (position : ℕ) (rows : List Row) (pending : Option (Text × List Text)) (word name : Text) (v : Option Text) (a b : Bool)
-    (is_a : bytes_eq (codes "budget") name ≡ a) (is_b : bytes_eq (codes "help") name ≡ b) where
-  pub long_fault_is : fault_by waiting position (held_at rows pending) word false (Some (name, v)) ≡ long_fault_by waiting position (held_at rows pending) word v (by_names a b)
-  long_fault_is = ap (long_fault_by waiting position (held_at rows pending) word v) (found_is name a b is_a is_b)
+module _ (waiting : Waiting) (position : ℕ) (rows : List Row) (pending : Option (Text × List Text)) (word name : Text) (v : Option Text) (n : Option Taker) (b : Bool)
+    (is_n : named name ≡ n) (is_b : bytes_eq (codes "help") name ≡ b) where
+  pub long_fault_is : fault_by waiting position (held_at rows pending) word false (Some (name, v)) ≡ long_fault_by waiting position (held_at rows pending) word v (by_names n b)
+  long_fault_is = ap (long_fault_by waiting position (held_at rows pending) word v) (found_is name n b is_n is_b)
 
-  pub long_walk_is : walk_by waiting position rows pending word false (Some (name, v)) ≡ long_walk_by waiting position rows pending word v (by_names a b)
-  long_walk_is = ap (long_walk_by waiting position rows pending word v) (found_is name a b is_a is_b)
+  pub long_walk_is : walk_by waiting position rows pending word false (Some (name, v)) ≡ long_walk_by waiting position rows pending word v (by_names n b)
+  long_walk_is = ap (long_walk_by waiting position rows pending word v) (found_is name n b is_n is_b)
+
+-- an option that takes a value, without one and with one
+module _ (waiting : Waiting) (position : ℕ) (rows : List Row) (pending : Option (Text × List Text)) (word : Text) where
+  pub alone_fault : (o : Taker) → long_fault_by waiting position (held_at rows pending) word None (Some (built_of o)) ≡ or_else (settle_fault rules false (held_at rows pending)) []
+  alone_fault budget = refl
+  alone_fault replay = refl
+
+  pub alone_walk : (o : Taker) → long_walk_by waiting position rows pending word None (Some (built_of o))
+      ≡ at false (option (name_of o)) position (settled_rows rules pending rows) (Some (name_of o, []))
+  alone_walk budget = refl
+  alone_walk replay = refl
+
+  pub valued_fault : (o : Taker) (x : Text) → long_fault_by waiting position (held_at rows pending) word (Some x) (Some (built_of o))
+      ≡ or_else (or_else (settle_fault rules false (held_at rows pending)) (use_fault false (built_of o) (x ∷ []) (settled_rows rules pending rows))) []
+  valued_fault budget x = refl
+  valued_fault replay x = refl
+
+  pub valued_walk : (o : Taker) (x : Text) → long_walk_by waiting position rows pending word (Some x) (Some (built_of o))
+      ≡ at false idle position (used (built_of o) (x ∷ []) (settled_rows rules pending rows)) None
+  valued_walk budget x = refl
+  valued_walk replay x = refl
 
 -- where what is pending fails, a long option fails
 pub long_wrong : (waiting : Waiting) (position : ℕ) (rows : List Row) (pending : Option (Text × List Text)) (word name : Text) (v : Option Text) (k : ErrorKind)
     → settle_fault rules false (held_at rows pending) ≡ k ∷ [] → is_wrong k ≡ true → Wrong (fault_by waiting position (held_at rows pending) word false (Some (name, v)))
-long_wrong waiting position rows pending word name v k is wrong = go (bytes_eq (codes "budget") name) (bytes_eq (codes "help") name) v refl refl
+long_wrong waiting position rows pending word name v k is wrong = go (named name) (bytes_eq (codes "help") name) v refl refl
   where
-    h : Held
-    h = held_at rows pending
-
-    go : (a b : Bool) (v : Option Text) → bytes_eq (codes "budget") name ≡ a → bytes_eq (codes "help") name ≡ b → Wrong (fault_by waiting position (held_at rows pending) word false (Some (name, v)))
-    go true b None is_a is_b = record {
+    go : (n : Option Taker) (b : Bool) (v : Option Text) → named name ≡ n → bytes_eq (codes "help") name ≡ b → Wrong (fault_by waiting position (held_at rows pending) word false (Some (name, v)))
+    go (Some o) b None is_n is_b = record {
       kind = k;
-      is = long_fault_is waiting position rows pending word name None true b is_a is_b ∙ ap (λ f. or_else f []) is;
+      is = long_fault_is waiting position rows pending word name None (Some o) b is_n is_b ∙ alone_fault waiting position rows pending word o ∙ ap (λ f. or_else f []) is;
       wrong = wrong;
     }
-    go true b (Some x) is_a is_b = record {
+    go (Some o) b (Some x) is_n is_b = record {
       kind = k;
-      is = long_fault_is waiting position rows pending word name (Some x) true b is_a is_b
-          ∙ ap (λ f. or_else (or_else f (use_fault false budget_built (x ∷ []) (settled rules (held_at rows pending)).rows)) []) is;
+      is = long_fault_is waiting position rows pending word name (Some x) (Some o) b is_n is_b ∙ valued_fault waiting position rows pending word o x
+          ∙ ap (λ f. or_else (or_else f (use_fault false (built_of o) (x ∷ []) (settled_rows rules pending rows))) []) is;
       wrong = wrong;
     }
-    go false true None is_a is_b = record {
+    go None true None is_n is_b = record {
       kind = k;
-      is = long_fault_is waiting position rows pending word name None false true is_a is_b ∙ ap (λ f. or_else (or_else f (kind.DisplayHelp ∷ [])) []) is;
+      is = long_fault_is waiting position rows pending word name None None true is_n is_b ∙ ap (λ f. or_else (or_else f (kind.DisplayHelp ∷ [])) []) is;
       wrong = wrong;
     }
-    go false true (Some x) is_a is_b = record {
+    go None true (Some x) is_n is_b = record {
       kind = kind.TooManyValues;
-      is = long_fault_is waiting position rows pending word name (Some x) false true is_a is_b;
+      is = long_fault_is waiting position rows pending word name (Some x) None true is_n is_b;
       wrong = refl;
     }
-    go false false v is_a is_b = record {
+    go None false v is_n is_b = record {
       kind = kind.UnknownArgument;
-      is = long_fault_is waiting position rows pending word name v false false is_a is_b;
+      is = long_fault_is waiting position rows pending word name v None false is_n is_b;
       wrong = refl;
     }
 

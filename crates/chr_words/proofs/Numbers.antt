@@ -1,6 +1,6 @@
 -- What a number is to clap and to std.
-use Rattle.std.proofs.Common.{◌≡◌, ◌<◌, ◌^◌, ◌&&◌, ℕ, Bool, true, false, refl, sym, arith, List, [], ◌∷◌, Option, Some, None, Result, Ok, Err, length, nat_lt, true≢false, ltb-true}
-use Rattle.std.specs.Prelude.{nat_le, unwrap_or}
+use Rattle.std.proofs.Common.{◌≡◌, ◌<◌, ◌^◌, ◌&&◌, ℕ, Bool, true, false, refl, sym, ap, arith, List, [], ◌∷◌, Option, Some, None, Result, Ok, Err, length, nat_lt, true≢false, ltb-true}
+use Rattle.std.specs.Prelude.{nat_le}
 use Rattle.std.specs.List.{list_all}
 use Rattle.std.specs.Char.{digit_value}
 use Rattle.std.specs.Str.Parse.{AllDigits, IsNumeral, ParsesUnsigned, digits_value, without_leading_plus}
@@ -8,7 +8,7 @@ use Rattle.clap.specs.Matches.{ReadsOne}
 use Rattle.clap.specs.ValueTests.{accepts}
 use Rattle.clap.specs.declared.builder.value_parser.ValueParser.TheVariants as vp
 use Rattle.std.proofs.lemmas.Bool.{leb-false}
-use Rattle.chr_words.specs.Words.{is_number}
+use Rattle.chr_words.specs.Words.{is_number, number_of}
 
 pub both : (a b : Bool) → (a && b) ≡ true → (a ≡ true) × (b ≡ true)
 both true b e = (refl, e)
@@ -28,8 +28,8 @@ number_is text e =
 
 -- a number is read
 pub number_read : {E : Type 0} (gives : List ℕ → Result ℕ E → Type 0) (text : List ℕ) (r : Option ℕ) → ((x : Result ℕ E) → gives text x → ParsesUnsigned 64 10 text x)
-    → ReadsOne gives text r → is_number text ≡ true → unwrap_or r 100000 ≡ digits_value 10 (without_leading_plus text)
-number_read gives text (Some v) only h n = (only (Ok v) h).1
+    → ReadsOne gives text r → is_number text ≡ true → r ≡ Some (number_of text)
+number_read gives text (Some v) only h n = ap Some (only (Ok v) h).1
 number_read gives text None only h n = absurd (only (Err h.0) h.1 (number_is text n))
 
 le_is : (n : ℕ) → n < 2 ^ 64 → nat_le n 18446744073709551615 ≡ true

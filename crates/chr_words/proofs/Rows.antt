@@ -4,12 +4,13 @@ use Rattle.std.specs.Prelude.{is_some, slice_get}
 use Rattle.std.specs.List.{find}
 use Rattle.std.specs.Prelude.{option_and_then, unwrap_or}
 use Rattle.std.specs.Str.{bytes_eq}
-use Rattle.clap.specs.Walk.{Row, Rule, Text, first_of, has_row, one_of, row_text, stronger, used, with_values, without}
+use Rattle.clap.specs.Walk.{Row, Rule, Text, first_of, has_row, one_of, reading_by, row_text, stronger, used, with_values, without}
 use Rattle.clap.specs.Simple.{filled, help_rule, with_index}
 use Rattle.clap.specs.declared.parser.matches.ValueSource.{ValueSource}
+use Rattle.clap.specs.declared.parser.matches.ValueSource.TheVariants.{CommandLine}
 use Rattle.clap.specs.declared.builder.value_parser.Reading.{Reading as How}
-use Rattle.chr_words.specs.Words.{is_number}
-use Rattle.chr_words.specs.App.{budget_rule, program_rule, query_rule}
+use Rattle.chr_words.specs.Words.{RunWords, Taker, Values, budget, fits, name_of, replay, value_of, with_value}
+use Rattle.chr_words.specs.App.{budget_rule, program_rule, query_rule, replay_rule}
 
 abbrev pub program_built : Rule
 program_built = with_index 1 (filled program_rule)
@@ -20,8 +21,22 @@ query_built = with_index 2 (filled query_rule)
 abbrev pub budget_built : Rule
 budget_built = with_index 3 (filled budget_rule)
 
+abbrev pub replay_built : Rule
+replay_built = with_index 3 (filled replay_rule)
+
+abbrev pub built_of : Taker → Rule
+built_of budget = budget_built
+built_of replay = replay_built
+
 abbrev pub help_built : Rule
 help_built = with_index 3 (filled help_rule)
+
+-- how its value is read
+abbrev how_of : Taker → How
+how_of o = reading_by (built_of o)
+
+abbrev line : ValueSource
+line = CommandLine
 
 abbrev pub new_row : Text → How → ValueSource → List Text → Row
 new_row id how s values = record {
@@ -108,55 +123,100 @@ HasFirst-same id n rows v e none is_first is_one = record {
   has = has_row-same id n rows e;
 }
 
--- what stands for a number is one
-abbrev pub IsNumbered : Option Text → Type 0
-IsNumbered budget = (text : Text) → budget ≡ Some text → is_number text ≡ true
+-- each value is one that its option takes
+abbrev pub AreFit : Values → Type 0
+AreFit values = (o : Taker) (text : Text) → value_of o values ≡ Some text → fits o text ≡ true
 
 -- the rows are those of what was said
-pub record Holds (program query budget : Option Text) (rows : List Row) : Type 0 where
+pub record Holds (program query : Option Text) (values : Values) (rows : List Row) : Type 0 where
   pub at_program : HasFirst (codes "PROGRAM") rows program
   pub at_query : HasFirst (codes "QUERY") rows query
-  pub at_budget : HasFirst (codes "budget") rows budget
+  pub at_value : (o : Taker) → HasFirst (name_of o) rows (value_of o values)
   pub ordered : program ≡ None → query ≡ None
-  pub numbered : IsNumbered budget
+  pub fit : AreFit values
 
 -- one use more
 used_is : (id : Text) (how : How) (s : ValueSource) (vs : List Text) (rows : List Row) → has_row id rows ≡ false
     → with_values id how s vs (without id rows) ≡ rows ++ new_row id how s vs ∷ []
 used_is id how s vs rows none = ap (with_values id how s vs) (without-none id rows none) ∙ with_values-none id how s vs rows none
 
-pub program_used : (query budget : Option Text) (rows : List Row) (v : Text) → Holds None query budget rows → Holds (Some v) query budget (used program_built (v ∷ []) rows)
-program_used query budget rows v h =
+-- an id that no option has is another one
+values_other : (n : Row) (rows : List Row) (values : Values) → ((o : Taker) → bytes_eq n.id (name_of o) ≡ false) → ((o : Taker) → HasFirst (name_of o) rows (value_of o values))
+    → (o : Taker) → HasFirst (name_of o) (rows ++ n ∷ []) (value_of o values)
+values_other n rows values other at o = HasFirst-other _ n rows _ (other o) (at o)
+
+pub program_used : (query : Option Text) (values : Values) (rows : List Row) (v : Text) → Holds None query values rows → Holds (Some v) query values (used program_built (v ∷ []) rows)
+program_used query values rows v h =
     let e = used_is (codes "PROGRAM") _ _ (v ∷ []) rows h.at_program.has in
-    let more : List Row → Type 0 = Holds (Some v) query budget in
+    let more : List Row → Type 0 = Holds (Some v) query values in
     subst more (sym e) (record {
       at_program = HasFirst-same _ _ rows v refl h.at_program.has refl refl;
       at_query = HasFirst-other _ _ rows query refl h.at_query;
-      at_budget = HasFirst-other _ _ rows budget refl h.at_budget;
+      at_value = values_other _ rows values other h.at_value;
       ordered = λ bad. absurd (true≢false (ap is_some bad));
-      numbered = h.numbered;
+      fit = h.fit;
     })
+  where
+    other : (o : Taker) → bytes_eq (codes "PROGRAM") (name_of o) ≡ false
+    other budget = refl
+    other replay = refl
 
-pub query_used : (p : Text) (budget : Option Text) (rows : List Row) (v : Text) → Holds (Some p) None budget rows → Holds (Some p) (Some v) budget (used query_built (v ∷ []) rows)
-query_used p budget rows v h =
+pub query_used : (p : Text) (values : Values) (rows : List Row) (v : Text) → Holds (Some p) None values rows → Holds (Some p) (Some v) values (used query_built (v ∷ []) rows)
+query_used p values rows v h =
     let e = used_is (codes "QUERY") _ _ (v ∷ []) rows h.at_query.has in
-    let more : List Row → Type 0 = Holds (Some p) (Some v) budget in
+    let more : List Row → Type 0 = Holds (Some p) (Some v) values in
     subst more (sym e) (record {
       at_program = HasFirst-other _ _ rows (Some p) refl h.at_program;
       at_query = HasFirst-same _ _ rows v refl h.at_query.has refl refl;
-      at_budget = HasFirst-other _ _ rows budget refl h.at_budget;
+      at_value = values_other _ rows values other h.at_value;
       ordered = λ bad. absurd (true≢false (ap is_some bad));
-      numbered = h.numbered;
+      fit = h.fit;
     })
+  where
+    other : (o : Taker) → bytes_eq (codes "QUERY") (name_of o) ≡ false
+    other budget = refl
+    other replay = refl
 
-pub budget_used : (program query : Option Text) (rows : List Row) (v : Text) → is_number v ≡ true → Holds program query None rows → Holds program query (Some v) (used budget_built (v ∷ []) rows)
-budget_used program query rows v is h =
-    let e = used_is (codes "budget") _ _ (v ∷ []) rows h.at_budget.has in
-    let more : List Row → Type 0 = Holds program query (Some v) in
+-- ---- one value more
+
+abbrev taken_rows : Taker → Text → List Row → List Row
+taken_rows o v rows = used (built_of o) (v ∷ []) rows
+
+-- the value is the one of its option, and each other option keeps its own
+at_taken : (o : Taker) (values : Values) (rows : List Row) (v : Text) → value_of o values ≡ None → ((p : Taker) → HasFirst (name_of p) rows (value_of p values))
+    → (p : Taker) → HasFirst (name_of p) (rows ++ new_row (name_of o) (how_of o) line (v ∷ []) ∷ []) (value_of p (with_value o v values))
+at_taken budget values rows v none at budget = HasFirst-same _ _ rows v refl ((at budget).has ∙ ap is_some none) refl refl
+at_taken budget values rows v none at replay = HasFirst-other _ _ rows _ refl (at replay)
+at_taken replay values rows v none at budget = HasFirst-other _ _ rows _ refl (at budget)
+at_taken replay values rows v none at replay = HasFirst-same _ _ rows v refl ((at replay).has ∙ ap is_some none) refl refl
+
+fit_taken : (o : Taker) (values : Values) (v : Text) → fits o v ≡ true → AreFit values → AreFit (with_value o v values)
+fit_taken budget values v is fit budget text e = ap (fits budget) (sym (ap (λ x. unwrap_or x v) e)) ∙ is
+fit_taken budget values v is fit replay text e = fit replay text e
+fit_taken replay values v is fit budget text e = fit budget text e
+fit_taken replay values v is fit replay text e = refl
+
+taken_is : (o : Taker) (v : Text) (rows : List Row) → has_row (name_of o) rows ≡ false → taken_rows o v rows ≡ rows ++ new_row (name_of o) (how_of o) line (v ∷ []) ∷ []
+taken_is budget v rows none = used_is (codes "budget") _ _ (v ∷ []) rows none
+taken_is replay v rows none = used_is (codes "replay") _ _ (v ∷ []) rows none
+
+pub value_used : (o : Taker) (program query : Option Text) (values : Values) (rows : List Row) (v : Text) → fits o v ≡ true → value_of o values ≡ None → Holds program query values rows
+    → Holds program query (with_value o v values) (used (built_of o) (v ∷ []) rows)
+value_used o program query values rows v is none h =
+    let e = taken_is o v rows ((h.at_value o).has ∙ ap is_some none) in
+    let more : List Row → Type 0 = Holds program query (with_value o v values) in
     subst more (sym e) (record {
-      at_program = HasFirst-other _ _ rows program refl h.at_program;
-      at_query = HasFirst-other _ _ rows query refl h.at_query;
-      at_budget = HasFirst-same _ _ rows v refl h.at_budget.has refl refl;
+      at_program = HasFirst-other _ _ rows program (other_program o) h.at_program;
+      at_query = HasFirst-other _ _ rows query (other_query o) h.at_query;
+      at_value = at_taken o values rows v none h.at_value;
       ordered = h.ordered;
-      numbered = λ text e. ap is_number (sym (ap (λ o. unwrap_or o v) e)) ∙ is;
+      fit = fit_taken o values v is h.fit;
     })
+  where
+    other_program : (o : Taker) → bytes_eq (name_of o) (codes "PROGRAM") ≡ false
+    other_program budget = refl
+    other_program replay = refl
+
+    other_query : (o : Taker) → bytes_eq (name_of o) (codes "QUERY") ≡ false
+    other_query budget = refl
+    other_query replay = refl

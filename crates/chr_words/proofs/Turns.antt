@@ -10,10 +10,10 @@ use Rattle.clap.specs.declared.error.kind.ErrorKind.{ErrorKind}
 use Rattle.clap.specs.declared.error.kind.ErrorKind.TheVariants as kind
 use Rattle.chr_words.specs.Words.{Asks, RunWords, help, refused, run}
 use Rattle.chr_words.specs.App.{chr_app}
-use Rattle.chr_words.proofs.Rows.{IsNumbered, budget_built, help_built, program_built, query_built}
+use Rattle.chr_words.proofs.Rows.{AreFit, budget_built, help_built, program_built, query_built, replay_built}
 
 abbrev pub rules : List Rule
-rules = program_built ∷ query_built ∷ budget_built ∷ help_built ∷ []
+rules = program_built ∷ query_built ∷ budget_built ∷ replay_built ∷ help_built ∷ []
 
 abbrev pub top : Shape
 top = (built chr_app).top
@@ -51,8 +51,9 @@ fault_at w words = fault_from (walk_fault top [] w words) (end_of w words)
 pub record Shows (run_words : RunWords) (rows : List Row) : Type 0 where
   pub program : first_of (codes "PROGRAM") rows ≡ run_words.program
   pub query : first_of (codes "QUERY") rows ≡ run_words.query
-  pub budget : one_of (codes "budget") rows ≡ run_words.budget
-  pub numbered : IsNumbered run_words.budget
+  pub budget : one_of (codes "budget") rows ≡ run_words.values.budget
+  pub replay : first_of (codes "replay") rows ≡ run_words.values.replay
+  pub fit : AreFit run_words.values
 
 -- the walk over the words ends as they ask
 abbrev pub Agrees : Asks → Walk → List Text → Type 0
@@ -95,9 +96,10 @@ no_default rows a e = ap (λ d. cond (has_row a.id rows) rows (default_rows a.id
 pub finished_is : (h : Held) → finished rules h ≡ (settled rules h).rows
 finished_is h =
     let R = (settled rules h).rows in
-    ap (λ r. with_default (with_default (with_default r query_built) budget_built) help_built) (no_default R program_built refl)
-    ∙ ap (λ r. with_default (with_default r budget_built) help_built) (no_default R query_built refl)
-    ∙ ap (λ r. with_default r help_built) (no_default R budget_built refl)
+    ap (λ r. with_default (with_default (with_default (with_default r query_built) budget_built) replay_built) help_built) (no_default R program_built refl)
+    ∙ ap (λ r. with_default (with_default (with_default r budget_built) replay_built) help_built) (no_default R query_built refl)
+    ∙ ap (λ r. with_default (with_default r replay_built) help_built) (no_default R budget_built refl)
+    ∙ ap (λ r. with_default r help_built) (no_default R replay_built refl)
     ∙ no_default R help_built refl
 
 no_default_fault : (rows : List Row) (more : List Rule) → list_all (λ a. is_empty a.defaults) more ≡ true → defaults_fault rows more ≡ []

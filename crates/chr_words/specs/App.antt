@@ -17,5 +17,10 @@ budget_rule = record (new_rule (codes "budget")) {
   parser = Some (vp.Unsigned 0 18446744073709551615);
 }
 
+abbrev pub replay_rule : Rule
+replay_rule = record (new_rule (codes "replay")) { long = Some (codes "replay"); value_names = 1 }
+
 abbrev pub chr_app : App
-chr_app = with_rule (with_rule (with_rule (on_top (λ s. record s { no_binary_name = true }) (new_app (codes "chr"))) program_rule) query_rule) budget_rule
+chr_app =
+    let named = on_top (λ s. record s { no_binary_name = true }) (new_app (codes "chr")) in
+    with_rule (with_rule (with_rule (with_rule named program_rule) query_rule) budget_rule) replay_rule

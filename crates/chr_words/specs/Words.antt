@@ -6,14 +6,39 @@ use Rattle.std.specs.Str.{byte, bytes_eq, chars}
 use Rattle.std.specs.Str.Parse.{digits_value, without_leading_plus}
 use Rattle.clap.specs.Lexer.{long_of, short_of}
 
--- what was said: the program, the query and the digits of the budget
+-- the options that take a value
+pub data Taker : Type 0 where
+  budget : Taker
+  replay : Taker
+
+-- their values, as they were said
+pub record Values : Type 0 where
+  pub budget : Option (List ℕ)
+  pub replay : Option (List ℕ)
+
+abbrev pub no_values : Values
+no_values = record { budget = None; replay = None }
+
+abbrev pub name_of : Taker → List ℕ
+name_of budget = codes "budget"
+name_of replay = codes "replay"
+
+abbrev pub value_of : Taker → Values → Option (List ℕ)
+value_of budget values = values.budget
+value_of replay values = values.replay
+
+abbrev pub with_value : Taker → List ℕ → Values → Values
+with_value budget word values = record values { budget = Some word }
+with_value replay word values = record values { replay = Some word }
+
+-- what was said: the program, the query, and the values of the options
 pub record RunWords : Type 0 where
   pub program : Option (List ℕ)
   pub query : Option (List ℕ)
-  pub budget : Option (List ℕ)
+  pub values : Values
 
 abbrev pub no_words : RunWords
-no_words = record { program = None; query = None; budget = None }
+no_words = record { program = None; query = None; values = no_values }
 
 -- what all the words ask for
 pub data Asks : Type 0 where
@@ -21,10 +46,10 @@ pub data Asks : Type 0 where
   help : Asks
   refused : Asks
 
--- where the reading stands between two words: `awaits` where `--budget` still wants its number, `plain` after the word `--`
+-- where the reading stands between two words: `awaits` where an option still wants its value, `plain` after the word `--`
 pub record Reading : Type 0 where
   pub run_words : RunWords
-  pub awaits : Bool
+  pub awaits : Option Taker
   pub plain : Bool
 
 -- what a word comes to
@@ -38,48 +63,63 @@ is_number text =
     let digits = without_leading_plus text in
     (nat_lt 0 (length digits) && list_all (λ d. nat_lt (digit_value d) 10) digits) && nat_lt (digits_value 10 digits) (2 ^ 64)
 
+-- its value
+abbrev pub number_of : List ℕ → ℕ
+number_of text = digits_value 10 (without_leading_plus text)
+
+-- the option takes this word for its value
+abbrev pub fits : Taker → List ℕ → Bool
+fits budget word = is_number word
+fits replay word = true
+
 -- a word that is the program, the query, or one too many
 abbrev pub operand_step : Reading → List ℕ → Option (List ℕ) → Option (List ℕ) → Step
 operand_step r word None query = goes (record r { run_words = record r.run_words { program = Some word } })
 operand_step r word (Some p) None = goes (record r { run_words = record r.run_words { query = Some word } })
 operand_step r word (Some p) (Some q) = stops refused
 
--- the budget, which is said once
-abbrev pub number_step : Reading → List ℕ → Step
-number_step r word = if is_some r.run_words.budget then stops refused
-    else (if is_number word then goes (record r { run_words = record r.run_words { budget = Some word }; awaits = false }) else stops refused)
+-- the value of an option, which is said once
+abbrev pub taken_step : Reading → Taker → List ℕ → Step
+taken_step r o word = if is_some (value_of o r.run_words.values) then stops refused
+    else (if fits o word then goes (record r { run_words = record r.run_words { values = with_value o word r.run_words.values }; awaits = None }) else stops refused)
 
 -- a word that is no option
-abbrev pub value_step : Reading → List ℕ → Step
-value_step r word = if r.awaits then number_step r word else operand_step r word r.run_words.program r.run_words.query
+abbrev pub value_step : Reading → Option Taker → List ℕ → Step
+value_step r (Some o) word = taken_step r o word
+value_step r None word = operand_step r word r.run_words.program r.run_words.query
 
--- `--budget`, or `--budget=N`
-abbrev pub budget_step : Reading → Option (List ℕ) → Step
-budget_step r None = if is_some r.run_words.budget then stops refused else goes (record r { awaits = true })
-budget_step r (Some number) = number_step r number
+-- an option that takes a value, as `--name` or `--name=value`
+abbrev pub taker_step : Reading → Taker → Option (List ℕ) → Step
+taker_step r o None = if is_some (value_of o r.run_words.values) then stops refused else goes (record r { awaits = Some o })
+taker_step r o (Some value) = taken_step r o value
 
 -- `--help`
 abbrev pub help_step : Option (List ℕ) → Step
 help_step None = stops help
 help_step (Some value) = stops refused
 
--- `--name` or `--name=value`
-abbrev pub long_step : Reading → List ℕ → Option (List ℕ) → Step
-long_step r name value = if bytes_eq (codes "budget") name then budget_step r value else (if bytes_eq (codes "help") name then help_step value else stops refused)
+-- the option of this name
+abbrev pub named : List ℕ → Option Taker
+named name = if bytes_eq (name_of budget) name then Some budget else (if bytes_eq (name_of replay) name then Some replay else None)
+
+-- `--name`, by the option of this name, or by whether the name is `help`
+abbrev pub long_step : Reading → Option Taker → Bool → Option (List ℕ) → Step
+long_step r (Some o) is_help value = taker_step r o value
+long_step r None is_help value = if is_help then help_step value else stops refused
 
 -- `-c` and what follows, where `-h` is the only one
 abbrev pub short_step : Reading → List ℕ → Option ℕ → Step
-short_step r word None = value_step r word
-short_step r word (Some c) = if r.awaits then stops refused else (if byte "h" == c then stops help else stops refused)
+short_step r word None = value_step r r.awaits word
+short_step r word (Some c) = if is_some r.awaits then stops refused else (if byte "h" == c then stops help else stops refused)
 
 -- by its parts, where it is `--name`, or `-c`
 abbrev pub option_step : Reading → List ℕ → Option (List ℕ × Option (List ℕ)) → Option (List ℕ) → Step
-option_step r word (Some parts) letters = if r.awaits then stops refused else long_step r parts.0 parts.1
+option_step r word (Some parts) letters = if is_some r.awaits then stops refused else long_step r (named parts.0) (bytes_eq (codes "help") parts.0) parts.1
 option_step r word None (Some letters) = short_step r word (slice_get (chars letters) 0)
-option_step r word None None = value_step r word
+option_step r word None None = value_step r r.awaits word
 
 abbrev pub parts_step : Reading → List ℕ → Bool → Option (List ℕ × Option (List ℕ)) → Option (List ℕ) → Step
-parts_step r word is_dashes parts letters = if is_dashes then (if r.awaits then stops refused else goes (record r { plain = true })) else option_step r word parts letters
+parts_step r word is_dashes parts letters = if is_dashes then (if is_some r.awaits then stops refused else goes (record r { plain = true })) else option_step r word parts letters
 
 -- what one word comes to
 abbrev pub step : Reading → List ℕ → Step
@@ -92,12 +132,12 @@ asks_after (stops a) next = a
 
 -- what the words ask for, read from here on
 unfoldable pub asks_from : Reading → List (List ℕ) → Asks
-asks_from r [] = if r.awaits then refused else run r.run_words
+asks_from r [] = if is_some r.awaits then refused else run r.run_words
 asks_from r (word ∷ words) = asks_after (step r word) (λ next. asks_from next words)
 
 -- what the words ask for
 abbrev pub asks_of : List (List ℕ) → Asks
-asks_of words = asks_from (record { run_words = no_words; awaits = false; plain = false }) words
+asks_of words = asks_from (record { run_words = no_words; awaits = None; plain = false }) words
 
 -- the word does not begin with a hyphen
 abbrev pub is_plain : List ℕ → Bool

@@ -2,7 +2,7 @@
 ghost use Rattle.std.specs.Prelude.{◌≡◌, ℕ, List, [], ◌∷◌, Some, None, IfOk, false, true, map};
 ghost use Rattle.std.specs.String.{string_bytes};
 ghost use Rattle.clap.specs.Words.{app_of, found_of, kind_of, rule_of};
-ghost use Rattle.chr_words.specs.App.{chr_app, program_rule, query_rule, budget_rule};
+ghost use Rattle.chr_words.specs.App.{chr_app, program_rule, query_rule, budget_rule, replay_rule};
 ghost use Rattle.chr_words.specs.Answer.{IsAnswer, IsRead, IsRefusal, IsRun};
 ghost use Rattle.chr_words.specs.Words.{is_plain};
 
@@ -10,17 +10,19 @@ use clap::error::ErrorKind;
 use clap::{Arg, ArgMatches, Command, Error, value_parser};
 use std::alloc::{AllocError, Global};
 
-/// The budget of a run where the words give none.
-const BUDGET: u64 = 100_000;
-
 /// What the words after the program's name ask for.
 #[derive(Debug, Drop)]
 pub enum Request<'a> {
-    /// A run, of the program in a file, or of the standard input where there is none.
+    /// A run, or the replay of a schedule, by what was said of each.
     Run {
+        /// The path of the program's file.
         program: Option<&'a str>,
+        /// The text of the query.
         query: Option<&'a str>,
-        budget: u64,
+        /// The greatest number of transitions.
+        budget: Option<u64>,
+        /// The path of the schedule's file.
+        replay: Option<&'a str>,
     },
     /// This text of help.
     Help(String),
@@ -53,6 +55,16 @@ fn budget_arg<'a>(alloc: Global) -> Arg<'a>
         .help("The greatest number of transitions, 100000 where not given")
 }
 
+fn replay_arg<'a>(alloc: Global) -> Arg<'a>
+    ensures rule { rule_of result ≡ replay_rule }
+    ensures local { result.global ≡ false }
+{
+    Arg::new(alloc, "replay")
+        .long("replay")
+        .value_name("FILE")
+        .help("Replays the schedule in this file, and stands alone")
+}
+
 /// The words that the program takes.
 fn chr_command<'a>(alloc: Global) -> Result<Command<'a>, AllocError>
     ensures { IfOk result (λ c. app_of c ≡ chr_app) }
@@ -62,7 +74,8 @@ fn chr_command<'a>(alloc: Global) -> Result<Command<'a>, AllocError>
         .about("Runs a query over a program of Constraint Handling Rules")
         .arg(program_arg(alloc))?
         .arg(query_arg(alloc))?
-        .arg(budget_arg(alloc))
+        .arg(budget_arg(alloc))?
+        .arg(replay_arg(alloc))
 }
 
 /// What words that were taken ask for.
@@ -72,7 +85,8 @@ fn run_of<'a>(matches: &ArgMatches<'a>) -> Request<'a>
     Request::Run {
         program: matches.get_str("PROGRAM"),
         query: matches.get_str("QUERY"),
-        budget: matches.get_one::<u64>("budget").unwrap_or(BUDGET),
+        budget: matches.get_one::<u64>("budget"),
+        replay: matches.get_str("replay"),
     }
 }
 
@@ -90,10 +104,9 @@ fn refusal_of<'a>(alloc: Global, error: &Error) -> Result<Request<'a>, AllocErro
 /// What the words after the program's name ask for, as `clap` reads them.
 pub fn asked<'a>(alloc: Global, words: &'a [String]) -> Result<Request<'a>, AllocError>
     ensures asks { IfOk result (IsAnswer (map string_bytes words.entry.now)) }
-    ensures no_words { words.entry.now ≡ [] → IfOk result (IsRun None None 100000) }
+    ensures no_words { words.entry.now ≡ [] → IfOk result (IsRun None None) }
     ensures two_words { (p q : List ℕ) → map string_bytes words.entry.now ≡ p ∷ q ∷ [] → is_plain p
-        ≡ true → is_plain q ≡ true
-        → IfOk result (IsRun (Some p) (Some q) 100000) }
+        ≡ true → is_plain q ≡ true → IfOk result (IsRun (Some p) (Some q)) }
 {
     match chr_command(alloc)?.try_get_matches_from(words) {
         Ok(matches) => Ok(run_of(&matches)),

@@ -1,31 +1,47 @@
 //! Each line that says what is wrong with a text, with its exact bytes.
 use super::words::{answer_to_file, answer_to_input, assert_refuses, whole};
 use super::*;
+use std::sync::Wait;
 
 const DECLARED: &str = ":- chr_constraint p/0, q/0, r/0, t/1.\n";
 
 /// The query is refused, over a program that is accepted: by its words, and where it is the first line of the input.
-fn query_refused(alloc: Global, rt: &impl Abort, query: &str, line: &str) -> Result<(), Fail> {
-    let answer = answer_to_file(alloc, &["there", query], DECLARED.as_bytes())?;
+fn query_refused(
+    alloc: Global,
+    rt: &(impl Abort + Wait),
+    query: &str,
+    line: &str,
+) -> Result<(), Fail> {
+    let answer = answer_to_file(rt, alloc, &["there", query], DECLARED.as_bytes())?;
     assert_refuses(rt, &answer, line);
     bytes_refused(alloc, rt, query.as_bytes(), line)
 }
 
 /// The first line of the input is refused as a query.
-fn bytes_refused(alloc: Global, rt: &impl Abort, query: &[u8], line: &str) -> Result<(), Fail> {
+fn bytes_refused(
+    alloc: Global,
+    rt: &(impl Abort + Wait),
+    query: &[u8],
+    line: &str,
+) -> Result<(), Fail> {
     let mut input = Vec::new(alloc);
     input.extend_from_slice(query)?;
     input.push(b'\n')?;
     input.extend_from_slice(DECLARED.as_bytes())?;
-    let answer = answer_to_input(alloc, &mut whole(input.as_slice()))?;
+    let answer = answer_to_input(rt, alloc, &mut whole(input.as_slice()))?;
     assert_refuses(rt, &answer, line);
     Ok(())
 }
 
 /// The program is refused, whatever the query.
-fn program_refused(alloc: Global, rt: &impl Abort, program: &[u8], line: &str) -> Result<(), Fail> {
+fn program_refused(
+    alloc: Global,
+    rt: &(impl Abort + Wait),
+    program: &[u8],
+    line: &str,
+) -> Result<(), Fail> {
     for query in ["true.", "p ! q."] {
-        let answer = answer_to_file(alloc, &["there", query], program)?;
+        let answer = answer_to_file(rt, alloc, &["there", query], program)?;
         assert_refuses(rt, &answer, line);
     }
     Ok(())
@@ -81,7 +97,7 @@ fn as_deep_as_may_be(rt: HostRuntime) -> Result<(), Fail> {
     input.extend_from_slice(times(rt.alloc(), ")", 256)?.as_slice())?;
     input.extend_from_slice(b".\n".as_slice())?;
     input.extend_from_slice(DECLARED.as_bytes())?;
-    let answer = answer_to_input(rt.alloc(), &mut whole(input.as_slice()))?;
+    let answer = answer_to_input(&rt, rt.alloc(), &mut whole(input.as_slice()))?;
     assert_eq!(rt; answer.status, 0);
     assert!(rt; answer.error.is_empty());
     Ok(())
@@ -193,7 +209,7 @@ fn goal_errors(rt: HostRuntime) -> Result<(), Fail> {
     ] {
         query_refused(rt.alloc(), &rt, query, line)?;
     }
-    let answer = answer_to_file(rt.alloc(), &["there", "\n\n z."], DECLARED.as_bytes())?;
+    let answer = answer_to_file(&rt, rt.alloc(), &["there", "\n\n z."], DECLARED.as_bytes())?;
     assert_refuses(&rt, &answer, "chr: query line 3: Undeclared\n");
     Ok(())
 }
@@ -222,7 +238,7 @@ fn hostile_texts(rt: HostRuntime) -> Result<(), Fail> {
 #[test]
 fn a_comment_is_no_program(rt: HostRuntime) -> Result<(), Fail> {
     let row = times(rt.alloc(), "%", 1_048_576)?;
-    let answer = answer_to_file(rt.alloc(), &["there", "true."], row.as_slice())?;
+    let answer = answer_to_file(&rt, rt.alloc(), &["there", "true."], row.as_slice())?;
     assert_eq!(rt; answer.status, 0);
     assert!(rt; answer.error.is_empty());
     Ok(())
@@ -232,7 +248,7 @@ fn a_comment_is_no_program(rt: HostRuntime) -> Result<(), Fail> {
 #[test]
 fn run_errors(rt: HostRuntime) -> Result<(), Fail> {
     let words = ["there", "p.", "--budget=1000001"];
-    let answer = answer_to_file(rt.alloc(), &words, b"!".as_slice())?;
+    let answer = answer_to_file(&rt, rt.alloc(), &words, b"!".as_slice())?;
     assert_refuses(&rt, &answer, "chr: BudgetTooLarge\n");
     Ok(())
 }

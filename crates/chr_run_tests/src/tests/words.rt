@@ -3,6 +3,7 @@ ghost use Rattle.std.specs.Prelude.{None};
 
 use super::*;
 use chr_words::Opens;
+use std::sync::Wait;
 
 /// One file, `there`, that is read by so many calls, each of at most `step` bytes.
 #[derive(Drop)]
@@ -37,7 +38,7 @@ pub struct Answer {
     pub error: Vec<u8>,
 }
 
-fn owned(alloc: Global, words: &[&str]) -> Result<Vec<String>, Memory> {
+pub(super) fn owned(alloc: Global, words: &[&str]) -> Result<Vec<String>, Memory> {
     let mut all = Vec::new(alloc);
     for word in words {
         all.push(String::from_str(alloc, *word)?)?;
@@ -47,6 +48,7 @@ fn owned(alloc: Global, words: &[&str]) -> Result<Vec<String>, Memory> {
 
 /// What it answers to words and an input.
 fn answer_of(
+    rt: &impl Wait,
     alloc: Global,
     words: &[&str],
     files: &Files,
@@ -56,6 +58,7 @@ fn answer_of(
     let mut output = Sink::open(alloc);
     let mut error = Sink::open(alloc);
     let status = command(
+        rt,
         alloc,
         words.as_slice(),
         files,
@@ -71,23 +74,32 @@ fn answer_of(
 }
 
 /// What it answers to words where the file has this text, and the input none.
-pub(crate) fn answer_to_file(alloc: Global, words: &[&str], text: &[u8]) -> Result<Answer, Memory> {
+pub(crate) fn answer_to_file(
+    rt: &impl Wait,
+    alloc: Global,
+    words: &[&str],
+    text: &[u8],
+) -> Result<Answer, Memory> {
     let files = Files {
         text,
         step: usize::MAX,
         calls: u64::MAX,
     };
-    answer_of(alloc, words, &files, &mut Endless)
+    answer_of(rt, alloc, words, &files, &mut Endless)
 }
 
 /// What it answers with no words to an input that is read so.
-pub(crate) fn answer_to_input(alloc: Global, source: &mut Source) -> Result<Answer, Memory> {
+pub(crate) fn answer_to_input(
+    rt: &impl Wait,
+    alloc: Global,
+    source: &mut Source,
+) -> Result<Answer, Memory> {
     let files = Files {
         text: &[],
         step: 0,
         calls: 0,
     };
-    answer_of(alloc, &[], &files, source)
+    answer_of(rt, alloc, &[], &files, source)
 }
 
 /// The whole text in one call.
@@ -130,7 +142,7 @@ fn runs_of_the_input(rt: HostRuntime) -> Result<(), Fail> {
                 step,
                 calls: u64::MAX,
             };
-            let answer = answer_to_input(rt.alloc(), &mut source)?;
+            let answer = answer_to_input(&rt, rt.alloc(), &mut source)?;
             assert_runs(&rt, &answer, 0, text);
         }
     }
@@ -150,7 +162,7 @@ fn runs_of_a_file(rt: HostRuntime) -> Result<(), Fail> {
                 step,
                 calls: u64::MAX,
             };
-            let answer = answer_of(rt.alloc(), &["there", query], &files, &mut Endless)?;
+            let answer = answer_of(&rt, rt.alloc(), &["there", query], &files, &mut Endless)?;
             assert_runs(&rt, &answer, 0, text);
         }
     }
@@ -169,7 +181,7 @@ fn a_budget(rt: HostRuntime) -> Result<(), Fail> {
         ["there", "--budget", "1", GROUND_QUERY],
         ["there", GROUND_QUERY, "--budget", "1"],
     ] {
-        let answer = answer_to_file(rt.alloc(), &words, file)?;
+        let answer = answer_to_file(&rt, rt.alloc(), &words, file)?;
         assert_runs(&rt, &answer, 5, ONE_TEXT);
     }
     let files = Files {
@@ -178,10 +190,10 @@ fn a_budget(rt: HostRuntime) -> Result<(), Fail> {
         calls: 0,
     };
     let mut input = whole(GROUND_INPUT.as_bytes());
-    let answer = answer_of(rt.alloc(), &["--budget=1"], &files, &mut input)?;
+    let answer = answer_of(&rt, rt.alloc(), &["--budget=1"], &files, &mut input)?;
     assert_runs(&rt, &answer, 5, ONE_TEXT);
     let greatest = ["there", GROUND_QUERY, "--budget=1000000"];
-    let answer = answer_to_file(rt.alloc(), &greatest, file)?;
+    let answer = answer_to_file(&rt, rt.alloc(), &greatest, file)?;
     assert_runs(&rt, &answer, 0, GROUND_TEXT);
     Ok(())
 }
@@ -190,7 +202,7 @@ fn a_budget(rt: HostRuntime) -> Result<(), Fail> {
 #[test]
 fn no_budget(rt: HostRuntime) -> Result<(), Fail> {
     let program = b":- chr_constraint p/0.".as_slice();
-    let answer = answer_to_file(rt.alloc(), &["--budget=0", "there", "p."], program)?;
+    let answer = answer_to_file(&rt, rt.alloc(), &["--budget=0", "there", "p."], program)?;
     let text = "end budget\nstack 1\np\nstore 0\nbindings 0\nhistory 0\n";
     assert_runs(&rt, &answer, 5, text);
     Ok(())
@@ -221,7 +233,7 @@ fn failures_and_faults(rt: HostRuntime) -> Result<(), Fail> {
         ("X = f(X).", 3, FAILED_TEXT),
         ("X is 1 // 0.", 4, FAULT_TEXT),
     ] {
-        let answer = answer_to_file(rt.alloc(), &["there", query], b"".as_slice())?;
+        let answer = answer_to_file(&rt, rt.alloc(), &["there", query], b"".as_slice())?;
         assert_runs(&rt, &answer, status, text);
     }
     Ok(())
@@ -231,7 +243,7 @@ fn failures_and_faults(rt: HostRuntime) -> Result<(), Fail> {
 #[test]
 fn the_budget_is_used_up(rt: HostRuntime) -> Result<(), Fail> {
     let program = b":- chr_constraint p/0.\np <=> p.\n".as_slice();
-    let answer = answer_to_file(rt.alloc(), &["there", "p."], program)?;
+    let answer = answer_to_file(&rt, rt.alloc(), &["there", "p."], program)?;
     assert_eq!(rt; answer.status, 5);
     assert!(rt; answer.error.is_empty());
     let output = answer.output.as_slice();
@@ -252,7 +264,7 @@ fn inputs_that_fail(rt: HostRuntime) -> Result<(), Fail> {
             step: 1,
             calls: calls as u64,
         };
-        let answer = answer_to_input(rt.alloc(), &mut source)?;
+        let answer = answer_to_input(&rt, rt.alloc(), &mut source)?;
         assert_refuses(&rt, &answer, "chr: cannot read\n");
     }
     Ok(())
@@ -267,10 +279,16 @@ fn files_that_fail(rt: HostRuntime) -> Result<(), Fail> {
             step: 1,
             calls: calls as u64,
         };
-        let answer = answer_of(rt.alloc(), &["there", GROUND_QUERY], &files, &mut Endless)?;
+        let answer = answer_of(
+            &rt,
+            rt.alloc(),
+            &["there", GROUND_QUERY],
+            &files,
+            &mut Endless,
+        )?;
         assert_refuses(&rt, &answer, "chr: cannot read there\n");
     }
-    let answer = answer_to_file(rt.alloc(), &["else/where", "true."], b"".as_slice())?;
+    let answer = answer_to_file(&rt, rt.alloc(), &["else/where", "true."], b"".as_slice())?;
     assert_refuses(&rt, &answer, "chr: cannot read else/where\n");
     Ok(())
 }
@@ -283,7 +301,7 @@ fn an_endless_input(rt: HostRuntime) -> Result<(), Fail> {
         step: 0,
         calls: 0,
     };
-    let answer = answer_of(rt.alloc(), &[], &files, &mut Endless)?;
+    let answer = answer_of(&rt, rt.alloc(), &[], &files, &mut Endless)?;
     assert_refuses(&rt, &answer, "chr: cannot read\n");
     Ok(())
 }
@@ -297,14 +315,15 @@ Arguments:
   [QUERY]    The text of the query
 
 Options:
-      --budget <N>  The greatest number of transitions, 100000 where not given
-  -h, --help        Print help
+      --budget <N>     The greatest number of transitions, 100000 where not given
+      --replay <FILE>  Replays the schedule in this file, and stands alone
+  -h, --help           Print help
 ";
 
 #[test]
 fn help(rt: HostRuntime) -> Result<(), Fail> {
     for words in [["--help"], ["-h"]] {
-        let answer = answer_to_file(rt.alloc(), &words, b"".as_slice())?;
+        let answer = answer_to_file(&rt, rt.alloc(), &words, b"".as_slice())?;
         assert_runs(&rt, &answer, 0, HELP);
     }
     Ok(())
@@ -313,13 +332,18 @@ fn help(rt: HostRuntime) -> Result<(), Fail> {
 /// The words are looked at before anything is read.
 #[test]
 fn words_that_are_refused(rt: HostRuntime) -> Result<(), Fail> {
-    let answer = answer_to_file(rt.alloc(), &["else/where"], b"".as_slice())?;
+    let answer = answer_to_file(&rt, rt.alloc(), &["else/where"], b"".as_slice())?;
     assert_refuses(&rt, &answer, "chr: QUERY is missing\n");
-    let answer = answer_to_file(rt.alloc(), &["else/where", "--budget=x"], b"".as_slice())?;
+    let answer = answer_to_file(
+        &rt,
+        rt.alloc(),
+        &["else/where", "--budget=x"],
+        b"".as_slice(),
+    )?;
     let line =
         "error: invalid value 'x' for '--budget <N>': invalid digit found in string\n\nFor more information, try '--help'.\n";
     assert_refuses(&rt, &answer, line);
-    let answer = answer_to_file(rt.alloc(), &["--totals"], b"".as_slice())?;
+    let answer = answer_to_file(&rt, rt.alloc(), &["--totals"], b"".as_slice())?;
     let line =
         "error: unexpected argument '--totals' found\n\n  tip: to pass '--totals' as a value, use '-- --totals'\n\nUsage: chr [OPTIONS] [PROGRAM] [QUERY]\n\nFor more information, try '--help'.\n";
     assert_refuses(&rt, &answer, line);
@@ -330,7 +354,7 @@ fn words_that_are_refused(rt: HostRuntime) -> Result<(), Fail> {
 /// changes nothing.
 fn cannot_write(
     alloc: Global,
-    rt: &impl Abort,
+    rt: &(impl Abort + Wait),
     words: &[&str],
     (text, sent): (&str, usize),
 ) -> Result<(), Fail> {
@@ -345,6 +369,7 @@ fn cannot_write(
         let mut output = Sink::new(alloc, 20, 3);
         let mut error = Sink::new(alloc, 1, calls);
         let status = command(
+            rt,
             alloc,
             words.as_slice(),
             &files,

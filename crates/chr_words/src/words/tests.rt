@@ -11,8 +11,9 @@ Arguments:
   [QUERY]    The text of the query
 
 Options:
-      --budget <N>  The greatest number of transitions, 100000 where not given
-  -h, --help        Print help
+      --budget <N>     The greatest number of transitions, 100000 where not given
+      --replay <FILE>  Replays the schedule in this file, and stands alone
+  -h, --help           Print help
 ";
 
 /// What follows most reasons.
@@ -36,18 +37,22 @@ fn owned(alloc: Global, words: &[&str]) -> Result<Vec<String>, AllocError> {
     Ok(all)
 }
 
+/// What is said of the program, the query, the budget and the schedule.
+type Said<'a> = (
+    Option<&'a str>,
+    Option<&'a str>,
+    Option<u64>,
+    Option<&'a str>,
+);
+
 /// The words ask for this run.
-fn runs(
-    alloc: Global,
-    rt: &impl Abort,
-    words: &[&str],
-    said: (Option<&str>, Option<&str>, u64),
-) -> Result<(), Fail> {
+fn runs(alloc: Global, rt: &impl Abort, words: &[&str], said: Said<'_>) -> Result<(), Fail> {
     let words = owned(alloc, words)?;
     let Request::Run {
         program,
         query,
         budget,
+        replay,
     } = asked(alloc, words.as_slice())?
     else {
         return Err(Fail::from("no run"));
@@ -55,6 +60,7 @@ fn runs(
     assert_eq!(rt; program, said.0);
     assert_eq!(rt; query, said.1);
     assert_eq!(rt; budget, said.2);
+    assert_eq!(rt; replay, said.3);
     Ok(())
 }
 
@@ -88,27 +94,43 @@ fn refuses(
 #[test]
 fn programs_and_queries(rt: HostRuntime) -> Result<(), Fail> {
     let alloc = rt.alloc();
-    runs(alloc, &rt, &[], (None, None, 100_000))?;
-    runs(alloc, &rt, &["P"], (Some("P"), None, 100_000))?;
-    runs(alloc, &rt, &["P", "Q"], (Some("P"), Some("Q"), 100_000))?;
-    runs(alloc, &rt, &["", ""], (Some(""), Some(""), 100_000))?;
-    runs(alloc, &rt, &["P", "-"], (Some("P"), Some("-"), 100_000))?;
+    runs(alloc, &rt, &[], (None, None, None, None))?;
+    runs(alloc, &rt, &["P"], (Some("P"), None, None, None))?;
+    runs(alloc, &rt, &["P", "Q"], (Some("P"), Some("Q"), None, None))?;
+    runs(alloc, &rt, &["", ""], (Some(""), Some(""), None, None))?;
+    runs(alloc, &rt, &["P", "-"], (Some("P"), Some("-"), None, None))?;
     let behind = ["P", "--", "-q."];
-    runs(alloc, &rt, &behind, (Some("P"), Some("-q."), 100_000))?;
-    runs(alloc, &rt, &["help"], (Some("help"), None, 100_000))
+    runs(alloc, &rt, &behind, (Some("P"), Some("-q."), None, None))?;
+    runs(alloc, &rt, &["help"], (Some("help"), None, None, None))
 }
 
 #[test]
 fn budgets(rt: HostRuntime) -> Result<(), Fail> {
     let alloc = rt.alloc();
-    runs(alloc, &rt, &["--budget", "5"], (None, None, 5))?;
-    runs(alloc, &rt, &["--budget=7"], (None, None, 7))?;
-    runs(alloc, &rt, &["--budget", "+5"], (None, None, 5))?;
-    runs(alloc, &rt, &["--budget", "007"], (None, None, 7))?;
+    runs(alloc, &rt, &["--budget", "5"], (None, None, Some(5), None))?;
+    runs(alloc, &rt, &["--budget=7"], (None, None, Some(7), None))?;
+    runs(alloc, &rt, &["--budget", "+5"], (None, None, Some(5), None))?;
+    runs(
+        alloc,
+        &rt,
+        &["--budget", "007"],
+        (None, None, Some(7), None),
+    )?;
     let greatest = ["--budget", "18446744073709551615"];
-    runs(alloc, &rt, &greatest, (None, None, u64::MAX))?;
+    runs(alloc, &rt, &greatest, (None, None, Some(u64::MAX), None))?;
     let between = ["P", "--budget", "9", "Q"];
-    runs(alloc, &rt, &between, (Some("P"), Some("Q"), 9))
+    runs(alloc, &rt, &between, (Some("P"), Some("Q"), Some(9), None))
+}
+
+#[test]
+fn schedules(rt: HostRuntime) -> Result<(), Fail> {
+    let alloc = rt.alloc();
+    let all = ["P", "Q", "--replay", "S"];
+    runs(alloc, &rt, &all, (Some("P"), Some("Q"), None, Some("S")))?;
+    runs(alloc, &rt, &["--replay=S"], (None, None, None, Some("S")))?;
+    runs(alloc, &rt, &["--replay="], (None, None, None, Some("")))?;
+    let beside = ["--replay", "S", "--budget", "5", "P"];
+    runs(alloc, &rt, &beside, (Some("P"), None, Some(5), Some("S")))
 }
 
 #[test]
@@ -117,6 +139,7 @@ fn help(rt: HostRuntime) -> Result<(), Fail> {
     for word in ["--help", "-h", "-hx"] {
         helps(alloc, &rt, &[word])?;
         helps(alloc, &rt, &["P", "Q", "--budget", "5", word, "R"])?;
+        helps(alloc, &rt, &["--replay", "S", word, "--replay"])?;
     }
     Ok(())
 }
@@ -150,6 +173,17 @@ fn refused_budgets(rt: HostRuntime) -> Result<(), Fail> {
     refuses(alloc, &rt, &["--budget", "--", "5"], missing, MORE)?;
     let twice = "the argument '--budget <N>' cannot be used multiple times";
     refuses(alloc, &rt, &["--budget=5", "--budget", "6"], twice, USAGE)
+}
+
+#[test]
+fn refused_schedules(rt: HostRuntime) -> Result<(), Fail> {
+    let alloc = rt.alloc();
+    let missing = "a value is required for '--replay <FILE>' but none was supplied";
+    refuses(alloc, &rt, &["--replay"], missing, MORE)?;
+    refuses(alloc, &rt, &["--replay", "--budget", "5"], missing, MORE)?;
+    refuses(alloc, &rt, &["P", "Q", "--replay", "--"], missing, MORE)?;
+    let twice = "the argument '--replay <FILE>' cannot be used multiple times";
+    refuses(alloc, &rt, &["--replay=S", "--replay", "T"], twice, USAGE)
 }
 
 #[test]

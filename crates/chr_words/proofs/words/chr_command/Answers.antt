@@ -11,4 +11,5 @@ returns c =
     let about : app_of c.about.result ≡ on_top (λ s. record s { no_binary_name = true }) (new_app (codes "chr")) = search rules in
     let first : app_of c.in_ok-arg.field-0 ≡ _ = c.in_ok-arg.ensures.shape c.program_arg.ensures.local ∙ ap₂ with_rule about c.program_arg.ensures.rule in
     let second : app_of c.in_ok-arg-2.field-0 ≡ _ = c.in_ok-arg-2.ensures.shape c.query_arg.ensures.local ∙ ap₂ with_rule first c.query_arg.ensures.rule in
-    IfOk-weaker c.arg-3.result _ _ (λ r h. h.shape c.budget_arg.ensures.local ∙ ap₂ with_rule second c.budget_arg.ensures.rule) c.arg-3.ensures
+    let third : app_of c.in_ok-arg-3.field-0 ≡ _ = c.in_ok-arg-3.ensures.shape c.budget_arg.ensures.local ∙ ap₂ with_rule second c.budget_arg.ensures.rule in
+    IfOk-weaker c.arg-4.result _ _ (λ r h. h.shape c.replay_arg.ensures.local ∙ ap₂ with_rule third c.replay_arg.ensures.rule) c.arg-4.ensures
