@@ -1,0 +1,4 @@
+pub mod Phases
+pub mod Keeps
+pub mod Marks
+pub mod Slips

@@ -1,0 +1,4 @@
+pub mod DeskView
+pub mod Errors
+pub mod IsDesk
+pub mod RowView

@@ -1,0 +1,56 @@
+-- The rows, the slips and the totals of a desk, as the definitions see them.
+use Rattle.std.specs.Prelude.{◌-◌, ℕ, Bool, List, length, map, Option, option_map, slice_get}
+use Rattle.chr_semantics.specs.Desk as semantics
+use Rattle.chr_semantics.specs.Desk.{Serial, is_waiting, is_out, is_given_up, is_posted, is_drained}
+use Rattle.chr_shelf.specs.declared.answer.Answer.{Answer}
+use Rattle.chr_shelf.specs.declared.run.Run.{Ghosts}
+use Rattle.chr_shelf.specs.Seat.{place_of}
+use Rattle.chr_board.specs.declared.row.Phase.{Phase}
+use Rattle.chr_board.specs.declared.row.Phase.TheVariants.{Waiting, Out, GivenUp, Posted, Drained}
+use Rattle.chr_board.specs.declared.row.Row.{Row}
+use Rattle.chr_board.specs.declared.slip.Slip.{Slip}
+use Rattle.chr_board.specs.declared.totals.Totals.{Totals}
+
+abbrev pub phase_view : Phase → semantics.Phase
+phase_view Waiting = semantics.waiting
+phase_view Out = semantics.out
+phase_view GivenUp = semantics.given_up
+phase_view Posted = semantics.posted
+phase_view Drained = semantics.drained
+
+-- whether a serial is in this phase
+abbrev pub is_in : Phase → Serial → Bool
+is_in Waiting s = is_waiting s
+is_in Out s = is_out s
+is_in GivenUp s = is_given_up s
+is_in Posted s = is_posted s
+is_in Drained s = is_drained s
+
+abbrev pub row_view : Row → Serial
+row_view r = record { place = r.place; index = r.index; phase = phase_view r.phase }
+
+abbrev pub rows_view : List Row → List Serial
+rows_view rows = map row_view rows
+
+abbrev pub slip_view : Slip → semantics.Slip
+slip_view s = record { serial = s.serial; place = s.place; index = s.index }
+
+abbrev pub totals_view : Totals → semantics.Totals
+totals_view t = record {
+  put = t.put;
+  taken = t.taken;
+  posted = t.posted;
+  given_up = t.given_up;
+  drained = t.drained;
+  waiting = t.waiting;
+  left = t.left;
+}
+
+-- the place of the round that was offered last
+abbrev pub newest_place : List Serial → Option ℕ
+newest_place ss = option_map (λ s. s.place) (slice_get ss (length ss - 1))
+
+module _ {J A : Type 0} {G : Ghosts J} where
+  -- the place and the index of the task that an answer is of
+  abbrev pub seat_of : Answer J A G → ℕ × ℕ
+  seat_of a = (place_of a.ticket, a.index)

@@ -1,0 +1,78 @@
+//! A desk that threads share.
+ghost use Rattle.chr_shelf.specs.Seat.{place_of};
+ghost use Rattle.std.specs.Prelude.{◌≡◌};
+
+use crate::Memory;
+use crate::desk::Desk;
+use crate::error::BoardError;
+use crate::slip::Slip;
+use crate::totals::Totals;
+use chr_shelf::{Answer, Run};
+use std::alloc::{Allocator, Global};
+use std::sync::{Condvar, Mutex, Wait};
+
+/// A desk behind a lock, with a signal for those who wait for a task. Nobody holds the lock while searching.
+#[derive(Drop)]
+pub struct Board<J: Run, A: Allocator = Global> {
+    desk: Mutex<Desk<J, A>>,
+    changed: Condvar,
+}
+
+impl<J: Run, A: Allocator + Copy> Board<J, A> {
+    /// An open board without a task.
+    pub fn new(alloc: A) -> Board<J, A> {
+        Board {
+            desk: Mutex::new(Desk::new(alloc)),
+            changed: Condvar::new(),
+        }
+    }
+
+    /// `Desk::offer`, which wakes those who wait for a task.
+    pub fn offer(&self, rt: &impl Wait, place: usize, tasks: u32) -> Result<u64, BoardError> {
+        let offered = self.desk.lock(rt).offer(place, tasks);
+        self.changed.notify_all();
+        offered
+    }
+
+    /// `Desk::take`, which waits for a task. There is none once the board is closed.
+    pub fn take_task(&self, rt: &impl Wait) -> Option<Slip> {
+        let mut desk = self
+            .changed
+            .wait_while(rt, self.desk.lock(rt), |desk| desk.is_idle());
+        desk.take()
+    }
+
+    /// `Desk::newest`.
+    pub fn newest(&self, rt: &impl Wait) -> Option<usize> {
+        self.desk.lock(rt).newest()
+    }
+
+    /// `Desk::post`.
+    pub fn post(&self, rt: &impl Wait, slip: Slip, answer: Answer<J, A>)
+        requires place { place_of answer.ticket ≡ slip.place }
+        requires index { answer.index ≡ slip.index }
+    {
+        self.desk.lock(rt).post(slip, answer);
+    }
+
+    /// `Desk::give_up`.
+    pub fn give_up(&self, rt: &impl Wait, slip: Slip) {
+        self.desk.lock(rt).give_up(slip);
+    }
+
+    /// `Desk::drain`.
+    pub fn drain(&self, rt: &impl Wait, into: &mut Vec<Answer<J, A>, A>) -> Result<usize, Memory> {
+        self.desk.lock(rt).drain(into)
+    }
+
+    /// `Desk::close`, which wakes those who wait for a task.
+    pub fn close(&self, rt: &impl Wait) {
+        self.desk.lock(rt).close();
+        self.changed.notify_all();
+    }
+
+    /// `Desk::totals`.
+    pub fn totals(&self, rt: &impl Wait) -> Totals {
+        self.desk.lock(rt).totals()
+    }
+}

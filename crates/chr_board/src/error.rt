@@ -1,0 +1,43 @@
+//! Why tasks are not taken in.
+use std::error::Error;
+use std::fmt;
+
+/// Why tasks are not taken in, the first of these. It is displayed as its name.
+#[derive(Clone, Copy, PartialEq, Eq, Debug, Drop)]
+pub enum BoardError {
+    /// The board is closed.
+    Closed,
+    /// More than `MAX_OFFERED_TASKS` would have been offered.
+    TooManyTasks,
+    /// Memory was refused.
+    Memory,
+}
+
+impl BoardError {
+    ghost use Rattle.std.specs.Prelude.{◌≡◌};
+    ghost use Rattle.chr_board.specs.Errors.{board_error_text};
+
+    /// Its name.
+    pub fn word(self) -> &'static str
+        ensures { result.now ≡ board_error_text self }
+    {
+        match self {
+            BoardError::Closed => "Closed",
+            BoardError::TooManyTasks => "TooManyTasks",
+            BoardError::Memory => "Memory",
+        }
+    }
+}
+
+impl fmt::Display for BoardError {
+    ghost use Rattle.std.specs.Prelude.{Some};
+    ghost use Rattle.chr_board.specs.Errors.{board_error_text};
+
+    ghost output = { λ error. Some (board_error_text error) };
+
+    fn fmt<W: fmt::Write>(&self, f: &mut fmt::Formatter<W>) -> fmt::Result {
+        f.write_str(self.word())
+    }
+}
+
+impl Error for BoardError {}

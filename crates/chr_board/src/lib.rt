@@ -1,0 +1,18 @@
+//! The board on which a run leaves tasks for workers and from which it takes their answers.
+#![tactic(auto)]
+
+mod board;
+mod desk;
+mod error;
+mod row;
+mod slip;
+mod totals;
+mod worker;
+
+pub use board::Board;
+pub use chr_term::Memory;
+pub use desk::Desk;
+pub use error::BoardError;
+pub use slip::Slip;
+pub use totals::Totals;
+pub use worker::{Gate, Point, Tally, work};
