@@ -1,3 +1,4 @@
+pub mod Allowed
 pub mod Arrived
 pub mod Few
 pub mod Found

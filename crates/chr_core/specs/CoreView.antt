@@ -1,9 +1,10 @@
 -- What a core shows.
-use Rattle.std.specs.Prelude.{◌≡◌, ◌++◌, ◌∷◌, [], ℕ, List}
+use Rattle.std.specs.Prelude.{◌≡◌, ◌++◌, ◌∷◌, [], ℕ, List, None}
 use Rattle.chr_semantics.specs.Names.{Names}
 use Rattle.chr_semantics.specs.Program as semantics
+use Rattle.chr_semantics.specs.Program.{Program}
 use Rattle.chr_semantics.specs.Schedule as schedule
-use Rattle.chr_semantics.specs.Schedule.{Event, Progress, arrive, move, progress}
+use Rattle.chr_semantics.specs.Schedule.{Event, Progress, arrive, move, progress, refusal}
 use Rattle.chr_semantics.specs.State.{State, start}
 use Rattle.chr_rules.specs.RuleView.{query_view}
 use Rattle.chr_schedule.specs.EventView.{events_view}
@@ -73,6 +74,17 @@ arrived (Kept i) x es = es ++ arrive i x ∷ []
 arrived (Late i) x es = es ++ arrive i x ∷ []
 arrived (Double i) x es = es ++ arrive i x ∷ []
 arrived Stranger x es = es
+
+-- an arrival in that round is not refused, wherever it stands in the schedule
+abbrev pub IsThere : Program → State → Progress → ℕ → ℕ → Type 0
+IsThere p q g i x = (k : ℕ) → refusal p q g k (arrive i x) ≡ None
+
+-- nor is the one that was noted
+abbrev pub AllowsArrival : Program → State → Progress → ℕ → Took → Type 0
+AllowsArrival p q g x (Kept i) = IsThere p q g i x
+AllowsArrival p q g x (Late i) = IsThere p q g i x
+AllowsArrival p q g x (Double i) = IsThere p q g i x
+AllowsArrival p q g x Stranger = Unit {0}
 
 abbrev pub counts_view : Counts → schedule.Counts
 counts_view c = record { kept = c.kept; late = c.late; double = c.double; used = c.used; own = c.own }

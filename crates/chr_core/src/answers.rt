@@ -1,5 +1,5 @@
 //! The kept answers.
-ghost use Rattle.std.specs.Prelude.{◌≡◌, ◌&&◌, ◌++◌, ◌∷◌, [], None, OnOk, Some, cond, length, map, not, option_and_then, option_map, slice_get};
+ghost use Rattle.std.specs.Prelude.{◌≡◌, ◌&&◌, ◌++◌, ◌∷◌, [], None, OnOk, Some, cond, length, map, not, option_and_then, option_map, slice_get, true};
 ghost use Rattle.chr_semantics.specs.Tasks as semantics;
 ghost use Rattle.chr_semantics.specs.Tasks.{same_task};
 ghost use Rattle.chr_find.specs.SnapshotView.{task_view};
@@ -98,6 +98,14 @@ impl<A: Allocator> Answers<A> {
         ensures { result.now ≡ guests_in self.now (task_view task) }
     {
         self.spots.guests(key_of(task))
+    }
+
+    /// Whether there is no answer to a task.
+    pub(crate) fn has_none(&self, task: Task) -> bool
+        ensures row { result ≡ true → row_in self.now (task_view task) ≡ None }
+        ensures guests { result ≡ true → guests_in self.now (task_view task) ≡ [] }
+    {
+        self.row(task).is_none() && self.guests(task).is_empty()
     }
 
     /// Appends an answer, for which room was made. One to a stored constraint's task takes the place of the one that stood there if it is

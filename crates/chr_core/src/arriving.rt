@@ -32,9 +32,8 @@ pub enum Took {
 }
 
 impl<'p, J: Run, A: Allocator + Copy> Core<'p, J, A> {
-    ghost use Rattle.chr_core.specs.CoreView.{IsAsBefore, IsSameRun, arrived, core_in, events_of, machine_in, places_of, progress_of, start_of, took_view};
+    ghost use Rattle.chr_core.specs.CoreView.{AllowsArrival, IsAsBefore, IsSameRun, arrived, core_in, events_of, machine_in, places_of, progress_of, start_of, took_view};
     ghost use Rattle.chr_core.specs.AnswersView.{HasRoom};
-    ghost use Rattle.chr_core.specs.declared.arriving.Took.TheVariants.{Kept as TookKept};
     ghost use Rattle.chr_core.specs.Arriving.{answered};
     ghost use Rattle.chr_core.specs.Shown.{at_in};
 
@@ -148,28 +147,6 @@ impl<'p, J: Run, A: Allocator + Copy> Core<'p, J, A> {
         Ok(())
     }
 
-    /// Takes an answer of a round that is neither late nor kept before.
-    fn take(
-        &mut self,
-        shelf: &Shelf<A>,
-        round: u32,
-        answer: Answer<J, A>,
-    ) -> Result<Took, (Answer<J, A>, Memory)>
-        requires name { shelf.now ≡ J.shelf }
-        requires number { number_at self.old.by_place (place_of answer.ticket) ≡ Some round }
-        requires kept { took (progress_of self.old) round answer.index ≡ kept round }
-        ensures took { IfOk result (λ took. took ≡ TookKept round) }
-        ensures events { OnOk result (events_of self.new ≡ events_of self.old ++ arrive round answer.index ∷ []) }
-        ensures places { places_of self.new ≡ places_of self.old }
-        ensures run { IsSameRun self.old self.new }
-        ensures back { IfErr result (λ refused. refused.0 ≡ answer) }
-        ensures err { OnErr result (IsAsBefore self.old self.new) }
-    {
-        shelf.agree(&self.tickets[round as usize], answer.ticket());
-        self.keep_found(round, answer)?;
-        Ok(Took::Kept(round))
-    }
-
     /// Notes an arrival that comes late, for which room was made.
     pub(crate) fn note_late(&mut self, round: u32, index: u32)
         requires room { vec_len self.old.events < vec_capacity self.old.events }
@@ -194,16 +171,10 @@ impl<'p, J: Run, A: Allocator + Copy> Core<'p, J, A> {
         self.double += 1;
     }
 
-    /// Takes an answer: it is kept, comes late, or comes again. Where memory is refused, the answer comes back, and all is as before, but
-    /// that room may have been made.
-    pub fn arrive(
-        &mut self,
-        shelf: &Shelf<A>,
-        answer: Answer<J, A>,
-    ) -> Result<Took, (Answer<J, A>, Memory)>
-        requires name { shelf.now ≡ J.shelf }
-        ensures took { IfOk result (λ took. took_view took
-            ≡ took_at (progress_of self.old) (places_of self.old) (place_of answer.ticket) answer.index) }
+    /// Takes an answer of a round, whose ticket shows the snapshot of the round.
+    fn take(&mut self, round: u32, answer: Answer<J, A>) -> Result<Took, (Answer<J, A>, Memory)>
+        requires shown { slice_get (shots_in self.old.tickets.items) round ≡ Some (shot_of answer.ticket) }
+        ensures took { IfOk result (λ found. took_view found ≡ took (progress_of self.old) round answer.index) }
         ensures events { IfOk result
             (λ took. events_of self.new ≡ arrived took answer.index (events_of self.old)) }
         ensures places { places_of self.new ≡ places_of self.old }
@@ -211,10 +182,6 @@ impl<'p, J: Run, A: Allocator + Copy> Core<'p, J, A> {
         ensures back { IfErr result (λ refused. refused.0 ≡ answer) }
         ensures err { OnErr result (IsAsBefore self.old self.new) }
     {
-        let round = match self.by_place.get(answer.place()) {
-            None => return Ok(Took::Stranger),
-            Some(round) => round,
-        };
         let index = answer.index();
         if let Err(error) = self.events.reserve(1) {
             return Err((answer, error));
@@ -227,6 +194,35 @@ impl<'p, J: Run, A: Allocator + Copy> Core<'p, J, A> {
             self.note_double(round, index);
             return Ok(Took::Double(round));
         }
-        self.take(shelf, round, answer)
+        self.keep_found(round, answer)?;
+        Ok(Took::Kept(round))
+    }
+
+    /// Takes an answer: it is kept, comes late, or comes again. Where memory is refused, the answer comes back, and all is as before, but
+    /// that room may have been made. The event that is appended is never refused.
+    pub fn arrive(
+        &mut self,
+        shelf: &Shelf<A>,
+        answer: Answer<J, A>,
+    ) -> Result<Took, (Answer<J, A>, Memory)>
+        requires name { shelf.now ≡ J.shelf }
+        ensures took { IfOk result (λ took. took_view took
+            ≡ took_at (progress_of self.old) (places_of self.old) (place_of answer.ticket) answer.index) }
+        ensures events { IfOk result
+            (λ took. events_of self.new ≡ arrived took answer.index (events_of self.old)) }
+        ensures allowed { IfOk result
+            (λ took. AllowsArrival J.rules (start_of self.old) (progress_of self.old) answer.index took) }
+        ensures places { places_of self.new ≡ places_of self.old }
+        ensures run { IsSameRun self.old self.new }
+        ensures back { IfErr result (λ refused. refused.0 ≡ answer) }
+        ensures err { OnErr result (IsAsBefore self.old self.new) }
+    {
+        match self.by_place.get(answer.place()) {
+            None => Ok(Took::Stranger),
+            Some(round) => {
+                shelf.agree(&self.tickets[round as usize], answer.ticket());
+                self.take(round, answer)
+            }
+        }
     }
 }

@@ -65,6 +65,7 @@ impl<'p, J: Run, A: Allocator + Copy> Core<'p, J, A> {
         ensures place { IfOk result (λ made. places_of self.new ≡ places_of self.old ++ made.0 ∷ []) }
         ensures tasks { IfOk result (λ made. made.1
             ≡ length (tasks J.rules (state_of J.rules (start_of self.old) (events_of self.old)))) }
+        ensures few { OnOk result (length (progress_of self.old).rounds < MAX_ROUNDS) }
         ensures run { IsSameRun self.old self.new }
         ensures err { OnErr result (IsAsBefore self.old self.new) }
         ensures full { IfErr result (λ error. IsFull error → MAX_ROUNDS ≤ length (progress_of self.old).rounds) }

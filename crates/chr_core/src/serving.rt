@@ -108,6 +108,9 @@ impl<'p, J: Run, A: Allocator + Copy> Core<'p, J, A> {
         ensures none { IfNone result
             (NoneServes J.rules (start_of self.now) (core_in self.now) (task_view task)) }
     {
+        if self.answers.has_none(task) {
+            return None;
+        }
         let asked = self.asked(task)?;
         if let Some(place) = self.answers.row(task) {
             if self.row_serves(place, asked.touches) {

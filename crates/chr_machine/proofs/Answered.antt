@@ -38,7 +38,7 @@ first_needed p s (known i a ∷ es) t h e = cc
 first_needed p s (active i j a ∷ es) t h e = first_at p s i j a es t (atom_of s.store i) (occurrence p a.sym j) h.0.1 refl e
 
 -- a step that asks for the search of a task needs that task
-task_needed : (o : Option Task) (w : Status) (t : Task) → need_by o w ≡ search_of t → o ≡ Some t
+pub task_needed : (o : Option Task) (w : Status) (t : Task) → need_by o w ≡ search_of t → o ≡ Some t
 task_needed None running t e = cc
 task_needed (Some u) running t e = cc
 task_needed o done t e = cc

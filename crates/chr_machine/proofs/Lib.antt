@@ -8,5 +8,6 @@ pub mod Runs
 pub mod Moved
 pub mod Gathered
 pub mod Tops
+pub mod OtherTasks
 pub mod Answered
 pub mod Starts

@@ -1,5 +1,5 @@
 -- What is worth searching ahead, and how such tasks are gathered, one after another.
-use Rattle.std.specs.Prelude.{ℕ, ◌++◌, List, [], ◌∷◌, ◌&&◌, Option, Some, None, cond, length, nat_lt, not, take}
+use Rattle.std.specs.Prelude.{ℕ, ◌++◌, Bool, List, [], ◌∷◌, ◌&&◌, Option, Some, None, cond, length, nat_lt, not, take}
 use Rattle.std.specs.List.{filter_map, flat_map, fold, list_any}
 use Rattle.chr_semantics.specs.Program.{Program}
 use Rattle.chr_semantics.specs.State.{Element, State, goal, known, active}
@@ -29,6 +29,10 @@ gathered n ts us = fold (with_task n) ts us
 -- the tasks of the first n elements that are waiting
 abbrev pub waiting_tasks : Program → State → ℕ → List Element → List Task
 waiting_tasks p s n es = flat_map (λ (w : ℕ × ℕ × ℕ). tasks_from p w.0 w.1 w.2) (take n (filter_map (element_search s) es))
+
+-- it is not the task t
+abbrev pub is_other : Task → Task → Bool
+is_other t x = not (same_task x t)
 
 -- the tasks, by the constraint that is active on top
 abbrev pub tasks_by : Program → State → Option ((ℕ × ℕ × ℕ) × List Element) → List Task

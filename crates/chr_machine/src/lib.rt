@@ -5,6 +5,7 @@ mod answer;
 mod firing;
 mod machine;
 mod need;
+mod others;
 mod outcome;
 mod run;
 mod solving;

@@ -1,5 +1,5 @@
 //! The machine as its callers see it.
-ghost use Rattle.std.specs.Prelude.{◌≡◌, ◌≤◌, IfOk, OnErr, option_map};
+ghost use Rattle.std.specs.Prelude.{◌≡◌, ◌≤◌, IfOk, OnErr, length, nat_le, option_map};
 ghost use Rattle.chr_semantics.specs.Bounds.{IsQueryBounded};
 ghost use Rattle.chr_semantics.specs.Outcome.{outcome_of};
 ghost use Rattle.chr_semantics.specs.Snapshot.{snapshot_of};
@@ -10,12 +10,12 @@ ghost use Rattle.chr_rules.specs.RuleView.{query_view};
 ghost use Rattle.chr_store.specs.HistoryView.{entries_view};
 ghost use Rattle.chr_store.specs.Numbers.{numbers};
 ghost use Rattle.chr_store.specs.StoreView.{store_view};
-ghost use Rattle.chr_find.specs.SnapshotView.{IsSnapshot, guest_view, tasks_view};
+ghost use Rattle.chr_find.specs.SnapshotView.{IsSnapshot, guest_view, task_view, tasks_view};
 ghost use Rattle.chr_trace.specs.State.{stack_view, status_view};
 ghost use Rattle.chr_trace.specs.Texts.{texts};
 ghost use Rattle.chr_resume.specs.ResumingView.{program_in};
 ghost use Rattle.chr_machine.specs.Model.{model_of, state_in};
-ghost use Rattle.chr_machine.specs.NeedView.{Answers, need, need_view, plain};
+ghost use Rattle.chr_machine.specs.NeedView.{Answers, need, need_view, plain, search_of};
 ghost use Rattle.chr_machine.specs.OutcomeView.{ended_in, outcome_view};
 ghost use Rattle.chr_machine.specs.Proper.{propers};
 ghost use Rattle.chr_machine.specs.Step.{IsCounted, IsProper, IsReady};
@@ -140,6 +140,16 @@ impl<'p, A: Allocator + Copy> Machine<'p, A> {
             ≡ tasks (machine_view self.now).rules (state_in (machine_view self.now))) }
     {
         self.execution.tasks()
+    }
+
+    /// Whether there are tasks beside the one that the next step needs: whether there are two or more. It takes no memory, and costs the
+    /// stack only as far as the tasks reach.
+    pub fn has_other_tasks(&self, task: Task) -> bool
+        requires { need (machine_view self.now) ≡ search_of (task_view task) }
+        ensures { result
+            ≡ nat_le 2 (length (tasks (machine_view self.now).rules (state_in (machine_view self.now)))) }
+    {
+        self.execution.has_other_tasks(task)
     }
 
     /// A snapshot of the state with its tasks and its guest, to be searched elsewhere. The first one costs the store; each further one what has

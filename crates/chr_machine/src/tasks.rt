@@ -47,7 +47,7 @@ fn told<A: Allocator>(elem: &Elem<A>) -> Option<(Sym, &[Term<A>])>
 }
 
 /// The topmost constraint of a stack that is not yet active.
-fn first_told<A: Allocator>(stack: &[Elem<A>]) -> Option<(Sym, &[Term<A>])>
+pub fn first_told<A: Allocator>(stack: &[Elem<A>]) -> Option<(Sym, &[Term<A>])>
     ensures { guest_view result ≡ guest_in (stack_view stack.now) }
 {
     let mut left = stack.len();
@@ -86,7 +86,7 @@ fn put_task<A: Allocator>(tasks: &mut Vec<Task, A>, task: Task) -> Result<(), Me
 
 impl<'p, A: Allocator + Copy> Execution<'p, A> {
     /// Whether the occurrences of a symbol go on to that number.
-    fn reaches(&self, sym: Sym, number: u32) -> bool
+    pub fn reaches(&self, sym: Sym, number: u32) -> bool
         ensures cases { let last = length (occurrences (rules_of (program_in self.now.base)) sym.0) in
             MatchBool result (number ≤ last) (last < number) }
         ensures few { IsTrue result → number < 2 ^ 31 }
@@ -114,7 +114,7 @@ impl<'p, A: Allocator + Copy> Execution<'p, A> {
     }
 
     /// What an element below the top of the stack waits for.
-    fn waiting(&self, elem: &Elem<A>) -> Option<Waiting>
+    pub fn waiting(&self, elem: &Elem<A>) -> Option<Waiting>
         ensures { option_map waiting_view result
             ≡ element_search (state_in (model_of self.now)) (elem_view elem.now) }
     {

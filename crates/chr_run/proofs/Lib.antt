@@ -5,3 +5,4 @@ pub mod Sends
 pub mod Inputs
 pub mod Accepted
 pub mod ReplayTexts
+pub mod Headlines

@@ -3,6 +3,7 @@ use chr_core::ReplayError;
 use chr_read::ReadError;
 use chr_rules::RuleError;
 use chr_schedule::ScheduleError;
+use chr_term::Memory;
 use std::error::Error;
 use std::fmt;
 
@@ -30,6 +31,17 @@ impl RunError {
             RunError::TooManyWorkers => "TooManyWorkers",
             RunError::Memory => "Memory",
         }
+    }
+}
+
+impl From<Memory> for RunError {
+    ghost use Rattle.std.specs.Prelude.{◌≡◌};
+    ghost use Rattle.chr_run.specs.declared.error.RunError.TheVariants.{Memory as OutOfMemory};
+
+    fn from(_refused: Memory) -> RunError
+        ensures { result ≡ OutOfMemory }
+    {
+        RunError::Memory
     }
 }
 

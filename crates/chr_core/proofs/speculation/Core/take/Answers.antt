@@ -1,25 +1,22 @@
-use Rattle.std.proofs.Common.{Some, ap, arith, sym, ◌∙◌}
-use Rattle.chr_shelf.specs.Seat.{place_of, shot_of}
-use Rattle.chr_spots.specs.PlaceView.{number_at}
-use Rattle.chr_core.proofs.Tickets.{place_is, shot_at, within}
+use Rattle.std.proofs.Common.{Bool, ap, cond, sym, ◌∙◌, ◌≡◌}
+use Rattle.chr_semantics.specs.Calls.{rise_by_calls}
+use Rattle.chr_semantics.specs.Schedule.{double, kept, late, progress, took}
+use Rattle.chr_semantics.specs.State.{start}
+use Rattle.chr_rules.specs.RuleView.{query_view}
+use Rattle.chr_rounds.specs.Rounds.{flag_at}
+use Rattle.chr_rounds.proofs.Stands.{stands_law}
+use Rattle.chr_schedule.specs.EventView.{events_view}
+use Rattle.chr_core.specs.CoreView.{core_in}
 use Rattle.chr_core.proofs.speculation.Core.take.Goals as goal
 
-pub index-requires : goal.index-requires
-index-requires g c =
+pub returns-clause-took : goal.returns-clause-took
+returns-clause-took g c =
     let old = c.args.self.now in
-    let lt = within old.tickets.items c.args.round (number_at old.by_place) (place_of c.args.answer.ticket) old.numbered c.requires.number in omega (arith, lt)
-
-pub agree-requires-clause-place : goal.agree-requires-clause-place
-agree-requires-clause-place g c =
-    let old = c.args.self.now in
-    place_is old.tickets.items c.args.round (number_at old.by_place) (place_of c.args.answer.ticket) old.numbered c.requires.number c.index.result.now c.index.ensures
-    ∙ sym (ap place_of c.ticket.ensures)
-
-pub keep_found-requires : goal.keep_found-requires
-keep_found-requires g c =
-    let old = c.args.self.now in
-    let lt = within old.tickets.items c.args.round (number_at old.by_place) (place_of c.args.answer.ticket) old.numbered c.requires.number in
-    record {
-      shown = shot_at old.tickets.items c.args.round c.index.result.now lt c.index.ensures ∙ ap (λ s. Some s) (c.agree.ensures ∙ ap shot_of c.ticket.ensures);
-      kept = c.requires.kept;
-    }
+    let p = g.J.Run.rules in
+    let q = start (query_view old.query) in
+    let es = events_view old.events.items in
+    let i = c.args.round in
+    let flag = ap (flag_at (core_in old).rounds i) (sym c.index-index.ensures) ∙ sym c.has_kept.ensures ∙ c.if-has_kept.false in
+    sym (stands_law.takes p (rise_by_calls p) q es (core_in old) i c.args.answer.index old.stands
+    ∙ ap (λ (b : Bool). cond b (late i) (cond (flag_at (core_in old).rounds i c.args.answer.index) (double i) (kept i))) (sym c.is_late.ensures ∙ c.if-is_late.false)
+    ∙ ap (λ (b : Bool). cond b (double i) (kept i)) flag)
