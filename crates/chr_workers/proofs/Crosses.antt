@@ -1,4 +1,4 @@
--- Which types threads may share: a program (this far it was checked; the answer to a spawn is then `search (program_row, .., sendable)`).
+-- Which types threads may share: terms, tests, goals, rules, programs. Checked in a crate that takes chr_bind, chr_rules and chr_term too.
 use denote.RattleType.{RattleType}
 use denote.Param.Send.{IsSend, IsSync, Frees, sendable, recorded_sync, enum_sync, struct_sync}
 use denote.Enum.Declared as enum
