@@ -13,7 +13,7 @@ use Rattle.chr_machine.specs.MachineView.{Starts, Further}
 use Rattle.chr_machine.specs.Model.{Model, state_in}
 use Rattle.chr_run.specs.Sending.{end_lines, rest_text}
 
-step_ended : (p : Program) (s : State) (w : Status) → w ≢ running → step_at p s w ≡ s
+pub step_ended : (p : Program) (s : State) (w : Status) → w ≢ running → step_at p s w ≡ s
 step_ended p s running h = absurd (h refl)
 step_ended p s done h = refl
 step_ended p s failed h = refl

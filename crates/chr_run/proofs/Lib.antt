@@ -1,7 +1,8 @@
 pub mod Parts
 pub mod Ends
 pub mod Sent
-pub mod Sends
 pub mod Inputs
 pub mod Accepted
 pub mod ReplayTexts
+pub mod Headlines
+pub mod Sends

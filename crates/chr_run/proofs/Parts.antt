@@ -58,6 +58,18 @@ part-more old mid new bytes rest front back h split p =
     let parts : rest ≡ p.is_out.out ++ (p.rest ++ back) = split ∙ (ap (λ xs. xs ++ back) p.is_out.whole ∙ append_assoc p.is_out.out p.rest back) in
     record { rest = p.rest ++ back; is_out = out-more old mid new bytes rest p.is_out.out (p.rest ++ back) h parts p.is_out.appends }
 
+-- a first part of the front is one of the whole
+pub part_front : (old new : Option (List ℕ)) (bytes front back : List ℕ) → bytes ≡ front ++ back → AppendsPart old new front → AppendsPart old new bytes
+part_front old new bytes front back e p = part-more old old new bytes bytes front back (out-none old bytes) e p
+
+-- the front, and a first part of the back
+pub part_back : (old mid new : Option (List ℕ)) (front back : List ℕ) → Appends old mid front → AppendsPart mid new back → AppendsPart old new (front ++ back)
+part_back old mid new front back h p = part-more old mid new (front ++ back) back back [] (record { out = front; whole = refl; appends = h }) (sym (append-nil back)) p
+
+-- all is a first part too
+pub part_all : (old new : Option (List ℕ)) (bytes : List ℕ) → Appends old new bytes → AppendsPart old new bytes
+part_all old new bytes h = record { rest = []; is_out = record { out = bytes; whole = sym (append-nil bytes); appends = h } }
+
 -- the texts from one on: it, and those after it
 pub texts_from : (ts : List (Bor (List ℕ))) (k : ℕ) (d : Bor (List ℕ)) → k < length ts
     → concat (map (λ (t : Bor (List ℕ)). t.now) (drop k ts)) ≡ (get_or ts k d).now ++ concat (map (λ (t : Bor (List ℕ)). t.now) (drop (k + 1) ts))

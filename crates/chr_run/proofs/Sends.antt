@@ -1,30 +1,35 @@
--- What a run of a machine says of the run of its program and query.
-use Rattle.std.proofs.Common.{◌≡◌, ◌∙◌, ◌-◌, ◌++◌, inl, inr, ℕ, List, Option, Result, Ok, Err, subst, sym}
-use Rattle.std.specs.Prelude.{IfErr, IfOk, OnErr, OnOk}
+-- What goes out of a run with workers is the text of the run, or a first part of it.
+use Rattle.std.proofs.Common.{◌≡◌, inl, inr, ℕ, List, Option, subst, sym}
 use Rattle.std.specs.Io.KnownBytes.{Appends}
 use Rattle.chr_semantics.specs.Names.{Names}
-use Rattle.chr_semantics.specs.Program.{Program, Query}
+use Rattle.chr_semantics.specs.Program.{Query}
 use Rattle.chr_semantics.specs.Text.{lines_text, text}
-use Rattle.chr_trace.specs.State.{status_view}
-use Rattle.chr_trace.specs.declared.state.Status.{Status}
-use Rattle.chr_machine.specs.MachineView.{Starts}
-use Rattle.chr_machine.specs.Model.{Model}
+use Rattle.chr_shelf.specs.declared.run.Run.{Ghosts}
+use Rattle.chr_policy.specs.CoordinatorView.{machine_by, names_by, query_by}
+use Rattle.chr_policy.specs.declared.coordinator.Coordinator.{Coordinator}
 use Rattle.chr_run.specs.Output.{AppendsPart}
-use Rattle.chr_run.specs.Run.{Sends}
-use Rattle.chr_run.specs.Sending.{IsCut, IsPart, Performs, whole_text}
-use Rattle.chr_run.specs.declared.error.TextError.{TextError}
-use Rattle.chr_run.proofs.Ends.{begins, has_run, is_whole}
-use Rattle.chr_run.proofs.Parts.{out-none, part-more}
+use Rattle.chr_run.specs.Sending.{whole_text}
+use Rattle.chr_run.specs.Turns.{IsPart, IsThrough}
+use Rattle.chr_run.proofs.Ends.{begins, is_whole}
+use Rattle.chr_run.proofs.Headlines.{has_come}
+use Rattle.chr_run.proofs.Parts.{part_front}
 
--- a first part of the front is one of the whole
-part_of : (old new : Option (List ℕ)) (bytes front back : List ℕ) → bytes ≡ front ++ back → AppendsPart old new front → AppendsPart old new bytes
-part_of old new bytes front back e p = part-more old old new bytes bytes front back (out-none old bytes) e p
+module _ {J A : Type 0} {G : Ghosts J} (c : Coordinator J A G) (n : ℕ) (names : Names) (q : Query) (names_are : names_by c ≡ names) (query_is : query_by c ≡ q) (old new : Option (List ℕ)) where
+  begun_with : (X : List ℕ → Type 0) → X (text (names_by c) G.rules (query_by c) n) → X (text names G.rules q n)
+  begun_with X x = subst (λ (r : Query). X (text names G.rules r n)) query_is (subst (λ (m : Names). X (text m G.rules (query_by c) n)) names_are x)
 
-module _ (names : Names) (p : Program) (q : Query) (n : ℕ) (old new : Option (List ℕ)) (a m : Model) where
-  cut_text : Starts names p q a → IsPart n a m old new → AppendsPart old new (text names p q n)
-  cut_text at (inl h) = let b = begins names p q (m.steps - a.steps) n m (has_run names p q (m.steps - a.steps) a m at h.0.further) h.0.within in part_of old new (text names p q n) (lines_text m.lines) b.rest b.whole h.1
-  cut_text at (inr h) = let w = is_whole names p q (m.steps - a.steps) n m (has_run names p q (m.steps - a.steps) a m at h.0.goes.further) h.0.goes.within h.0.all in subst (AppendsPart old new) (sym w.text_is) h.1
+  pub sent_whole : IsThrough n (machine_by c) → Appends old new (whole_text (machine_by c)) → Appends old new (text names G.rules q n)
+  sent_whole t out =
+      let whole = is_whole (names_by c) G.rules (query_by c) (machine_by c).steps n (machine_by c) (has_come c) t.within t.all in
+      begun_with (Appends old new) (subst (Appends old new) (sym whole.text_is) out)
 
-  pub sends : (r : Result Status TextError) → Starts names p q a → OnOk r (Performs n a m) → OnOk r (Appends old new (whole_text m)) → IfOk r (λ s. status_view s ≡ m.status) → IfErr r IsCut → OnErr r (IsPart n a m old new) → Sends names p q n old new r
-  sends (Ok s) at h t st cut part = let w = is_whole names p q (m.steps - a.steps) n m (has_run names p q (m.steps - a.steps) a m at h.goes.further) h.goes.within h.all in (subst (Appends old new) (sym w.text_is) t, st ∙ w.status_is)
-  sends (Err e) at h t st cut part = (cut, cut_text at part)
+  part_here : IsPart n (machine_by c) old new → AppendsPart old new (text (names_by c) G.rules (query_by c) n)
+  part_here (inl h) =
+      let b = begins (names_by c) G.rules (query_by c) (machine_by c).steps n (machine_by c) (has_come c) h.0 in
+      part_front old new (text (names_by c) G.rules (query_by c) n) (lines_text (machine_by c).lines) b.rest b.whole h.1
+  part_here (inr h) =
+      let whole = is_whole (names_by c) G.rules (query_by c) (machine_by c).steps n (machine_by c) (has_come c) h.0.within h.0.all in
+      subst (AppendsPart old new) (sym whole.text_is) h.1
+
+  pub sent_part : IsPart n (machine_by c) old new → AppendsPart old new (text names G.rules q n)
+  sent_part h = begun_with (AppendsPart old new) (part_here h)

@@ -3,15 +3,17 @@ use Rattle.std.proofs.Common.{◌≡◌, ◌≢◌, ◌⊎◌, inl, inr, ◌∙�
 use Rattle.std.proofs.lemmas.Grind.{flat_map-append}
 use Rattle.std.proofs.lemmas.List.{drop-map, length-map, take-append-drop, take-append-le, take_all}
 use Rattle.std.specs.Io.KnownBytes.{Appends}
-use Rattle.chr_semantics.specs.State.{running}
 use Rattle.chr_semantics.specs.Text.{lines_text}
-use Rattle.chr_machine.specs.MachineView.{Further}
 use Rattle.chr_machine.specs.Model.{Model}
-use Rattle.std.specs.Prelude.{Vec}
+use Rattle.std.specs.Prelude.{IfErr, OnErr, OnOk, Result, Ok, Err, Vec}
 use Rattle.chr_trace.specs.Texts.{texts}
-use Rattle.chr_machine.proofs.Runs.{further_same}
+use Rattle.chr_shelf.specs.declared.run.Run.{Ghosts}
+use Rattle.chr_policy.specs.CoordinatorView.{IsAtRest, machine_by}
+use Rattle.chr_policy.specs.declared.coordinator.Coordinator.{Coordinator}
 use Rattle.chr_run.specs.Output.{AppendsPart, IsOut}
-use Rattle.chr_run.specs.Sending.{AreOut, Goes, Performs, end_lines, rest_text, whole_text}
+use Rattle.chr_run.specs.Sending.{AreOut, IsCut, rest_text, whole_text}
+use Rattle.chr_run.specs.Turns.{IsOfRun, IsThrough, SendsTurns}
+use Rattle.chr_run.specs.declared.error.TextError.{TextError}
 use Rattle.chr_run.proofs.Ends.{lines_text-append, sent_and_rest}
 use Rattle.chr_run.proofs.Parts.{appends-both, appends-none, out-more, part-more}
 
@@ -49,24 +51,6 @@ module _ (old mid new : Option (List ℕ)) (lines : List (List ℕ)) (sent : ℕ
       let same : take sent lines ≡ take sent others = sym (take-append-le sent lines more few) ∙ ap (take sent) (sym e) in
       record { few = longer; appends = subst (λ (ls : List (List ℕ)). Appends old mid (lines_text ls)) same h.appends }
 
--- a run has come so far
-module _ (n k : ℕ) (a m b : Model) (r : Further k a m) (same : b ≡ m) (within : k ≤ n) where
-  pub goes : Goes n a b
-  goes =
-      let far = further_same k a m b r same in
-      let is : b.steps - a.steps ≡ k = omega (arith, far.steps_are) in
-      record { further = subst (λ (i : ℕ). Further i a b) (sym is) far; within = omega (arith, is, within) }
-
-  pub performs : (k ≡ n) ⊎ (m.status ≢ running) → Performs n a b
-  performs all =
-      let far = further_same k a m b r same in
-      let is : b.steps - a.steps ≡ k = omega (arith, far.steps_are) in
-      record { goes = goes; all = by_case is all }
-    where
-      by_case : b.steps - a.steps ≡ k → (k ≡ n) ⊎ (m.status ≢ running) → (b.steps - a.steps ≡ n) ⊎ (b.status ≢ running)
-      by_case is (inl e) = inl (is ∙ e)
-      by_case is (inr ended) = inr (λ h. ended (sym (ap (λ (x : Model). x.status) same) ∙ h))
-
 -- the lines of the machine, as they are lent
 module _ {A : Type 0} (lent : List (Vec ℕ A)) (lines : List (List ℕ)) (is : texts lent ≡ lines) where
   pub rest_is : (sent : ℕ) → lines_text (texts (take (length lent - sent) (drop sent lent))) ≡ lines_text (drop sent lines)
@@ -85,3 +69,20 @@ module _ (old mid new : Option (List ℕ)) (m : Model) (sent : ℕ) (h : AreOut 
 
   pub cut_end : AppendsPart mid new (rest_text m sent) → AppendsPart old new (whole_text m)
   cut_end p = part-more old mid new (whole_text m) (rest_text m sent) (rest_text m sent) [] (record { out = lines_text (take sent m.lines); whole = sent_and_rest m sent; appends = h.appends }) (sym (append-nil _)) p
+
+-- a run that is through goes out to its end, or a first part of it
+pub ends : {J A : Type 0} {G : Ghosts J} (n : ℕ) (old k : Coordinator J A G) (before mid after : Option (List ℕ)) (sent : ℕ) (r : Result (Unit {0}) TextError)
+    → IsOfRun old k → IsThrough n (machine_by k) → IsAtRest k → AreOut before mid (machine_by k).lines sent
+    → OnOk r (Appends mid after (rest_text (machine_by k) sent)) → OnErr r (AppendsPart mid after (rest_text (machine_by k) sent)) → IfErr r IsCut → SendsTurns n old k before after r
+ends n old k before mid after sent (Ok u) same through rests out text part cut = record {
+  turns = record { same = same; through = through; rests = rests };
+  text = all_end before mid after (machine_by k) sent out text;
+  cut = tt;
+  part = tt;
+}
+ends n old k before mid after sent (Err e) same through rests out text part cut = record {
+  turns = record { same = same; through = tt; rests = tt };
+  text = tt;
+  cut = cut;
+  part = inr (through, cut_end before mid after (machine_by k) sent out part);
+}

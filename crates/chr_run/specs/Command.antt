@@ -1,22 +1,20 @@
 -- What the program `chr` answers.
-use Rattle.std.specs.Prelude.{◌≡◌, ◌⊎◌, ◌++◌, ℕ, ◌==◌, if◌then◌else◌, List, [], ◌∷◌, codes, Option, Some, None, IfSome, Result, Ok, Err, option_map, unwrap_or}
-use Rattle.std.specs.Fmt.{decimal}
-use Rattle.std.specs.List.{concat}
+use Rattle.std.specs.Prelude.{◌≡◌, ◌⊎◌, ℕ, ◌==◌, if◌then◌else◌, Bool, true, List, [], ◌∷◌, codes, Option, Some, None, IfSome, Result, Ok, Err, option_map}
 use Rattle.std.specs.Str.{byte}
 use Rattle.std.specs.Io.KnownBytes.{Appends, Keeps}
-use Rattle.chr_semantics.specs.Schedule as schedule
+use Rattle.std.specs.declared.alloc.Global.{Global}
 use Rattle.chr_trace.specs.declared.state.Status.{Status}
-use Rattle.chr_trace.specs.declared.state.Status.TheVariants.{Running, Done, Failed, Faulted}
 use Rattle.chr_core.specs.CoreView.{counts_view}
 use Rattle.chr_core.specs.declared.speculation.Counts.{Counts}
-use Rattle.chr_words.specs.Words.{Asks, run, help, refused, asks_of, number_of}
-use Rattle.chr_run.specs.ErrorText.{text_error_text}
+use Rattle.chr_words.specs.Words.{Asks, Values, run, help, refused, asks_of, number_of}
 use Rattle.chr_run.specs.Output.{AppendsPart}
 use Rattle.chr_run.specs.Replays.{IsTextReplay}
+use Rattle.chr_run.specs.Reports.{Asked, Follows, budget_of, counts_text, is_silent, refusal_text, status_code, unread_text, workers_of}
 use Rattle.chr_run.specs.Texts.{IsTextRun}
 use Rattle.chr_run.specs.declared.error.RunError.TheVariants.{Memory}
 use Rattle.chr_run.specs.declared.error.TextError.{TextError}
 use Rattle.chr_run.specs.declared.error.TextError.TheVariants as error
+use Rattle.chr_run.specs.declared.result.Run.{Run}
 
 -- the text up to its first line feed, or all of it
 abbrev pub first_line : List ℕ → List ℕ
@@ -27,35 +25,6 @@ first_line (c ∷ cs) = if c == byte "\n" then [] else c ∷ first_line cs
 abbrev pub after_line : List ℕ → List ℕ
 after_line [] = []
 after_line (c ∷ cs) = if c == byte "\n" then cs else after_line cs
-
--- the exit status of a run
-abbrev pub status_code : Status → ℕ
-status_code Running = 5
-status_code Done = 0
-status_code Failed = 3
-status_code (Faulted f) = 4
-
--- the exit status of an answer
-abbrev pub exit_code : Result Status TextError → ℕ
-exit_code (Ok status) = status_code status
-exit_code (Err e) = 2
-
--- the budget, or 100,000 where none is said
-abbrev pub budget_or : Option ℕ → ℕ
-budget_or said = unwrap_or said 100000
-
--- what is said of a refusal
-abbrev pub refusal_text : TextError → List ℕ
-refusal_text e = codes "chr: " ++ text_error_text e ++ codes "\n"
-
--- what is said of a file that is not read
-abbrev pub unread_text : List ℕ → List ℕ
-unread_text path = codes "chr: cannot read " ++ path ++ codes "\n"
-
--- what is said of the counts of a replay
-abbrev pub counts_text : schedule.Counts → List ℕ
-counts_text c = concat (codes "counts kept " ∷ decimal c.kept ∷ codes " late " ∷ decimal c.late ∷ codes " double " ∷ decimal c.double
-    ∷ codes " used " ∷ decimal c.used ∷ codes " own " ∷ decimal c.own ∷ codes "\n" ∷ [])
 
 -- What the program does: the known bytes of its output and of its error output, before it and after it, and its exit status.
 pub record Effect : Type 0 where
@@ -74,46 +43,46 @@ effect output output' error error' code = record {
   code = code;
 }
 
--- what is said on the error output of an answer
-abbrev pub Says : Result Status TextError → Effect → Type 0
-Says (Ok status) e = Keeps e.error_before e.error_after
-Says (Err refusal) e = AppendsPart e.error_before e.error_after (refusal_text refusal)
-
 -- nothing goes out, and the line is said, as far as it can be
 pub record Refuses (line : List ℕ) (e : Effect) : Type 0 where
   pub code_is : e.code ≡ 2
   pub keeps : Keeps e.output_before e.output_after
   pub says : AppendsPart e.error_before e.error_after line
 
--- the run of a program and a query with no worker, and what is said of it
-pub record RunsTexts (program query : List ℕ) (budget : ℕ) (e : Effect) : Type 0 where
-  pub result : Result Status TextError
-  pub is_run : IsTextRun program query budget 0 e.output_before e.output_after result
-  pub code_is : e.code ≡ exit_code result
-  pub says : Says result e
+-- what follows an answer
+abbrev pub Ends : (List ℕ → List ℕ → Type 0) → Asked → Result (Run Global) TextError → Effect → Type 0
+Ends written a (Ok made) e = Follows written a made e.error_before e.error_after e.code
+Ends written a (Err refusal) e = (e.code ≡ 2) × AppendsPart e.error_before e.error_after (refusal_text refusal)
 
--- the run of the bytes, as far as these are known: their first line is a query, and what stands after it a program
-pub record RunsInput (known : Option (List ℕ)) (budget : ℕ) (e : Effect) : Type 0 where
-  pub bytes : List ℕ
-  pub is_known : IfSome known (λ whole. bytes ≡ whole)
-  pub runs : RunsTexts (after_line bytes) (first_line bytes) budget e
+module _ (written : List ℕ → List ℕ → Type 0) where
+  -- the run of a program and a query, and what follows it
+  pub record RunsTexts (program query : List ℕ) (a : Asked) (e : Effect) : Type 0 where
+    pub result : Result (Run Global) TextError
+    pub is_run : IsTextRun program query (budget_of a) (workers_of a) e.output_before e.output_after result
+    pub ends : Ends written a result e
 
--- the run of the program in a file, as far as its bytes are known, and of this query
-pub record RunsFile (known : Option (List ℕ)) (query : List ℕ) (budget : ℕ) (e : Effect) : Type 0 where
-  pub bytes : List ℕ
-  pub is_known : IfSome known (λ whole. bytes ≡ whole)
-  pub runs : RunsTexts bytes query budget e
+  -- the run of the bytes, as far as these are known: their first line is a query, and what stands after it a program
+  pub record RunsInput (known : Option (List ℕ)) (a : Asked) (e : Effect) : Type 0 where
+    pub bytes : List ℕ
+    pub is_known : IfSome known (λ whole. bytes ≡ whole)
+    pub runs : RunsTexts (after_line bytes) (first_line bytes) a e
+
+  -- the run of the program in a file, as far as its bytes are known, and of this query
+  pub record RunsFile (known : Option (List ℕ)) (query : List ℕ) (a : Asked) (e : Effect) : Type 0 where
+    pub bytes : List ℕ
+    pub is_known : IfSome known (λ whole. bytes ≡ whole)
+    pub runs : RunsTexts bytes query a e
 
 -- the text goes out, or as much of it as the output takes
 abbrev pub Shows : List ℕ → Effect → Type 0
 Shows text e = ((e.code ≡ 0) × Appends e.output_before e.output_after text × Keeps e.error_before e.error_after)
     ⊎ ((e.code ≡ 2) × AppendsPart e.output_before e.output_after text × AppendsPart e.error_before e.error_after (refusal_text error.Write))
 
--- the run that is asked for, by its program, its query and its budget, or why there is none
-abbrev pub RunsWords : Option (List ℕ) → Option (List ℕ) → ℕ → (List ℕ → Option (List ℕ)) → Option (List ℕ) → Effect → Type 0
-RunsWords None query budget files input e = RunsInput input budget e ⊎ Refuses (codes "chr: cannot read\n") e
-RunsWords (Some path) None budget files input e = Refuses (codes "chr: QUERY is missing\n") e
-RunsWords (Some path) (Some query) budget files input e = RunsFile (files path) query budget e ⊎ Refuses (unread_text path) e
+-- the run that is asked for, by its program, its query and what else is said of it, or why there is none
+abbrev pub RunsWords : (List ℕ → List ℕ → Type 0) → Option (List ℕ) → Option (List ℕ) → Asked → (List ℕ → Option (List ℕ)) → Option (List ℕ) → Effect → Type 0
+RunsWords written None query a files input e = RunsInput written input a e ⊎ Refuses (codes "chr: cannot read\n") e
+RunsWords written (Some path) None a files input e = Refuses (codes "chr: QUERY is missing\n") e
+RunsWords written (Some path) (Some query) a files input e = RunsFile written (files path) query a e ⊎ Refuses (unread_text path) e
 
 -- the exit status of a replay
 abbrev pub replay_code : Result (Status × Counts) TextError → ℕ
@@ -149,22 +118,26 @@ abbrev pub ReplaysFiles : (List ℕ → Option (List ℕ)) → List ℕ → List
 ReplaysFiles files program query schedule e =
     ReplaysBoth (files program) query (files schedule) e ⊎ Refuses (unread_text program) e ⊎ Refuses (unread_text schedule) e
 
--- the replay that is asked for, which wants a program and a query, and no budget
-abbrev pub ReplaysWords : Option (List ℕ) → Option (List ℕ) → Option ℕ → List ℕ → (List ℕ → Option (List ℕ)) → Effect → Type 0
-ReplaysWords (Some program) (Some query) None schedule files e = ReplaysFiles files program query schedule e
+-- the replay that is asked for, which wants a program and a query, and nothing said of a run
+abbrev pub ReplaysWords : Option (List ℕ) → Option (List ℕ) → Bool → List ℕ → (List ℕ → Option (List ℕ)) → Effect → Type 0
+ReplaysWords (Some program) (Some query) true schedule files e = ReplaysFiles files program query schedule e
 ReplaysWords _ _ _ schedule files e = Refuses (codes "chr: --replay stands alone\n") e
 
 -- a run, or the replay of a schedule where one is named
-abbrev pub DoesWords : Option (List ℕ) → Option (List ℕ) → Option ℕ → Option (List ℕ) → (List ℕ → Option (List ℕ)) → Option (List ℕ) → Effect → Type 0
-DoesWords program query budget None files input e = RunsWords program query (budget_or budget) files input e
-DoesWords program query budget (Some schedule) files input e = ReplaysWords program query budget schedule files e
+abbrev pub DoesWords : (List ℕ → List ℕ → Type 0) → Option (List ℕ) → Option (List ℕ) → Asked → Option (List ℕ) → (List ℕ → Option (List ℕ)) → Option (List ℕ) → Effect → Type 0
+DoesWords written program query a None files input e = RunsWords written program query a files input e
+DoesWords written program query a (Some schedule) files input e = ReplaysWords program query (is_silent a) schedule files e
+
+-- what the words ask of a run
+abbrev pub asked_in : Values → Asked
+asked_in v = record { budget = option_map number_of v.budget; workers = option_map number_of v.workers; recorded = v.recorded; totals = v.totals }
 
 -- what is done where this is asked for; the texts of help and of what is wrong with words are those of `clap`
-abbrev pub DoesAsked : Asks → (List ℕ → Option (List ℕ)) → Option (List ℕ) → Effect → Type 0
-DoesAsked (run words) files input e = DoesWords words.program words.query (option_map number_of words.values.budget) words.values.replay files input e
-DoesAsked help files input e = (text : List ℕ) × Shows text e
-DoesAsked refused files input e = (text : List ℕ) × Refuses text e
+abbrev pub DoesAsked : (List ℕ → List ℕ → Type 0) → Asks → (List ℕ → Option (List ℕ)) → Option (List ℕ) → Effect → Type 0
+DoesAsked written (run words) files input e = DoesWords written words.program words.query (asked_in words.values) words.values.replay files input e
+DoesAsked written help files input e = (text : List ℕ) × Shows text e
+DoesAsked written refused files input e = (text : List ℕ) × Refuses text e
 
 -- what the program does for its words, or memory is refused to the reading of these
-abbrev pub IsCommand : List (List ℕ) → (List ℕ → Option (List ℕ)) → Option (List ℕ) → Effect → Type 0
-IsCommand words files input e = DoesAsked (asks_of words) files input e ⊎ Refuses (refusal_text (error.Run Memory)) e
+abbrev pub IsCommand : (List ℕ → List ℕ → Type 0) → List (List ℕ) → (List ℕ → Option (List ℕ)) → Option (List ℕ) → Effect → Type 0
+IsCommand written words files input e = DoesAsked written (asks_of words) files input e ⊎ Refuses (refusal_text (error.Run Memory)) e

@@ -1,20 +1,22 @@
 -- What the run of two texts answers, and what goes out.
-use Rattle.std.specs.Prelude.{ℕ, List, Option, Result, Ok, Err}
+use Rattle.std.specs.Prelude.{◌≡◌, ℕ, List, None, Option, Result, Ok, Err}
 use Rattle.std.specs.Io.KnownBytes.{Keeps}
 use Rattle.chr_semantics.specs.Accepted.{IsAcceptedProgram, IsAccepted}
 use Rattle.chr_semantics.specs.Checked.{Checked, checked, checked_query}
 use Rattle.chr_semantics.specs.Grammar.{IsProgram, IsQuery}
 use Rattle.chr_semantics.specs.Names.{Names}
+use Rattle.chr_semantics.specs.Outcome.{run_refusal}
 use Rattle.chr_semantics.specs.Program.{Program as Rules, Query as Goals}
 use Rattle.chr_semantics.specs.Reading.{IsRead}
 use Rattle.chr_semantics.specs.Syntax as syntax
 use Rattle.chr_read.specs.Refusals.{IsRefusal}
 use Rattle.chr_rules.specs.Checks.{IsError}
-use Rattle.chr_trace.specs.declared.state.Status.{Status}
-use Rattle.chr_run.specs.Run.{WithinLimits, PastLimits, IsInto}
+use Rattle.chr_run.specs.Headline.{PastLimits}
+use Rattle.chr_run.specs.Run.{IsInto}
 use Rattle.chr_run.specs.declared.error.RunError.TheVariants.{Memory}
 use Rattle.chr_run.specs.declared.error.TextError.{TextError}
 use Rattle.chr_run.specs.declared.error.TextError.TheVariants as error
+use Rattle.chr_run.specs.declared.result.Run.{Run}
 
 -- the text of a program is not read so, or it is read and there is this mistake
 abbrev pub IsProgramError : List ℕ → TextError → Type 0
@@ -36,18 +38,19 @@ IsTextError program query (error.Query e) = (c : Checked) × IsAcceptedProgram p
 IsTextError program query (error.Goals e) = (c : Checked) × IsAcceptedProgram program c × IsQueryError c query (error.Goals e)
 IsTextError program query _ = ⊥
 
--- the texts are accepted, and the run of what they stand for answers so
-pub record IsAcceptedRun (program query : List ℕ) (n workers : ℕ) (old new : Option (List ℕ)) (result : Result Status TextError) : Type 0 where
-  pub names : Names
-  pub rules : Rules
-  pub q : Goals
-  pub accepted : IsAccepted program query names rules q
-  pub into : IsInto names rules q n workers old new result
+module _ {A : Type 0} (program query : List ℕ) (n workers : ℕ) (old new : Option (List ℕ)) where
+  -- the texts are accepted, and the run of what they stand for answers so
+  pub record IsAcceptedRun (result : Result (Run A) TextError) : Type 0 where
+    pub names : Names
+    pub rules : Rules
+    pub q : Goals
+    pub accepted : IsAccepted program query names rules q
+    pub into : IsInto names rules q n workers old new result
 
--- What an answer says of the texts and of the bytes that the writer tells. The limits are looked at before the texts.
-abbrev pub IsTextRun : List ℕ → List ℕ → ℕ → ℕ → Option (List ℕ) → Option (List ℕ) → Result Status TextError → Type 0
-IsTextRun program query n workers old new (Ok status) = IsAcceptedRun program query n workers old new (Ok status)
-IsTextRun program query n workers old new (Err error.Write) = IsAcceptedRun program query n workers old new (Err error.Write)
-IsTextRun program query n workers old new (Err (error.Run Memory)) = IsAcceptedRun program query n workers old new (Err (error.Run Memory))
-IsTextRun program query n workers old new (Err (error.Run e)) = PastLimits n workers e × Keeps old new
-IsTextRun program query n workers old new (Err e) = WithinLimits n workers × IsTextError program query e × Keeps old new
+  -- What an answer says of the texts and of the bytes that the writer tells. The limits are looked at before the texts.
+  abbrev pub IsTextRun : Result (Run A) TextError → Type 0
+  IsTextRun (Ok run) = IsAcceptedRun (Ok run)
+  IsTextRun (Err error.Write) = IsAcceptedRun (Err error.Write)
+  IsTextRun (Err (error.Run Memory)) = IsAcceptedRun (Err (error.Run Memory))
+  IsTextRun (Err (error.Run e)) = PastLimits n workers e × Keeps old new
+  IsTextRun (Err e) = (run_refusal n workers ≡ None) × IsTextError program query e × Keeps old new

@@ -1,21 +1,25 @@
 //! The program `chr`: what it reads, what it writes, and its exit status.
 ghost use Rattle.std.specs.Prelude.{◌≡◌, ◌⊎◌, codes, map, option_map};
 ghost use Rattle.std.specs.String.{string_bytes};
-ghost use Rattle.chr_run.specs.Command.{DoesWords, IsCommand, Refuses, RunsFile, RunsInput, RunsTexts, RunsWords, Shows, after_line, effect, first_line, status_code, unread_text};
+ghost use Rattle.chr_run.specs.Command.{DoesWords, IsCommand, Refuses, RunsFile, RunsInput, RunsTexts, RunsWords, Shows, after_line, effect, first_line};
+ghost use Rattle.chr_run.specs.Reports.{IsWritten, asked_view, status_code, unread_text};
 
 mod replaying;
+mod reporting;
 
 use self::replaying::replay_words;
+use self::reporting::{Asked, report};
 use crate::error::{RunError, TextError};
 use crate::output::write_bytes;
 use crate::refusal::{say, say_refusal, say_unread};
 use crate::runs::run_text;
 use chr_machine::Status;
 use chr_words::files::read_all;
-use chr_words::{Opens, Request, asked, read_file};
+use chr_words::{Creates, Opens, Request, asked, read_file};
 use std::alloc::Global;
 use std::io::{Read, Write};
 use std::sync::Wait;
+use std::thread::Threads;
 
 /// The budget of a run where the words give none.
 const BUDGET: u64 = 100_000;
@@ -48,21 +52,25 @@ fn status_code(status: Status) -> u8
     }
 }
 
-/// Writes the text of the run of a program and a query, or says why there is none.
-fn run_texts<W: Write, E: Write>(
+/// Writes the text of the run of a program and a query, and does what follows it; or says why there is none.
+fn run_texts<R: Threads + Wait + Sync, O: Creates, W: Write, E: Write>(
+    rt: &R,
     alloc: Global,
     program: &[u8],
     query: &[u8],
-    budget: u64,
+    asked: Asked<'_>,
+    files: &O,
     output: &mut W,
     error: &mut E,
 ) -> u8
-    ensures { RunsTexts program.now query.now budget
+    ensures { RunsTexts (IsWritten (O.fresh files.now) O.Sink.contents) program.now query.now (asked_view asked.entry)
         (effect (W.contents output.old) (W.contents output.new)
         (E.contents error.old) (E.contents error.new) result) }
 {
-    match run_text(alloc, program, query, budget, 0, output) {
-        Ok(status) => status_code(status),
+    let budget = asked.budget.unwrap_or(BUDGET);
+    let workers = asked.workers.unwrap_or(0);
+    match run_text(rt, alloc, program, query, budget, workers, output) {
+        Ok(run) => report(alloc, files, &run, asked, error),
         Err(refusal) => {
             say_refusal(error, refusal);
             REFUSED
@@ -71,21 +79,23 @@ fn run_texts<W: Write, E: Write>(
 }
 
 /// The run of what the input has: a query in its first line, and a program after it.
-fn run_input<R: Read, W: Write, E: Write>(
+fn run_input<R: Threads + Wait + Sync, O: Creates, I: Read, W: Write, E: Write>(
+    rt: &R,
     alloc: Global,
-    budget: u64,
-    input: &mut R,
+    asked: Asked<'_>,
+    files: &O,
+    input: &mut I,
     output: &mut W,
     error: &mut E,
 ) -> u8
     ensures { let done = effect (W.contents output.old) (W.contents output.new)
         (E.contents error.old) (E.contents error.new) result in
-        RunsInput (R.remaining input.old) budget done ⊎ Refuses (codes "chr: cannot read\n") done }
+        RunsInput (IsWritten (O.fresh files.now) O.Sink.contents) (I.remaining input.old) (asked_view asked.entry) done ⊎ Refuses (codes "chr: cannot read\n") done }
 {
     match read_all(alloc, input) {
         Some(text) => {
             let (query, program) = split(text.as_slice());
-            run_texts(alloc, program, query, budget, output, error)
+            run_texts(rt, alloc, program, query, asked, files, output, error)
         }
         None => {
             say(error, &["chr: cannot read\n"]);
@@ -95,26 +105,29 @@ fn run_input<R: Read, W: Write, E: Write>(
 }
 
 /// The run of the program in a file.
-fn run_file<O: Opens, W: Write, E: Write>(
+fn run_file<R: Threads + Wait + Sync, O: Opens + Creates, W: Write, E: Write>(
+    rt: &R,
     alloc: Global,
     files: &O,
     path: &str,
     query: &str,
-    budget: u64,
+    asked: Asked<'_>,
     output: &mut W,
     error: &mut E,
 ) -> u8
     ensures { let done = effect (W.contents output.old) (W.contents output.new)
         (E.contents error.old) (E.contents error.new) result in
-        RunsFile (O.bytes_of files.now path.now) query.now budget done
+        RunsFile (IsWritten (O.fresh files.now) O.Sink.contents) (O.bytes_of files.now path.now) query.now (asked_view asked.entry) done
         ⊎ Refuses (unread_text path.now) done }
 {
     match read_file(alloc, files, path) {
         Some(program) => run_texts(
+            rt,
             alloc,
             program.as_slice(),
             query.as_bytes(),
-            budget,
+            asked,
+            files,
             output,
             error,
         ),
@@ -126,56 +139,56 @@ fn run_file<O: Opens, W: Write, E: Write>(
 }
 
 /// The run that the words ask for.
-fn run_words<O: Opens, R: Read, W: Write, E: Write>(
+fn run_words<R: Threads + Wait + Sync, O: Opens + Creates, I: Read, W: Write, E: Write>(
+    rt: &R,
     alloc: Global,
     program: Option<&str>,
     query: Option<&str>,
-    budget: u64,
+    asked: Asked<'_>,
     files: &O,
-    input: &mut R,
+    input: &mut I,
     output: &mut W,
     error: &mut E,
 ) -> u8
-    ensures { RunsWords (option_map (λ t. t.now) program.entry) (option_map (λ t. t.now) query.entry)
-        budget (O.bytes_of files.now) (R.remaining input.old)
+    ensures { RunsWords (IsWritten (O.fresh files.now) O.Sink.contents) (option_map (λ t. t.now) program.entry)
+        (option_map (λ t. t.now) query.entry) (asked_view asked.entry) (O.bytes_of files.now) (I.remaining input.old)
         (effect (W.contents output.old) (W.contents output.new)
         (E.contents error.old) (E.contents error.new) result) }
 {
     match (program, query) {
-        (None, _) => run_input(alloc, budget, input, output, error),
+        (None, _) => run_input(rt, alloc, asked, files, input, output, error),
         (Some(_), None) => {
             say(error, &["chr: QUERY is missing\n"]);
             REFUSED
         }
-        (Some(path), Some(query)) => run_file(alloc, files, path, query, budget, output, error),
+        (Some(path), Some(query)) => run_file(rt, alloc, files, path, query, asked, output, error),
     }
 }
 
 /// The run, or the replay, that the words ask for.
-fn do_words<O: Opens, R: Read, W: Write, E: Write>(
-    rt: &impl Wait,
+fn do_words<R: Threads + Wait + Sync, O: Opens + Creates, I: Read, W: Write, E: Write>(
+    rt: &R,
     alloc: Global,
     program: Option<&str>,
     query: Option<&str>,
-    budget: Option<u64>,
+    asked: Asked<'_>,
     replay: Option<&str>,
     files: &O,
-    input: &mut R,
+    input: &mut I,
     output: &mut W,
     error: &mut E,
 ) -> u8
-    ensures { DoesWords (option_map (λ t. t.now) program.entry) (option_map (λ t. t.now) query.entry)
-        budget (option_map (λ t. t.now) replay.entry) (O.bytes_of files.now) (R.remaining input.old)
+    ensures { DoesWords (IsWritten (O.fresh files.now) O.Sink.contents) (option_map (λ t. t.now) program.entry)
+        (option_map (λ t. t.now) query.entry) (asked_view asked.entry) (option_map (λ t. t.now) replay.entry) (O.bytes_of files.now) (I.remaining input.old)
         (effect (W.contents output.old) (W.contents output.new)
         (E.contents error.old) (E.contents error.new) result) }
 {
     match replay {
-        None => {
-            let budget = budget.unwrap_or(BUDGET);
-            run_words(alloc, program, query, budget, files, input, output, error)
-        }
+        None => run_words(
+            rt, alloc, program, query, asked, files, input, output, error,
+        ),
         Some(schedule) => replay_words(
-            rt, alloc, program, query, budget, schedule, files, output, error,
+            rt, alloc, program, query, asked, schedule, files, output, error,
         ),
     }
 }
@@ -194,21 +207,23 @@ fn show<W: Write, E: Write>(text: &str, output: &mut W, error: &mut E) -> u8
     }
 }
 
-/// What the program `chr` does with the words after its name: PROGRAM, the path of a file, then QUERY, the text of a query, and
-/// `--budget N` or `--replay FILE`. With neither PROGRAM nor QUERY the first line of the input is the query, and the rest is the program.
-/// The text of the run goes out, of 100,000 transitions where there is no N, or that of the replay of the schedule in FILE, whose counts
-/// are said on `error`, or that of `--help`. The answer is the exit status: 0 done, 2 refused, 3 failed, 4 a fault, 5 the budget used up.
-/// Where it is 2, a line on `error` says why.
-pub fn command<O: Opens, R: Read, W: Write, E: Write>(
-    rt: &impl Wait,
+/// What the program `chr` does with the words after its name: PROGRAM, the path of a file, then QUERY, the text of a query, and either
+/// `--replay FILE`, or `--budget N`, `--workers W`, `--record FILE` and `--totals`. With neither PROGRAM nor QUERY the first line of the input
+/// is the query, and the rest is the program. The text of the run goes out, of 100,000 transitions where there is no N and with no worker
+/// where there is no W; then its schedule is written to the file of `--record`, and with `--totals` its counts and totals are said on `error`.
+/// Or the text goes out of the replay of the schedule in a file, whose counts are said on `error`, or that of `--help`. The answer is the exit
+/// status: 0 done, 2 refused, 3 failed, 4 a fault, 5 the budget used up. Where it is 2, a line on `error` says why.
+pub fn command<R: Threads + Wait + Sync, O: Opens + Creates, I: Read, W: Write, E: Write>(
+    rt: &R,
     alloc: Global,
     words: &[String],
     files: &O,
-    input: &mut R,
+    input: &mut I,
     output: &mut W,
     error: &mut E,
 ) -> u8
-    ensures { IsCommand (map string_bytes words.now) (O.bytes_of files.now) (R.remaining input.old)
+    ensures { IsCommand (IsWritten (O.fresh files.now) O.Sink.contents) (map string_bytes words.now)
+        (O.bytes_of files.now) (I.remaining input.old)
         (effect (W.contents output.old) (W.contents output.new)
         (E.contents error.old) (E.contents error.new) result) }
 {
@@ -218,11 +233,22 @@ pub fn command<O: Opens, R: Read, W: Write, E: Write>(
                 program,
                 query,
                 budget,
+                workers,
+                record,
                 replay,
+                totals,
             },
-        ) => do_words(
-            rt, alloc, program, query, budget, replay, files, input, output, error,
-        ),
+        ) => {
+            let asked = Asked {
+                budget,
+                workers,
+                record_path: record,
+                totals,
+            };
+            do_words(
+                rt, alloc, program, query, asked, replay, files, input, output, error,
+            )
+        }
         Ok(Request::Help(text)) => show(text.as_str(), output, error),
         Ok(Request::Refused(text)) => {
             say(error, &[text.as_str()]);

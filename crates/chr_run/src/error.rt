@@ -11,7 +11,7 @@ use std::fmt;
 pub enum RunError {
     /// The budget is above 1,000,000.
     BudgetTooLarge,
-    /// There are more workers than a run can have, which today is none.
+    /// There are more than 64 workers.
     TooManyWorkers,
     /// A growth was refused.
     Memory,

@@ -3,13 +3,19 @@
 
 mod command_line;
 mod error;
+mod numbers;
 mod output;
 mod refusal;
 mod replays;
+mod result;
+mod running;
 mod runs;
 mod sending;
 
+pub use chr_board::{Gate, Point, Tally, Totals};
 pub use command_line::command;
 pub use error::{RunError, TextError};
 pub use replays::replay_text;
+pub use result::Run;
+pub use running::run;
 pub use runs::{run_into, run_text};

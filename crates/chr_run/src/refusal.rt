@@ -1,16 +1,17 @@
 //! The lines that the program `chr` says where it refuses. They take no memory.
-ghost use Rattle.std.specs.Prelude.{◌++◌, Some, codes, map};
+ghost use Rattle.std.specs.Prelude.{◌++◌, OnErr, OnOk, Some, codes, map};
 ghost use Rattle.std.specs.Fmt.{decimal};
+ghost use Rattle.std.specs.Io.KnownBytes.{Appends};
 ghost use Rattle.std.specs.List.{concat};
 ghost use Rattle.chr_read.specs.ErrorText.{read_error_text};
 ghost use Rattle.chr_rules.specs.ErrorText.{rule_error_kind_text, rule_error_text};
 ghost use Rattle.chr_schedule.specs.ErrorView.{schedule_error_text};
 ghost use Rattle.chr_core.specs.ErrorText.{placed_text, replay_error_text};
-ghost use Rattle.chr_run.specs.Command.{refusal_text, unread_text};
+ghost use Rattle.chr_run.specs.Reports.{refusal_text, unread_text, unwritten_text};
 ghost use Rattle.chr_run.specs.Output.{AppendsPart};
 
 use crate::error::TextError;
-use crate::output::write_bytes;
+use crate::output::{Unwritten, write_bytes};
 use chr_core::ReplayError;
 use chr_read::ReadError;
 use chr_rules::RuleError;
@@ -18,16 +19,30 @@ use chr_schedule::ScheduleError;
 use itoa::Buffer;
 use std::io::Write;
 
+/// Says these pieces one after another, and whether they could be written.
+pub fn tell<E: Write>(error: &mut E, pieces: &[&str]) -> Result<(), Unwritten>
+    ensures ok { OnOk result (Appends (E.contents error.old) (E.contents error.new)
+        (concat (map (λ piece. piece.now) pieces.now))) }
+    ensures err { OnErr result (AppendsPart (E.contents error.old) (E.contents error.new)
+        (concat (map (λ piece. piece.now) pieces.now))) }
+{
+    for piece in pieces {
+        match write_bytes(error, piece.as_bytes()) {
+            Ok(()) => {}
+            Err(unwritten) => return Err(unwritten),
+        }
+    }
+    Ok(())
+}
+
 /// Says these pieces one after another, as far as they can be written.
 pub fn say<E: Write>(error: &mut E, pieces: &[&str])
     ensures { AppendsPart (E.contents error.old) (E.contents error.new)
         (concat (map (λ piece. piece.now) pieces.now)) }
 {
-    for piece in pieces {
-        match write_bytes(error, piece.as_bytes()) {
-            Ok(()) => {}
-            Err(_) => return,
-        }
+    match tell(error, pieces) {
+        Ok(()) => {}
+        Err(_) => {}
     }
 }
 
@@ -143,4 +158,11 @@ pub fn say_unread<E: Write>(error: &mut E, path: &str)
     ensures { AppendsPart (E.contents error.old) (E.contents error.new) (unread_text path.now) }
 {
     say(error, &["chr: cannot read ", path, "\n"]);
+}
+
+/// Says that a file cannot be written, as far as it can be written.
+pub fn say_unwritten<E: Write>(error: &mut E, path: &str)
+    ensures { AppendsPart (E.contents error.old) (E.contents error.new) (unwritten_text path.now) }
+{
+    say(error, &["chr: cannot write ", path, "\n"]);
 }

@@ -1,20 +1,25 @@
 //! The text of a run, which goes out while the run goes on.
-ghost use Rattle.std.specs.Prelude.{◌≡◌, ◌≤◌, ◌+◌, [], IfErr, IfOk, OnErr, OnOk, Ok, drop, length};
+ghost use Rattle.std.specs.Prelude.{◌≡◌, ◌≤◌, IfErr, IfOk, OnErr, OnOk, length};
 ghost use Rattle.std.specs.Io.KnownBytes.{Appends};
 ghost use Rattle.chr_semantics.specs.Text.{lines_text};
 ghost use Rattle.chr_semantics.specs.declared.limits.TheConstants.{MAX_TRANSITIONS};
-ghost use Rattle.chr_trace.specs.State.{status_view};
 ghost use Rattle.chr_trace.specs.Texts.{texts};
 ghost use Rattle.chr_machine.specs.MachineView.{machine_view};
 ghost use Rattle.chr_run.specs.Output.{AppendsPart};
-ghost use Rattle.chr_run.specs.Sending.{AreOut, Goes, IsCut, IsPart, Performs, rest_text, whole_text};
+ghost use Rattle.chr_policy.specs.CoordinatorView.{IsAtRest, machine_by};
+ghost use Rattle.chr_run.specs.Sending.{AreOut, IsCut, rest_text};
+ghost use Rattle.chr_run.specs.Turns.{SendsTurns, Turns};
 
 use crate::error::{RunError, TextError};
 use crate::output::write_bytes;
-use chr_machine::{Machine, Status, Stepped};
+use chr_board::{Board, Gate};
+use chr_machine::{Machine, Stepped};
+use chr_policy::Coordinator;
+use chr_shelf::{Run as Name, Shelf};
 use chr_trace::{Ending, write_lines};
 use std::alloc::Allocator;
 use std::io::Write;
+use std::sync::Wait;
 
 /// Writes bytes out, or a first part of them.
 fn send_bytes<W: Write>(bytes: &[u8], writer: &mut W) -> Result<(), TextError>
@@ -47,32 +52,38 @@ fn send_lines<A: Allocator, W: Write>(
     }
 }
 
-/// Makes the first n transitions. Each line is out before the next transition; the answer is how many are out.
-fn perform<A: Allocator + Copy, W: Write>(
-    machine: &mut Machine<'_, A>,
+/// Makes the first n transitions, or as many as there are. Each line is out before the next transition; the answer is how many are out.
+fn perform<J: Name, A: Allocator + Copy, G: Gate, W: Write>(
+    rt: &impl Wait,
+    coordinator: &mut Coordinator<'_, J, A>,
+    shelf: &Shelf<A>,
+    board: &Board<J, A>,
+    gate: &G,
     n: u64,
     buffer: &mut Vec<u8, A>,
     writer: &mut W,
 ) -> Result<usize, TextError>
-    requires start { (machine_view machine.old).lines ≡ [] }
-    requires limit { (machine_view machine.old).steps + n ≤ MAX_TRANSITIONS }
-    ensures performs { OnOk result (Performs n (machine_view machine.old) (machine_view machine.new)) }
+    requires name { shelf.now ≡ J.shelf }
+    requires rests { IsAtRest coordinator.old }
+    requires start { (machine_by coordinator.old).steps ≡ 0 }
+    requires limit { n ≤ MAX_TRANSITIONS }
+    ensures turns { Turns n coordinator.old coordinator.new result }
     ensures sent { IfOk result (AreOut (W.contents writer.old) (W.contents writer.new)
-        (machine_view machine.new).lines) }
-    ensures goes { OnErr result (Goes n (machine_view machine.old) (machine_view machine.new)) }
+        (machine_by coordinator.new).lines) }
+    ensures within { OnErr result ((machine_by coordinator.new).steps ≤ n) }
     ensures part { OnErr result (AppendsPart (W.contents writer.old) (W.contents writer.new)
-        (lines_text (machine_view machine.new).lines)) }
+        (lines_text (machine_by coordinator.new).lines)) }
     ensures err { IfErr result IsCut }
 {
     let mut sent = 0;
     let mut made = 0;
     while made < n {
-        let lines = machine.lines();
+        let lines = coordinator.machine().lines();
         match send_lines(&lines[sent..], buffer, writer) {
             Err(error) => return Err(error),
             Ok(()) => sent = lines.len(),
         }
-        match machine.step() {
+        match coordinator.turn(rt, shelf, board, gate) {
             Err(_) => return Err(TextError::Run(RunError::Memory)),
             Ok(Stepped::Moved) => made += 1,
             Ok(Stepped::Ended) => return Ok(sent),
@@ -116,28 +127,25 @@ fn finish<A: Allocator + Copy, W: Write>(
     }
 }
 
-/// The run of n transitions of a machine that has made none, whose text goes out while it goes on. The buffer is used for it.
-pub fn send_machine<A: Allocator + Copy, W: Write>(
-    machine: &mut Machine<'_, A>,
+/// The run of n transitions of a coordinator that has made none, whose text goes out while it goes on. The buffer is used for it.
+pub(crate) fn send_turns<J: Name, A: Allocator + Copy, G: Gate, W: Write>(
+    rt: &impl Wait,
+    coordinator: &mut Coordinator<'_, J, A>,
+    shelf: &Shelf<A>,
+    board: &Board<J, A>,
+    gate: &G,
     n: u64,
     buffer: &mut Vec<u8, A>,
     writer: &mut W,
-) -> Result<Status, TextError>
-    requires start { (machine_view machine.old).lines ≡ [] }
-    requires limit { (machine_view machine.old).steps + n ≤ MAX_TRANSITIONS }
-    ensures performs { OnOk result (Performs n (machine_view machine.old) (machine_view machine.new)) }
-    ensures text { OnOk result (Appends (W.contents writer.old) (W.contents writer.new)
-        (whole_text (machine_view machine.new))) }
-    ensures status { IfOk result (λ status. status_view status ≡ (machine_view machine.new).status) }
-    ensures cut { IfErr result IsCut }
-    ensures part { OnErr result (IsPart n (machine_view machine.old) (machine_view machine.new)
-        (W.contents writer.old) (W.contents writer.new)) }
+) -> Result<(), TextError>
+    requires name { shelf.now ≡ J.shelf }
+    requires rests { IsAtRest coordinator.old }
+    requires start { (machine_by coordinator.old).steps ≡ 0 }
+    requires limit { n ≤ MAX_TRANSITIONS }
+    ensures { SendsTurns n coordinator.old coordinator.new (W.contents writer.old) (W.contents writer.new) result }
 {
-    match perform(machine, n, buffer, writer) {
+    match perform(rt, coordinator, shelf, board, gate, n, buffer, writer) {
         Err(error) => Err(error),
-        Ok(sent) => match finish(machine, sent, buffer, writer) {
-            Err(error) => Err(error),
-            Ok(()) => Ok(machine.status()),
-        },
+        Ok(sent) => finish(coordinator.machine(), sent, buffer, writer),
     }
 }

@@ -7,7 +7,9 @@ use refusing_alloc::{Refusing, refused_in_turn};
 use std::alloc::{Allocator, Global};
 use std::io::{Error, ErrorKind, Read, Write};
 use std::process::Abort;
+use std::sync::Wait;
 use std::test::Fail;
+use std::thread::Threads;
 
 mod depth;
 mod lines;
@@ -46,6 +48,35 @@ gcd2 @ gcd(N) \\ gcd(M) <=> M >= N | L is M-N, gcd(L).
     lines: 18,
 };
 
+const GCD_TEXT: &str = "1 activate gcd(4)#1
+2 default gcd(4)#1:1
+3 default gcd(4)#1:2
+4 default gcd(4)#1:3
+5 drop gcd(4)#1:4
+6 activate gcd(2)#2
+7 default gcd(2)#2:1
+8 default gcd(2)#2:2
+9 propagate gcd(2)#2:3 gcd2 2,1
+10 solve _0 is 4-2
+11 activate gcd(2)#3
+12 default gcd(2)#3:1
+13 simplify gcd(2)#3:2 gcd2 2,3
+14 solve _1 is 2-2
+15 activate gcd(0)#4
+16 simplify gcd(0)#4:1 gcd1 4
+17 default gcd(2)#2:3
+18 drop gcd(2)#2:4
+end done
+stack 0
+store 1
+gcd(2)#2
+bindings 0
+history 3
+gcd2 2,1
+gcd2 2,3
+gcd1 4
+";
+
 const SPECULATION: Case = Case {
     program: ":- chr_constraint act/0, q/1, s/1, out/1.
 p1 @ act ==> s(1).
@@ -59,7 +90,7 @@ const CASES: [Case; 3] = [GROUND_RULE, GCD, SPECULATION];
 
 /// Keeps what is written. It takes at most `step` bytes at a call, and fails once `calls` of them were made.
 #[derive(Drop)]
-struct Sink {
+pub struct Sink {
     text: Vec<u8>,
     step: usize,
     calls: u64,
@@ -130,25 +161,22 @@ impl Read for Endless {
     }
 }
 
-fn run_case<A: Allocator + Copy>(
+/// How the run of a case ended, or why it was refused.
+fn run_case<A: Allocator + Copy + Send + Sync, R: Threads + Wait + Sync>(
+    rt: &R,
     alloc: A,
     case: Case,
     sink: &mut Sink,
 ) -> Result<Status, TextError> {
-    run_text(
-        alloc,
-        case.program.as_bytes(),
-        case.query.as_bytes(),
-        100,
-        0,
-        sink,
-    )
+    let (program, query) = (case.program.as_bytes(), case.query.as_bytes());
+    let run = run_text(rt, alloc, program, query, 100, 0, sink)?;
+    Ok(run.outcome.status)
 }
 
 /// The whole text of a run to its end.
-fn text_of(alloc: Global, rt: &impl Abort, case: Case) -> Vec<u8> {
+fn text_of<R: Threads + Wait + Abort + Sync>(alloc: Global, rt: &R, case: Case) -> Vec<u8> {
     let mut sink = Sink::open(alloc);
-    let answer = run_case(alloc, case, &mut sink);
+    let answer = run_case(rt, alloc, case, &mut sink);
     assert_eq!(rt; answer, Ok(Status::Done), "{}", case.query);
     sink.text
 }
@@ -157,11 +185,18 @@ fn lines_in(text: &[u8]) -> usize {
     text.iter().filter(|c| **c == b'\n').count()
 }
 
-/// The texts are refused so, and nothing goes out.
-fn refuses(alloc: Global, rt: &impl Abort, program: &[u8], query: &[u8], error: TextError) {
+/// The texts are refused so, with this budget and so many workers, and nothing goes out.
+fn refuses<R: Threads + Wait + Abort + Sync>(
+    alloc: Global,
+    rt: &R,
+    (program, query): (&str, &str),
+    (budget, workers): (u64, u32),
+    error: TextError,
+) {
+    let (program, query) = (program.as_bytes(), query.as_bytes());
     let mut sink = Sink::open(alloc);
-    let answer = run_text(alloc, program, query, 100, 0, &mut sink);
-    assert_eq!(rt; answer, Err(error));
+    let answer = run_text(rt, alloc, program, query, budget, workers, &mut sink);
+    assert_eq!(rt; answer.err(), Some(error));
     assert!(rt; sink.text.is_empty());
 }
 
@@ -200,7 +235,7 @@ fn texts_in_order(rt: HostRuntime) {
             TextError::Goals(mistaken(RuleErrorKind::Undeclared, 1, 0)),
         ),
     ] {
-        refuses(rt.alloc(), &rt, program.as_bytes(), query.as_bytes(), error);
+        refuses(rt.alloc(), &rt, (program, query), (100, 0), error);
     }
 }
 
@@ -210,22 +245,18 @@ fn limits_first(rt: HostRuntime) {
     for (program, query) in [(GROUND_PROGRAM, GROUND_QUERY), ("!", "!")] {
         for (budget, workers, error) in [
             (1_000_001, 0, RunError::BudgetTooLarge),
-            (1_000_001, 1, RunError::BudgetTooLarge),
+            (1_000_001, 65, RunError::BudgetTooLarge),
             (u64::MAX, u32::MAX, RunError::BudgetTooLarge),
-            (1_000_000, 1, RunError::TooManyWorkers),
-            (0, 65, RunError::TooManyWorkers),
+            (1_000_000, 65, RunError::TooManyWorkers),
+            (0, u32::MAX, RunError::TooManyWorkers),
         ] {
-            let mut sink = Sink::open(rt.alloc());
-            let answer = run_text(
+            refuses(
                 rt.alloc(),
-                program.as_bytes(),
-                query.as_bytes(),
-                budget,
-                workers,
-                &mut sink,
+                &rt,
+                (program, query),
+                (budget, workers),
+                TextError::Run(error),
             );
-            assert_eq!(rt; answer, Err(TextError::Run(error)));
-            assert!(rt; sink.text.is_empty());
         }
     }
 }

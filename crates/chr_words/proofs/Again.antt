@@ -1,13 +1,14 @@
 -- An option that is said a second time is refused, whatever stands after it.
-use Rattle.std.proofs.Common.{◌≡◌, ◌∙◌, ◌&&◌, ℕ, Bool, true, false, cond, refl, ap, List, [], ◌∷◌, Option, Some, None, codes}
+use Rattle.std.proofs.Common.{◌≡◌, ◌∙◌, ◌&&◌, ℕ, Bool, true, false, cond, refl, ap, List, [], ◌∷◌, Option, Some, None}
 use Rattle.std.specs.Prelude.{slice_get}
 use Rattle.std.specs.Str.{bytes_eq, chars}
+use Rattle.std.proofs.Math.Bool.{and-true}
 use Rattle.clap.specs.Lexer.{long_of, short_of}
 use Rattle.clap.specs.Kinds.{or_else}
 use Rattle.clap.specs.Faults.{settle_fault, values_fault}
 use Rattle.clap.specs.Walk.{Row, Text, Waiting, has_row, idle, option}
 use Rattle.clap.specs.declared.error.kind.ErrorKind.TheVariants as kind
-use Rattle.chr_words.specs.Words.{Taker, budget, name_of, refused, replay}
+use Rattle.chr_words.specs.Words.{Taker, budget, name_of, recorded, refused, replay, workers}
 use Rattle.chr_words.proofs.Rows.{built_of}
 use Rattle.chr_words.proofs.Turns.{are_wrong, ends_wrong, fault_at, goes_on, rules}
 use Rattle.chr_words.proofs.Steps.{at, held_at, turn_is, walk_is}
@@ -27,22 +28,33 @@ value_is o word = Some (name_of o, word ∷ [])
 -- it has none yet
 pub no_value_fault : (o : Taker) (rows : List Row) → settle_fault rules false (held_at rows (no_value o)) ≡ kind.InvalidValue ∷ []
 no_value_fault budget rows = refl
+no_value_fault workers rows = refl
+no_value_fault recorded rows = refl
 no_value_fault replay rows = refl
+
+used_value : (o : Taker) (rows : List Row) (word : Text) → settle_fault rules false (held_at rows (value_is o word))
+    ≡ or_else (cond (has_row (name_of o) rows && true) (kind.ArgumentConflict ∷ []) []) (values_fault (built_of o) (word ∷ []))
+used_value budget rows word = refl
+used_value workers rows word = refl
+used_value recorded rows word = refl
+used_value replay rows word = refl
 
 pub value_fault : (o : Taker) (rows : List Row) (word : Text) (b : Bool) → has_row (name_of o) rows ≡ b
     → settle_fault rules false (held_at rows (value_is o word)) ≡ or_else (cond b (kind.ArgumentConflict ∷ []) []) (values_fault (built_of o) (word ∷ []))
-value_fault budget rows word true e = ap (λ b. or_else (cond (b && true) (kind.ArgumentConflict ∷ []) []) (values_fault (built_of budget) (word ∷ []))) e
-value_fault budget rows word false e = ap (λ b. or_else (cond (b && true) (kind.ArgumentConflict ∷ []) []) (values_fault (built_of budget) (word ∷ []))) e
-value_fault replay rows word true e = ap (λ b. or_else (cond (b && true) (kind.ArgumentConflict ∷ []) []) (values_fault (built_of replay) (word ∷ []))) e
-value_fault replay rows word false e = ap (λ b. or_else (cond (b && true) (kind.ArgumentConflict ∷ []) []) (values_fault (built_of replay) (word ∷ []))) e
+value_fault o rows word b e =
+    used_value o rows word ∙ ap (λ b. or_else (cond b (kind.ArgumentConflict ∷ []) []) (values_fault (built_of o) (word ∷ []))) (and-true (has_row (name_of o) rows) ∙ e)
 
 -- the next word is the value
 pub plain_fault : (o : Taker) (position : ℕ) (rows : List Row) (word : Text) → plain_fault_by (awaited o) position (held_at rows (no_value o)) word ≡ []
 plain_fault budget position rows word = refl
+plain_fault workers position rows word = refl
+plain_fault recorded position rows word = refl
 plain_fault replay position rows word = refl
 
 pub plain_walk : (o : Taker) (position : ℕ) (rows : List Row) (word : Text) → plain_walk_by (awaited o) position rows (no_value o) word ≡ at false idle position rows (value_is o word)
 plain_walk budget position rows word = refl
+plain_walk workers position rows word = refl
+plain_walk recorded position rows word = refl
 plain_walk replay position rows word = refl
 
 module _ (o : Taker) (position : ℕ) (rows : List Row) (again : has_row (name_of o) rows ≡ true) where

@@ -1,8 +1,9 @@
 -- The answer is what the words ask for.
 use Rattle.std.proofs.Common.{◌≡◌, ◌∙◌, ℕ, Bool, true, false, refl, sym, ap, subst, List, [], ◌∷◌, Option, Some, None, codes, true≢false, inl, inr}
-use Rattle.std.specs.Prelude.{◌⊎◌, option_map}
+use Rattle.std.specs.Prelude.{◌^◌, ◌⊎◌, is_some, option_map}
 use Rattle.clap.specs.Kinds.{IsAmong, Kinds}
 use Rattle.clap.specs.Faults.{fault_of}
+use Rattle.clap.specs.Matches.{first_value, one_text}
 use Rattle.clap.specs.Simple.{matches_of}
 use Rattle.clap.specs.Walk.{Text, first_of, one_of, rows_of}
 use Rattle.clap.proofs.WalkLemmas.{first_value-rows, one_text-rows}
@@ -12,30 +13,38 @@ use Rattle.clap.specs.declared.parser.matches.Found.{Found}
 use Rattle.chr_words.specs.declared.words.Request.{Request}
 use Rattle.chr_words.specs.declared.words.Request.TheVariants.{Run, Help, Refused}
 use Rattle.chr_words.specs.App.{chr_app}
-use Rattle.chr_words.specs.Answer.{IsAnswer, IsRead, IsRefusal}
-use Rattle.chr_words.specs.Words.{Asks, RunWords, Values, asks_of, budget, help, number_of, refused, run}
-use Rattle.chr_words.proofs.Rows.{AreFit}
+use Rattle.chr_words.specs.Answer.{IsAnswer, IsRead, IsRefusal, ReadsBelow}
+use Rattle.chr_words.specs.Words.{Asks, RunWords, asks_of, budget, help, is_below, number_of, refused, run, workers}
 use Rattle.chr_words.proofs.Turns.{Shows, are_wrong, is_wrong}
 use Rattle.chr_words.proofs.Walked.{IsParsedAs, all_parsed}
 
-budget_is : (f : Found) (values : Values) (b : Option ℕ) → one_of (codes "budget") (rows_of f) ≡ values.budget → AreFit values → (program query replay : _) → IsRead f (Run program query b replay)
-    → b ≡ option_map number_of values.budget
-budget_is f values b is fit program query replay read = go values.budget refl
-  where
-    go : (said : Option Text) → values.budget ≡ said → b ≡ option_map number_of said
-    go None e = read.2 (one_text-rows f (codes "budget") ∙ is ∙ e)
-    go (Some text) e = read.3 text (one_text-rows f (codes "budget") ∙ is ∙ e) (fit budget text e)
+-- a number is the value of its option
+number_of_is : (bound : ℕ) (found said : Option Text) (n : Option ℕ) → found ≡ said → ((text : Text) → said ≡ Some text → is_below bound text ≡ true) → ReadsBelow bound found n
+    → n ≡ option_map number_of said
+number_of_is bound None None n e fit read = read
+number_of_is bound None (Some text) n e fit read = absurd (true≢false (ap is_some (sym e)))
+number_of_is bound (Some x) None n e fit read = absurd (true≢false (ap is_some e))
+number_of_is bound (Some x) (Some text) n e fit read = read (fit x (sym e)) ∙ ap (option_map number_of) e
 
 shown : (words : List Text) (f : Found) (run_words : RunWords) (r : Request) → asks_of words ≡ run run_words → rows_of f ≡ matches_of chr_app words → Shows run_words (matches_of chr_app words)
     → IsRead f r → IsAnswer words r
-shown words f run_words (Run program query b replay) asks rows shows read = (
+shown words f run_words (Run program query b w c p t) asks rows shows read = (
   run_words,
   asks,
-  read.0 ∙ first_value-rows f (codes "PROGRAM") ∙ ap (first_of (codes "PROGRAM")) rows ∙ shows.program,
-  read.1 ∙ first_value-rows f (codes "QUERY") ∙ ap (first_of (codes "QUERY")) rows ∙ shows.query,
-  budget_is f run_words.values b (ap (one_of (codes "budget")) rows ∙ shows.budget) shows.fit program query replay read,
-  read.4 ∙ first_value-rows f (codes "replay") ∙ ap (first_of (codes "replay")) rows ∙ shows.replay,
+  read.0 ∙ first (codes "PROGRAM") ∙ shows.program,
+  read.1 ∙ first (codes "QUERY") ∙ shows.query,
+  number_of_is (2 ^ 64) _ run_words.values.budget b (one (codes "budget") ∙ shows.budget) (shows.fit budget) read.2,
+  number_of_is (2 ^ 32) _ run_words.values.workers w (one (codes "workers") ∙ shows.workers) (shows.fit workers) read.3,
+  read.4 ∙ first (codes "record") ∙ shows.recorded,
+  read.5 ∙ first (codes "replay") ∙ shows.replay,
+  read.6 run_words.values.totals (one (codes "totals") ∙ shows.totals),
 )
+  where
+    first : (id : Text) → first_value f id ≡ first_of id (matches_of chr_app words)
+    first id = first_value-rows f id ∙ ap (first_of id) rows
+
+    one : (id : Text) → one_text f id ≡ one_of id (matches_of chr_app words)
+    one id = one_text-rows f id ∙ ap (one_of id) rows
 shown words f run_words (Help text) asks rows shows read = absurd read
 shown words f run_words (Refused text) asks rows shows read = absurd read
 
@@ -77,7 +86,7 @@ among_at k a b e among = subst (λ (kinds : Kinds). IsAmong k kinds) e among
 
 -- words at which clap gives an error
 pub answered_refusal : (words : List Text) (k : ErrorKind) (r : Request) → (k ≡ kind.OutOfMemory) ⊎ IsAmong k (fault_of chr_app words) → IsRefusal k r → IsAnswer words r
-answered_refusal words k (Run program query b replay) has says = absurd says
+answered_refusal words k (Run program query b w c p t) has says = absurd says
 answered_refusal words k (Help text) has says = go (asks_of words) refl (all_parsed words)
   where
     among : IsAmong k (fault_of chr_app words)

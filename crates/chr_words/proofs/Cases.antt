@@ -9,8 +9,8 @@ use Rattle.clap.specs.Faults.{bundle_fault, bundle_step_fault, flags_fault, long
 use Rattle.clap.specs.Walk.{Held, Row, Rule, Text, Waiting, Walk, after_flag, after_step, arg_by_long, arg_by_short, bundle_met, bundle_step, done, idle, long_met, option, short_met, plain, plain_word, reacted, settled_rows, short_or_plain, used}
 use Rattle.clap.specs.declared.error.kind.ErrorKind.{ErrorKind}
 use Rattle.clap.specs.declared.error.kind.ErrorKind.TheVariants as kind
-use Rattle.chr_words.specs.Words.{Taker, budget, name_of, named, replay}
-use Rattle.chr_words.proofs.Rows.{budget_built, built_of, help_built, replay_built}
+use Rattle.chr_words.specs.Words.{Flag, Taker, budget, flag_named, help_flag, name_of, named, recorded, replay, totals_flag, workers}
+use Rattle.chr_words.proofs.Rows.{budget_built, built_of, flag_built, help_built, record_built, replay_built, totals_built, workers_built}
 use Rattle.chr_words.proofs.Turns.{is_wrong, rules, top}
 use Rattle.chr_words.proofs.Steps.{at, fault_by, held_at, walk_by}
 
@@ -20,25 +20,36 @@ pub record Wrong (fault : Kinds) : Type 0 where
   pub is : fault ≡ kind ∷ []
   pub wrong : is_wrong kind ≡ true
 
--- the argument of a name, by the option that takes a value, or by whether the name is that of `--help`
-abbrev pub by_names : Option Taker → Bool → Option Rule
-by_names (Some o) b = Some (built_of o)
-by_names None b = cond b (Some help_built) None
+-- the argument of a name, by the option that takes a value, or by the one that takes none
+abbrev pub by_names : Option Taker → Option Flag → Option Rule
+by_names (Some o) f = Some (built_of o)
+by_names None (Some f) = Some (flag_built f)
+by_names None None = None
 
-abbrev named_by : Bool → Bool → Option Taker
-named_by a c = cond a (Some budget) (cond c (Some replay) None)
+-- by whether the name is that of the budget, of the workers, of the record, of the replay, of the totals, of the help
+abbrev named_by : Bool → Bool → Bool → Bool → Option Taker
+named_by b w c r = cond b (Some budget) (cond w (Some workers) (cond c (Some recorded) (cond r (Some replay) None)))
 
-abbrev rule_by : Bool → Bool → Bool → Option Rule
-rule_by a c b = cond a (Some budget_built) (cond c (Some replay_built) (cond b (Some help_built) None))
+abbrev flag_named_by : Bool → Bool → Option Flag
+flag_named_by t h = cond t (Some totals_flag) (cond h (Some help_flag) None)
 
-rule_is : (a c b : Bool) → rule_by (a || false) (c || false) (b || false) ≡ by_names (named_by a c) b
-rule_is true c b = refl
-rule_is false true b = refl
-rule_is false false true = refl
-rule_is false false false = refl
+abbrev rule_by : Bool → Bool → Bool → Bool → Bool → Bool → Option Rule
+rule_by b w c r t h =
+    cond b (Some budget_built) (cond w (Some workers_built) (cond c (Some record_built) (cond r (Some replay_built) (cond t (Some totals_built) (cond h (Some help_built) None)))))
 
-found_is : (name : Text) (n : Option Taker) (b : Bool) → named name ≡ n → bytes_eq (codes "help") name ≡ b → arg_by_long rules name ≡ by_names n b
-found_is name n b is_n is_b = rule_is (bytes_eq (codes "budget") name) (bytes_eq (codes "replay") name) (bytes_eq (codes "help") name) ∙ ap₂ by_names is_n is_b
+rule_is : (b w c r t h : Bool) → rule_by (b || false) (w || false) (c || false) (r || false) (t || false) (h || false) ≡ by_names (named_by b w c r) (flag_named_by t h)
+rule_is true w c r t h = refl
+rule_is false true c r t h = refl
+rule_is false false true r t h = refl
+rule_is false false false true t h = refl
+rule_is false false false false true h = refl
+rule_is false false false false false true = refl
+rule_is false false false false false false = refl
+
+found_is : (name : Text) (n : Option Taker) (f : Option Flag) → named name ≡ n → flag_named name ≡ f → arg_by_long rules name ≡ by_names n f
+found_is name n f is_n is_f =
+    rule_is (bytes_eq (codes "budget") name) (bytes_eq (codes "workers") name) (bytes_eq (codes "record") name) (bytes_eq (codes "replay") name) (bytes_eq (codes "totals") name)
+    (bytes_eq (codes "help") name) ∙ ap₂ by_names is_n is_f
 
 -- a long option, by the argument that it names
 abbrev pub long_fault_by : Waiting → ℕ → Held → Text → Option Text → Option Rule → Kinds
@@ -51,65 +62,87 @@ long_walk_by waiting position rows pending word v found =
     let met = after_flag rules waiting word (long_met rules found v (held_at rows pending)).0 (long_met rules found v (held_at rows pending)).1 in
     after_step rules word (at false waiting position rows pending) met.0 met.1
 
-module _ (waiting : Waiting) (position : ℕ) (rows : List Row) (pending : Option (Text × List Text)) (word name : Text) (v : Option Text) (n : Option Taker) (b : Bool)
-    (is_n : named name ≡ n) (is_b : bytes_eq (codes "help") name ≡ b) where
-  pub long_fault_is : fault_by waiting position (held_at rows pending) word false (Some (name, v)) ≡ long_fault_by waiting position (held_at rows pending) word v (by_names n b)
-  long_fault_is = ap (long_fault_by waiting position (held_at rows pending) word v) (found_is name n b is_n is_b)
+module _ (waiting : Waiting) (position : ℕ) (rows : List Row) (pending : Option (Text × List Text)) (word name : Text) (v : Option Text) (n : Option Taker) (f : Option Flag)
+    (is_n : named name ≡ n) (is_f : flag_named name ≡ f) where
+  pub long_fault_is : fault_by waiting position (held_at rows pending) word false (Some (name, v)) ≡ long_fault_by waiting position (held_at rows pending) word v (by_names n f)
+  long_fault_is = ap (long_fault_by waiting position (held_at rows pending) word v) (found_is name n f is_n is_f)
 
-  pub long_walk_is : walk_by waiting position rows pending word false (Some (name, v)) ≡ long_walk_by waiting position rows pending word v (by_names n b)
-  long_walk_is = ap (long_walk_by waiting position rows pending word v) (found_is name n b is_n is_b)
+  pub long_walk_is : walk_by waiting position rows pending word false (Some (name, v)) ≡ long_walk_by waiting position rows pending word v (by_names n f)
+  long_walk_is = ap (long_walk_by waiting position rows pending word v) (found_is name n f is_n is_f)
 
 -- an option that takes a value, without one and with one
 module _ (waiting : Waiting) (position : ℕ) (rows : List Row) (pending : Option (Text × List Text)) (word : Text) where
   pub alone_fault : (o : Taker) → long_fault_by waiting position (held_at rows pending) word None (Some (built_of o)) ≡ or_else (settle_fault rules false (held_at rows pending)) []
   alone_fault budget = refl
+  alone_fault workers = refl
+  alone_fault recorded = refl
   alone_fault replay = refl
 
   pub alone_walk : (o : Taker) → long_walk_by waiting position rows pending word None (Some (built_of o))
       ≡ at false (option (name_of o)) position (settled_rows rules pending rows) (Some (name_of o, []))
   alone_walk budget = refl
+  alone_walk workers = refl
+  alone_walk recorded = refl
   alone_walk replay = refl
 
   pub valued_fault : (o : Taker) (x : Text) → long_fault_by waiting position (held_at rows pending) word (Some x) (Some (built_of o))
       ≡ or_else (or_else (settle_fault rules false (held_at rows pending)) (use_fault false (built_of o) (x ∷ []) (settled_rows rules pending rows))) []
   valued_fault budget x = refl
+  valued_fault workers x = refl
+  valued_fault recorded x = refl
   valued_fault replay x = refl
 
   pub valued_walk : (o : Taker) (x : Text) → long_walk_by waiting position rows pending word (Some x) (Some (built_of o))
       ≡ at false idle position (used (built_of o) (x ∷ []) (settled_rows rules pending rows)) None
   valued_walk budget x = refl
+  valued_walk workers x = refl
+  valued_walk recorded x = refl
   valued_walk replay x = refl
+
+  -- an option that takes none, with one and without
+  pub flag_valued : (f : Flag) (x : Text) → long_fault_by waiting position (held_at rows pending) word (Some x) (Some (flag_built f)) ≡ kind.TooManyValues ∷ []
+  flag_valued totals_flag x = refl
+  flag_valued help_flag x = refl
+
+  pub flag_fault : (f : Flag) → long_fault_by waiting position (held_at rows pending) word None (Some (flag_built f))
+      ≡ or_else (or_else (settle_fault rules false (held_at rows pending)) (use_fault false (flag_built f) [] (settled_rows rules pending rows))) []
+  flag_fault totals_flag = refl
+  flag_fault help_flag = refl
+
+  pub totals_walk : long_walk_by waiting position rows pending word None (Some totals_built) ≡ at false idle position (used totals_built [] (settled_rows rules pending rows)) None
+  totals_walk = refl
 
 -- where what is pending fails, a long option fails
 pub long_wrong : (waiting : Waiting) (position : ℕ) (rows : List Row) (pending : Option (Text × List Text)) (word name : Text) (v : Option Text) (k : ErrorKind)
     → settle_fault rules false (held_at rows pending) ≡ k ∷ [] → is_wrong k ≡ true → Wrong (fault_by waiting position (held_at rows pending) word false (Some (name, v)))
-long_wrong waiting position rows pending word name v k is wrong = go (named name) (bytes_eq (codes "help") name) v refl refl
+long_wrong waiting position rows pending word name v k is wrong = go (named name) (flag_named name) v refl refl
   where
-    go : (n : Option Taker) (b : Bool) (v : Option Text) → named name ≡ n → bytes_eq (codes "help") name ≡ b → Wrong (fault_by waiting position (held_at rows pending) word false (Some (name, v)))
-    go (Some o) b None is_n is_b = record {
+    go : (n : Option Taker) (f : Option Flag) (v : Option Text) → named name ≡ n → flag_named name ≡ f → Wrong (fault_by waiting position (held_at rows pending) word false (Some (name, v)))
+    go (Some o) f None is_n is_f = record {
       kind = k;
-      is = long_fault_is waiting position rows pending word name None (Some o) b is_n is_b ∙ alone_fault waiting position rows pending word o ∙ ap (λ f. or_else f []) is;
+      is = long_fault_is waiting position rows pending word name None (Some o) f is_n is_f ∙ alone_fault waiting position rows pending word o ∙ ap (λ f. or_else f []) is;
       wrong = wrong;
     }
-    go (Some o) b (Some x) is_n is_b = record {
+    go (Some o) f (Some x) is_n is_f = record {
       kind = k;
-      is = long_fault_is waiting position rows pending word name (Some x) (Some o) b is_n is_b ∙ valued_fault waiting position rows pending word o x
-          ∙ ap (λ f. or_else (or_else f (use_fault false (built_of o) (x ∷ []) (settled_rows rules pending rows))) []) is;
+      is = long_fault_is waiting position rows pending word name (Some x) (Some o) f is_n is_f ∙ valued_fault waiting position rows pending word o x
+          ∙ ap (λ e. or_else (or_else e (use_fault false (built_of o) (x ∷ []) (settled_rows rules pending rows))) []) is;
       wrong = wrong;
     }
-    go None true None is_n is_b = record {
+    go None (Some f) None is_n is_f = record {
       kind = k;
-      is = long_fault_is waiting position rows pending word name None None true is_n is_b ∙ ap (λ f. or_else (or_else f (kind.DisplayHelp ∷ [])) []) is;
+      is = long_fault_is waiting position rows pending word name None None (Some f) is_n is_f ∙ flag_fault waiting position rows pending word f
+          ∙ ap (λ e. or_else (or_else e (use_fault false (flag_built f) [] (settled_rows rules pending rows))) []) is;
       wrong = wrong;
     }
-    go None true (Some x) is_n is_b = record {
+    go None (Some f) (Some x) is_n is_f = record {
       kind = kind.TooManyValues;
-      is = long_fault_is waiting position rows pending word name (Some x) None true is_n is_b;
+      is = long_fault_is waiting position rows pending word name (Some x) None (Some f) is_n is_f ∙ flag_valued waiting position rows pending word f x;
       wrong = refl;
     }
-    go None false v is_n is_b = record {
+    go None None v is_n is_f = record {
       kind = kind.UnknownArgument;
-      is = long_fault_is waiting position rows pending word name v None false is_n is_b;
+      is = long_fault_is waiting position rows pending word name v None None is_n is_f;
       wrong = refl;
     }
 

@@ -42,13 +42,19 @@ is_run _ = false
 -- no option is said
 run_only : (words : List (List ℕ)) (run_words : RunWords) (r : Request) → asks_of words ≡ run run_words → run_words.values ≡ no_values → IsAnswer words r
     → IsRun run_words.program run_words.query r
-run_only words run_words (Run program query budget replay) e none (found, is, p, q, b, f) =
+run_only words run_words (Run program query budget workers recorded replay totals) e none (found, is, p, q, b, w, c, f, t) =
     let same : found ≡ run_words = ap said_in (sym is ∙ e) in (
       p ∙ ap (λ (s : RunWords). s.program) same,
       q ∙ ap (λ (s : RunWords). s.query) same,
-      b ∙ ap (λ (s : RunWords). option_map number_of s.values.budget) same ∙ ap (λ (v : Values). option_map number_of v.budget) none,
-      f ∙ ap (λ (s : RunWords). s.values.replay) same ∙ ap (λ (v : Values). v.replay) none,
+      b ∙ ap (λ (v : Values). option_map number_of v.budget) (said same),
+      w ∙ ap (λ (v : Values). option_map number_of v.workers) (said same),
+      c ∙ ap (λ (v : Values). v.recorded) (said same),
+      f ∙ ap (λ (v : Values). v.replay) (said same),
+      t ∙ ap (λ (v : Values). v.totals) (said same),
     )
+  where
+    said : {found : RunWords} → found ≡ run_words → found.values ≡ no_values
+    said same = ap (λ (s : RunWords). s.values) same ∙ none
 run_only words run_words (Help text) e none is = absurd (true≢false (ap is_run (sym e ∙ is)))
 run_only words run_words (Refused text) e none is = absurd (true≢false (ap is_run (sym e ∙ is)))
 

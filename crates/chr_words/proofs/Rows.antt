@@ -1,16 +1,17 @@
 -- What the rows of a parse hold of what was said.
-use Rattle.std.proofs.Common.{◌≡◌, ◌∙◌, ◌++◌, ◌||◌, Bool, true, false, cond, refl, sym, ap, subst, List, [], ◌∷◌, Option, Some, None, codes, true≢false}
+use Rattle.std.proofs.Common.{◌≡◌, ◌∙◌, ◌++◌, ◌||◌, ◌⊎◌, inl, inr, Bool, true, false, cond, refl, sym, ap, ap₂, subst, List, [], ◌∷◌, Option, Some, None, codes, true≢false}
 use Rattle.std.specs.Prelude.{is_some, slice_get}
 use Rattle.std.specs.List.{find}
 use Rattle.std.specs.Prelude.{option_and_then, unwrap_or}
 use Rattle.std.specs.Str.{bytes_eq}
-use Rattle.clap.specs.Walk.{Row, Rule, Text, first_of, has_row, one_of, reading_by, row_text, stronger, used, with_values, without}
+use Rattle.clap.specs.Walk.{Row, Rule, Text, first_of, has_row, one_of, reading_by, row_text, stronger, used, with_default, with_values, without}
 use Rattle.clap.specs.Simple.{filled, help_rule, with_index}
+use Rattle.clap.specs.Values.{bool_text}
 use Rattle.clap.specs.declared.parser.matches.ValueSource.{ValueSource}
-use Rattle.clap.specs.declared.parser.matches.ValueSource.TheVariants.{CommandLine}
+use Rattle.clap.specs.declared.parser.matches.ValueSource.TheVariants.{CommandLine, DefaultValue}
 use Rattle.clap.specs.declared.builder.value_parser.Reading.{Reading as How}
-use Rattle.chr_words.specs.Words.{RunWords, Taker, Values, budget, fits, name_of, replay, value_of, with_value}
-use Rattle.chr_words.specs.App.{budget_rule, program_rule, query_rule, replay_rule}
+use Rattle.chr_words.specs.Words.{Flag, Taker, Values, budget, fits, help_flag, name_of, recorded, replay, totals_flag, value_of, with_totals, with_value, workers}
+use Rattle.chr_words.specs.App.{budget_rule, program_rule, query_rule, record_rule, replay_rule, totals_rule, workers_rule}
 
 abbrev pub program_built : Rule
 program_built = with_index 1 (filled program_rule)
@@ -21,15 +22,30 @@ query_built = with_index 2 (filled query_rule)
 abbrev pub budget_built : Rule
 budget_built = with_index 3 (filled budget_rule)
 
+abbrev pub workers_built : Rule
+workers_built = with_index 3 (filled workers_rule)
+
+abbrev pub record_built : Rule
+record_built = with_index 3 (filled record_rule)
+
 abbrev pub replay_built : Rule
 replay_built = with_index 3 (filled replay_rule)
 
 abbrev pub built_of : Taker → Rule
 built_of budget = budget_built
+built_of workers = workers_built
+built_of recorded = record_built
 built_of replay = replay_built
+
+abbrev pub totals_built : Rule
+totals_built = with_index 3 (filled totals_rule)
 
 abbrev pub help_built : Rule
 help_built = with_index 3 (filled help_rule)
+
+abbrev pub flag_built : Flag → Rule
+flag_built totals_flag = totals_built
+flag_built help_flag = help_built
 
 -- how its value is read
 abbrev how_of : Taker → How
@@ -123,6 +139,10 @@ HasFirst-same id n rows v e none is_first is_one = record {
   has = has_row-same id n rows e;
 }
 
+-- what a use of `--totals` leaves in its row
+abbrev pub said_totals : Bool → Option Text
+said_totals said = cond said (Some (bool_text true)) None
+
 -- each value is one that its option takes
 abbrev pub AreFit : Values → Type 0
 AreFit values = (o : Taker) (text : Text) → value_of o values ≡ Some text → fits o text ≡ true
@@ -132,6 +152,7 @@ pub record Holds (program query : Option Text) (values : Values) (rows : List Ro
   pub at_program : HasFirst (codes "PROGRAM") rows program
   pub at_query : HasFirst (codes "QUERY") rows query
   pub at_value : (o : Taker) → HasFirst (name_of o) rows (value_of o values)
+  pub at_totals : HasFirst (codes "totals") rows (said_totals values.totals)
   pub ordered : program ≡ None → query ≡ None
   pub fit : AreFit values
 
@@ -153,12 +174,15 @@ program_used query values rows v h =
       at_program = HasFirst-same _ _ rows v refl h.at_program.has refl refl;
       at_query = HasFirst-other _ _ rows query refl h.at_query;
       at_value = values_other _ rows values other h.at_value;
+      at_totals = HasFirst-other _ _ rows _ refl h.at_totals;
       ordered = λ bad. absurd (true≢false (ap is_some bad));
       fit = h.fit;
     })
   where
     other : (o : Taker) → bytes_eq (codes "PROGRAM") (name_of o) ≡ false
     other budget = refl
+    other workers = refl
+    other recorded = refl
     other replay = refl
 
 pub query_used : (p : Text) (values : Values) (rows : List Row) (v : Text) → Holds (Some p) None values rows → Holds (Some p) (Some v) values (used query_built (v ∷ []) rows)
@@ -169,12 +193,15 @@ query_used p values rows v h =
       at_program = HasFirst-other _ _ rows (Some p) refl h.at_program;
       at_query = HasFirst-same _ _ rows v refl h.at_query.has refl refl;
       at_value = values_other _ rows values other h.at_value;
+      at_totals = HasFirst-other _ _ rows _ refl h.at_totals;
       ordered = λ bad. absurd (true≢false (ap is_some bad));
       fit = h.fit;
     })
   where
     other : (o : Taker) → bytes_eq (codes "QUERY") (name_of o) ≡ false
     other budget = refl
+    other workers = refl
+    other recorded = refl
     other replay = refl
 
 -- ---- one value more
@@ -182,22 +209,79 @@ query_used p values rows v h =
 abbrev taken_rows : Taker → Text → List Row → List Row
 taken_rows o v rows = used (built_of o) (v ∷ []) rows
 
+abbrev taken_row : Taker → Text → Row
+taken_row o v = new_row (name_of o) (how_of o) line (v ∷ [])
+
+-- p is another option, and keeps its value
+abbrev IsOther : Taker → Taker → Text → Values → Type 0
+IsOther o p v values = (bytes_eq (name_of o) (name_of p) ≡ false) × (value_of p (with_value o v values) ≡ value_of p values)
+
+-- p is the option, and has the value
+abbrev IsSame : Taker → Taker → Text → Values → Type 0
+IsSame o p v values = (o ≡ p) × (value_of p (with_value o v values) ≡ Some v)
+
+other_or_same : (o p : Taker) (v : Text) (values : Values) → IsOther o p v values ⊎ IsSame o p v values
+other_or_same budget budget v values = inr (refl, refl)
+other_or_same budget workers v values = inl (refl, refl)
+other_or_same budget recorded v values = inl (refl, refl)
+other_or_same budget replay v values = inl (refl, refl)
+other_or_same workers budget v values = inl (refl, refl)
+other_or_same workers workers v values = inr (refl, refl)
+other_or_same workers recorded v values = inl (refl, refl)
+other_or_same workers replay v values = inl (refl, refl)
+other_or_same recorded budget v values = inl (refl, refl)
+other_or_same recorded workers v values = inl (refl, refl)
+other_or_same recorded recorded v values = inr (refl, refl)
+other_or_same recorded replay v values = inl (refl, refl)
+other_or_same replay budget v values = inl (refl, refl)
+other_or_same replay workers v values = inl (refl, refl)
+other_or_same replay recorded v values = inl (refl, refl)
+other_or_same replay replay v values = inr (refl, refl)
+
+own_name : (o : Taker) → bytes_eq (name_of o) (name_of o) ≡ true
+own_name budget = refl
+own_name workers = refl
+own_name recorded = refl
+own_name replay = refl
+
+own_text : (o : Taker) (v : Text) → row_text (taken_row o v) ≡ Some v
+own_text budget v = refl
+own_text workers v = refl
+own_text recorded v = refl
+own_text replay v = refl
+
 -- the value is the one of its option, and each other option keeps its own
 at_taken : (o : Taker) (values : Values) (rows : List Row) (v : Text) → value_of o values ≡ None → ((p : Taker) → HasFirst (name_of p) rows (value_of p values))
-    → (p : Taker) → HasFirst (name_of p) (rows ++ new_row (name_of o) (how_of o) line (v ∷ []) ∷ []) (value_of p (with_value o v values))
-at_taken budget values rows v none at budget = HasFirst-same _ _ rows v refl ((at budget).has ∙ ap is_some none) refl refl
-at_taken budget values rows v none at replay = HasFirst-other _ _ rows _ refl (at replay)
-at_taken replay values rows v none at budget = HasFirst-other _ _ rows _ refl (at budget)
-at_taken replay values rows v none at replay = HasFirst-same _ _ rows v refl ((at replay).has ∙ ap is_some none) refl refl
+    → (p : Taker) → HasFirst (name_of p) (rows ++ taken_row o v ∷ []) (value_of p (with_value o v values))
+at_taken o values rows v none at p = go (other_or_same o p v values)
+  where
+    more : List Row
+    more = rows ++ taken_row o v ∷ []
+
+    own : HasFirst (name_of o) more (Some v)
+    own = HasFirst-same _ _ rows v (own_name o) ((at o).has ∙ ap is_some none) refl (own_text o v)
+
+    go : IsOther o p v values ⊎ IsSame o p v values → HasFirst (name_of p) more (value_of p (with_value o v values))
+    go (inl other) = subst (HasFirst (name_of p) more) (sym other.1) (HasFirst-other _ _ rows _ other.0 (at p))
+    go (inr same) = subst (HasFirst (name_of p) more) (sym same.1) (subst (λ (q : Taker). HasFirst (name_of q) more (Some v)) same.0 own)
 
 fit_taken : (o : Taker) (values : Values) (v : Text) → fits o v ≡ true → AreFit values → AreFit (with_value o v values)
-fit_taken budget values v is fit budget text e = ap (fits budget) (sym (ap (λ x. unwrap_or x v) e)) ∙ is
-fit_taken budget values v is fit replay text e = fit replay text e
-fit_taken replay values v is fit budget text e = fit budget text e
-fit_taken replay values v is fit replay text e = refl
+fit_taken o values v is fit p text e = go (other_or_same o p v values)
+  where
+    go : IsOther o p v values ⊎ IsSame o p v values → fits p text ≡ true
+    go (inl other) = fit p text (sym other.1 ∙ e)
+    go (inr same) = ap₂ fits (sym same.0) (ap (λ x. unwrap_or x v) (sym e ∙ same.1)) ∙ is
 
-taken_is : (o : Taker) (v : Text) (rows : List Row) → has_row (name_of o) rows ≡ false → taken_rows o v rows ≡ rows ++ new_row (name_of o) (how_of o) line (v ∷ []) ∷ []
+totals_kept : (o : Taker) (v : Text) (values : Values) → values.totals ≡ (with_value o v values).totals
+totals_kept budget v values = refl
+totals_kept workers v values = refl
+totals_kept recorded v values = refl
+totals_kept replay v values = refl
+
+taken_is : (o : Taker) (v : Text) (rows : List Row) → has_row (name_of o) rows ≡ false → taken_rows o v rows ≡ rows ++ taken_row o v ∷ []
 taken_is budget v rows none = used_is (codes "budget") _ _ (v ∷ []) rows none
+taken_is workers v rows none = used_is (codes "workers") _ _ (v ∷ []) rows none
+taken_is recorded v rows none = used_is (codes "record") _ _ (v ∷ []) rows none
 taken_is replay v rows none = used_is (codes "replay") _ _ (v ∷ []) rows none
 
 pub value_used : (o : Taker) (program query : Option Text) (values : Values) (rows : List Row) (v : Text) → fits o v ≡ true → value_of o values ≡ None → Holds program query values rows
@@ -209,14 +293,74 @@ value_used o program query values rows v is none h =
       at_program = HasFirst-other _ _ rows program (other_program o) h.at_program;
       at_query = HasFirst-other _ _ rows query (other_query o) h.at_query;
       at_value = at_taken o values rows v none h.at_value;
+      at_totals = HasFirst-other _ _ rows _ (other_totals o) (subst (λ b. HasFirst (codes "totals") rows (said_totals b)) (totals_kept o v values) h.at_totals);
       ordered = h.ordered;
       fit = fit_taken o values v is h.fit;
     })
   where
     other_program : (o : Taker) → bytes_eq (name_of o) (codes "PROGRAM") ≡ false
     other_program budget = refl
+    other_program workers = refl
+    other_program recorded = refl
     other_program replay = refl
 
     other_query : (o : Taker) → bytes_eq (name_of o) (codes "QUERY") ≡ false
     other_query budget = refl
+    other_query workers = refl
+    other_query recorded = refl
     other_query replay = refl
+
+    other_totals : (o : Taker) → bytes_eq (name_of o) (codes "totals") ≡ false
+    other_totals budget = refl
+    other_totals workers = refl
+    other_totals recorded = refl
+    other_totals replay = refl
+
+-- ---- the flag
+
+pub no_option_is_totals : (o : Taker) → bytes_eq (codes "totals") (name_of o) ≡ false
+no_option_is_totals budget = refl
+no_option_is_totals workers = refl
+no_option_is_totals recorded = refl
+no_option_is_totals replay = refl
+
+values_kept : (o : Taker) (values : Values) → value_of o values ≡ value_of o (with_totals values)
+values_kept budget values = refl
+values_kept workers values = refl
+values_kept recorded values = refl
+values_kept replay values = refl
+
+pub totals_used : (program query : Option Text) (values : Values) (rows : List Row) → values.totals ≡ false → Holds program query values rows
+    → Holds program query (with_totals values) (used totals_built [] rows)
+totals_used program query values rows none h =
+    let unused : has_row (codes "totals") rows ≡ false = h.at_totals.has ∙ ap (λ b. is_some (said_totals b)) none in
+    let e = used_is (codes "totals") _ _ (bool_text true ∷ []) rows unused in
+    let more : List Row → Type 0 = Holds program query (with_totals values) in
+    subst more (sym e) (record {
+      at_program = HasFirst-other _ _ rows program refl h.at_program;
+      at_query = HasFirst-other _ _ rows query refl h.at_query;
+      at_value = λ o. subst (HasFirst (name_of o) _) (values_kept o values) (HasFirst-other _ _ rows _ (no_option_is_totals o) (h.at_value o));
+      at_totals = HasFirst-same _ _ rows (bool_text true) refl unused refl refl;
+      ordered = h.ordered;
+      fit = λ o text e. h.fit o text (values_kept o values ∙ e);
+    })
+
+-- what its default leaves
+abbrev default_row : Row
+default_row = new_row (codes "totals") (reading_by totals_built) DefaultValue (bool_text false ∷ [])
+
+pub default_other : (id : Text) (rows : List Row) (value : Option Text) → bytes_eq (codes "totals") id ≡ false → HasFirst id rows value → HasFirst id (with_default rows totals_built) value
+default_other id rows value other h = go (has_row (codes "totals") rows) refl
+  where
+    more : List Row → Type 0
+    more rs = HasFirst id rs value
+
+    go : (b : Bool) → has_row (codes "totals") rows ≡ b → more (cond (has_row (codes "totals") rows) rows (with_values (codes "totals") (reading_by totals_built) DefaultValue (bool_text false ∷ []) rows))
+    go true e = rw e h
+    go false e = rw e (subst more (sym (with_values-none (codes "totals") _ _ _ rows e)) (HasFirst-other id default_row rows value other h))
+
+pub default_totals : (rows : List Row) (said : Bool) → HasFirst (codes "totals") rows (said_totals said) → one_of (codes "totals") (with_default rows totals_built) ≡ Some (bool_text said)
+default_totals rows true h = rw h.has h.one
+default_totals rows false h =
+    rw h.has (ap (one_of (codes "totals")) (with_values-none (codes "totals") _ _ _ rows h.has)
+    ∙ (HasFirst-same (codes "totals") default_row rows (bool_text false) refl h.has refl refl).one)

@@ -1,19 +1,25 @@
 -- What one word does in the walk of a parse.
-use Rattle.std.proofs.Common.{◌≡◌, ◌∙◌, ◌&&◌, ◌||◌, Bool, true, false, cond, refl, sym, ap, ap₂, subst, List, [], ◌∷◌, Option, None, codes, true≢false}
+use Rattle.std.proofs.Common.{◌≡◌, ◌∙◌, ◌||◌, ◌++◌, Bool, true, false, cond, refl, sym, ap, ap₂, subst, List, [], ◌∷◌, Option, Some, None, codes, true≢false}
 use Rattle.std.specs.Prelude.{fold, is_some}
 use Rattle.std.specs.List.{list_all}
 use Rattle.clap.specs.Kinds.{Kinds, or_else}
 use Rattle.clap.specs.Faults.{check_fault, defaults_fault, entered_fault, given_default_fault, settle_fault, turn_fault, walk_fault}
 use Rattle.clap.specs.Walk.{Held, Row, Rule, Text, Walk, default_rows, finished, first_of, has_row, one_of, is_empty, reading_by, settled, walked, with_default}
 use Rattle.clap.specs.Simple.{Shape, built, entered}
+use Rattle.clap.specs.Values.{bool_text}
 use Rattle.clap.specs.declared.error.kind.ErrorKind.{ErrorKind}
 use Rattle.clap.specs.declared.error.kind.ErrorKind.TheVariants as kind
 use Rattle.chr_words.specs.Words.{Asks, RunWords, help, refused, run}
 use Rattle.chr_words.specs.App.{chr_app}
-use Rattle.chr_words.proofs.Rows.{AreFit, budget_built, help_built, program_built, query_built, replay_built}
+use Rattle.chr_words.proofs.Numbers.{both}
+use Rattle.chr_words.proofs.Rows.{AreFit, budget_built, help_built, program_built, query_built, record_built, replay_built, totals_built, workers_built}
+
+-- those that have no default
+abbrev plain_rules : List Rule
+plain_rules = program_built ∷ query_built ∷ budget_built ∷ workers_built ∷ record_built ∷ replay_built ∷ []
 
 abbrev pub rules : List Rule
-rules = program_built ∷ query_built ∷ budget_built ∷ replay_built ∷ help_built ∷ []
+rules = plain_rules ++ totals_built ∷ help_built ∷ []
 
 abbrev pub top : Shape
 top = (built chr_app).top
@@ -52,7 +58,10 @@ pub record Shows (run_words : RunWords) (rows : List Row) : Type 0 where
   pub program : first_of (codes "PROGRAM") rows ≡ run_words.program
   pub query : first_of (codes "QUERY") rows ≡ run_words.query
   pub budget : one_of (codes "budget") rows ≡ run_words.values.budget
+  pub workers : one_of (codes "workers") rows ≡ run_words.values.workers
+  pub recorded : first_of (codes "record") rows ≡ run_words.values.recorded
   pub replay : first_of (codes "replay") rows ≡ run_words.values.replay
+  pub totals : one_of (codes "totals") rows ≡ Some (bool_text run_words.values.totals)
   pub fit : AreFit run_words.values
 
 -- the walk over the words ends as they ask
@@ -82,10 +91,6 @@ fails_at w word words k is =
 
 -- ---- the end
 
-or-true : (b : Bool) → (b || true) ≡ true
-or-true true = refl
-or-true false = refl
-
 cond-same : {X : Type 0} (b : Bool) (x : X) → cond b x x ≡ x
 cond-same true x = refl
 cond-same false x = refl
@@ -93,24 +98,43 @@ cond-same false x = refl
 no_default : (rows : List Row) (a : Rule) → a.defaults ≡ [] → with_default rows a ≡ rows
 no_default rows a e = ap (λ d. cond (has_row a.id rows) rows (default_rows a.id (reading_by a) d rows)) e ∙ cond-same (has_row a.id rows) rows
 
-pub finished_is : (h : Held) → finished rules h ≡ (settled rules h).rows
-finished_is h =
-    let R = (settled rules h).rows in
-    ap (λ r. with_default (with_default (with_default (with_default r query_built) budget_built) replay_built) help_built) (no_default R program_built refl)
-    ∙ ap (λ r. with_default (with_default (with_default r budget_built) replay_built) help_built) (no_default R query_built refl)
-    ∙ ap (λ r. with_default (with_default r replay_built) help_built) (no_default R budget_built refl)
-    ∙ ap (λ r. with_default r help_built) (no_default R replay_built refl)
-    ∙ no_default R help_built refl
+abbrev has_none : {X : Type 0} → List X → Bool
+has_none [] = true
+has_none (x ∷ xs) = false
 
-no_default_fault : (rows : List Row) (more : List Rule) → list_all (λ a. is_empty a.defaults) more ≡ true → defaults_fault rows more ≡ []
+no_defaults : (rows : List Row) (more : List Rule) → list_all (λ a. has_none a.defaults) more ≡ true → fold with_default rows more ≡ rows
+no_defaults rows [] e = refl
+no_defaults rows (a ∷ more) e =
+    let parts = both _ _ e in
+    ap (λ r. fold with_default r more) (no_default rows a (none_is a.defaults parts.0)) ∙ no_defaults rows more parts.1
+  where
+    none_is : (d : List Text) → has_none d ≡ true → d ≡ []
+    none_is [] e = refl
+    none_is (d ∷ ds) e = absurd (true≢false (sym e))
+
+-- only `--totals` has a default
+pub finished_is : (h : Held) → finished rules h ≡ with_default (settled rules h).rows totals_built
+finished_is h =
+    let before = (settled rules h).rows in
+    ap (λ r. with_default (with_default r totals_built) help_built) (no_defaults before plain_rules refl) ∙ no_default (with_default before totals_built) help_built refl
+
+-- the default fails not, where there is one
+abbrev has_fine_default : Rule → Bool
+has_fine_default a = is_empty a.defaults || has_none (given_default_fault a a.defaults)
+
+fine_default : (has none : Bool) (fault : Kinds) → (none || has_none fault) ≡ true → cond (has || none) [] fault ≡ []
+fine_default true none fault e = refl
+fine_default false true fault e = refl
+fine_default false false [] e = refl
+fine_default false false (k ∷ ks) e = absurd (true≢false (sym e))
+
+no_default_fault : (rows : List Row) (more : List Rule) → list_all has_fine_default more ≡ true → defaults_fault rows more ≡ []
 unfolding defaults_fault
 no_default_fault rows [] e = refl
-no_default_fault rows (a ∷ more) e = go (is_empty a.defaults) e (no_default_fault (with_default rows a) more)
-  where
-    go : (b : Bool) → (b && list_all (λ x. is_empty x.defaults) more) ≡ true → (list_all (λ x. is_empty x.defaults) more ≡ true → defaults_fault (with_default rows a) more ≡ [])
-        → or_else (cond (has_row a.id rows || b) [] (given_default_fault a a.defaults)) (defaults_fault (with_default rows a) more) ≡ []
-    go true e rest = rw (or-true (has_row a.id rows)) (rest e)
-    go false e rest = absurd (true≢false (sym e))
+no_default_fault rows (a ∷ more) e =
+    let parts = both _ _ e in
+    ap (λ f. or_else f (defaults_fault (with_default rows a) more)) (fine_default (has_row a.id rows) (is_empty a.defaults) (given_default_fault a a.defaults) parts.0)
+    ∙ no_default_fault (with_default rows a) more parts.1
 
 -- the walk ends where nothing is left to fail
 pub ends : (w : Walk) → w.stopped ≡ None → settle_fault rules false w.held ≡ [] → fault_at w [] ≡ []

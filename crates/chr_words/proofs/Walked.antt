@@ -1,20 +1,20 @@
 -- The walk over the words ends as they ask.
-use Rattle.std.proofs.Common.{◌≡◌, ◌∙◌, ◌&&◌, ◌==◌, ℕ, Bool, true, false, cond, refl, sym, ap, ap₂, subst, List, [], ◌∷◌, Option, Some, None, codes, true≢false}
+use Rattle.std.proofs.Common.{◌≡◌, ◌∙◌, ◌&&◌, ◌==◌, ℕ, Bool, true, false, cond, refl, sym, ap, ap₂, arith, subst, List, [], ◌∷◌, Option, Some, None, codes, true≢false}
 use Rattle.std.specs.Prelude.{is_some, slice_get}
 use Rattle.std.specs.Str.{bytes_eq, chars}
 use Rattle.clap.specs.Lexer.{long_of, short_of}
 use Rattle.clap.specs.Kinds.{or_else}
 use Rattle.clap.specs.Simple.{is_simple, matches_of}
 use Rattle.clap.specs.Faults.{fault_of, is_simple_and_free, settle_fault, step_fault, turn_fault, use_fault, values_fault}
-use Rattle.clap.specs.Walk.{Row, Text, Walk, after_step, has_row, idle, settled_rows, used, value, walked}
+use Rattle.clap.specs.Walk.{Row, Text, Walk, after_step, has_row, idle, settled_rows, used, value, walked, with_default}
 use Rattle.clap.specs.declared.error.kind.ErrorKind.TheVariants as kind
 use Rattle.chr_words.specs.App.{chr_app}
-use Rattle.chr_words.specs.Words.{Asks, Reading, RunWords, Taker, Values, asks_from, asks_of, asks_after, budget, fits, goes, help, long_step, name_of, named, no_values, operand_step, parts_step, refused, replay, run, short_step, stops, taken_step, taker_step, value_of, with_value}
-use Rattle.chr_words.proofs.Rows.{HasFirst, Holds, built_of, program_built, program_used, query_built, query_used, value_used}
+use Rattle.chr_words.specs.Words.{Asks, Flag, Reading, RunWords, Taker, Values, asks_from, asks_of, asks_after, budget, fits, flag_named, goes, help, help_flag, long_step, name_of, named, no_values, operand_step, parts_step, recorded, refused, replay, run, short_step, stops, taken_step, totals_flag, value_of, with_totals, with_value, workers}
+use Rattle.chr_words.proofs.Rows.{HasFirst, Holds, built_of, default_other, default_totals, no_option_is_totals, program_built, program_used, query_built, query_used, said_totals, totals_built, totals_used, value_used}
 use Rattle.chr_words.proofs.Numbers.{accepts_is}
 use Rattle.chr_words.proofs.Turns.{Agrees, Shows, are_wrong, ends, ends_wrong, fails_at, finished_is, goes_on, rules, top}
 use Rattle.chr_words.proofs.Steps.{at, held_at, placed_at, placed_fault, program_placed, query_placed, turn_is, walk_is}
-use Rattle.chr_words.proofs.Cases.{alone_fault, alone_walk, by_names, letter_help, letter_unknown, letter_wrong, long_fault_by, long_fault_is, long_walk_by, long_walk_is, long_wrong, no_letter_fault, no_letter_walk, plain_fault_by, plain_walk_by, short_fault_by, short_walk_by, valued_fault, valued_walk}
+use Rattle.chr_words.proofs.Cases.{alone_fault, alone_walk, by_names, letter_help, letter_unknown, letter_wrong, long_fault_by, long_fault_is, long_walk_by, long_walk_is, long_wrong, no_letter_fault, no_letter_walk, plain_fault_by, plain_walk_by, short_fault_by, flag_fault, flag_valued, short_walk_by, totals_walk, valued_fault, valued_walk}
 use Rattle.chr_words.proofs.Doomed.{doomed, doomed_behind, wrong_turn}
 use Rattle.chr_words.proofs.Again.{awaited, doomed_again, no_value, no_value_fault, plain_fault, plain_walk, value_fault, value_is}
 
@@ -43,14 +43,20 @@ abbrev Awaits : List Text → Type 0
 Awaits words = (o : Taker) (program query : Option Text) (values : Values) (rows : List Row) → value_of o values ≡ None → Holds program query values rows
     → Agrees (asks_from (reading program query values (Some o) false) words) (at false (awaited o) (place_of program query) rows (no_value o)) words
 
-shows_held : (program query : Option Text) (values : Values) (rows : List Row) → Holds program query values rows → Shows (said_of program query values) rows
+shows_held : (program query : Option Text) (values : Values) (rows : List Row) → Holds program query values rows → Shows (said_of program query values) (with_default rows totals_built)
 shows_held program query values rows h = record {
-  program = h.at_program.first;
-  query = h.at_query.first;
-  budget = (h.at_value budget).one;
-  replay = (h.at_value replay).first;
+  program = (default_other _ rows program refl h.at_program).first;
+  query = (default_other _ rows query refl h.at_query).first;
+  budget = (option budget).one;
+  workers = (option workers).one;
+  recorded = (option recorded).first;
+  replay = (option replay).first;
+  totals = default_totals rows values.totals h.at_totals;
   fit = h.fit;
 }
+  where
+    option : (o : Taker) → HasFirst (name_of o) (with_default rows totals_built) (value_of o values)
+    option o = default_other _ rows _ (no_option_is_totals o) (h.at_value o)
 
 -- ---- no words
 
@@ -94,10 +100,16 @@ module _ (word : Text) (words : List Text) (rest : Rests words) where
 
 -- ---- the value of an option
 
+checked : (b n : Bool) → b ≡ n → or_else (cond b [] (kind.ValueValidation ∷ [])) [] ≡ cond n [] (kind.ValueValidation ∷ [])
+checked b true e = ap (λ b. or_else (cond b [] (kind.ValueValidation ∷ [])) []) e
+checked b false e = ap (λ b. or_else (cond b [] (kind.ValueValidation ∷ [])) []) e
+
 -- clap takes the same values
 values_are : (o : Taker) (x : Text) (n : Bool) → fits o x ≡ n → values_fault (built_of o) (x ∷ []) ≡ cond n [] (kind.ValueValidation ∷ [])
-values_are budget x true e = ap (λ b. or_else (cond b [] (kind.ValueValidation ∷ [])) []) (accepts_is x ∙ e)
-values_are budget x false e = ap (λ b. or_else (cond b [] (kind.ValueValidation ∷ [])) []) (accepts_is x ∙ e)
+values_are budget x n e = checked _ n (accepts_is 18446744073709551615 (omega arith) x ∙ e)
+values_are workers x n e = checked _ n (accepts_is 4294967295 (omega arith) x ∙ e)
+values_are recorded x true e = refl
+values_are recorded x false e = absurd (true≢false e)
 values_are replay x true e = refl
 values_are replay x false e = absurd (true≢false e)
 
@@ -112,6 +124,8 @@ second_value o rows x again = value_fault o rows x true again
 -- what a use of it does where nothing is pending
 used_fault : (o : Taker) (rows : List Row) (x : Text) → use_fault false (built_of o) (x ∷ []) rows ≡ settle_fault rules false (held_at rows (value_is o x))
 used_fault budget rows x = refl
+used_fault workers rows x = refl
+used_fault recorded rows x = refl
 used_fault replay rows x = refl
 
 -- it has a row where it was said
@@ -122,6 +136,8 @@ has_said o values rows said h e = h.has ∙ ap is_some e
 value_settled : (o : Taker) (program query : Option Text) (values : Values) (rows : List Row) (x : Text) → fits o x ≡ true → value_of o values ≡ None → Holds program query values rows
     → Holds program query (with_value o x values) (settled_rows rules (value_is o x) rows)
 value_settled budget program query values rows x e none holds = value_used budget program query values rows x e none holds
+value_settled workers program query values rows x e none holds = value_used workers program query values rows x e none holds
+value_settled recorded program query values rows x e none holds = value_used recorded program query values rows x e none holds
 value_settled replay program query values rows x e none holds = value_used replay program query values rows x e none holds
 
 -- ---- a word where no value is to come
@@ -142,17 +158,17 @@ module _ (word : Text) (words : List Text) (rest : Rests words) (await : Awaits 
   now = reading program query values None false
 
   module _ (name : Text) (v : Option Text) (is_b : bytes_eq word dashes ≡ false) (is_long : long_of word ≡ Some (name, v)) where
-    long_turn : (n : Option Taker) (b : Bool) → named name ≡ n → bytes_eq (codes "help") name ≡ b
-        → turn_fault top [] here word ≡ long_fault_by idle (place_of program query) (held_at rows pending) word v (by_names n b)
-    long_turn n b is_n is_help =
+    long_turn : (n : Option Taker) (f : Option Flag) → named name ≡ n → flag_named name ≡ f
+        → turn_fault top [] here word ≡ long_fault_by idle (place_of program query) (held_at rows pending) word v (by_names n f)
+    long_turn n f is_n is_f =
         turn_is (place_of program query) rows pending word false (Some (name, v)) is_b is_long idle
-        ∙ long_fault_is idle (place_of program query) rows pending word name v n b is_n is_help
+        ∙ long_fault_is idle (place_of program query) rows pending word name v n f is_n is_f
 
-    long_walk : (n : Option Taker) (b : Bool) → named name ≡ n → bytes_eq (codes "help") name ≡ b
-        → walked rules [] here word ≡ long_walk_by idle (place_of program query) rows pending word v (by_names n b)
-    long_walk n b is_n is_help =
+    long_walk : (n : Option Taker) (f : Option Flag) → named name ≡ n → flag_named name ≡ f
+        → walked rules [] here word ≡ long_walk_by idle (place_of program query) rows pending word v (by_names n f)
+    long_walk n f is_n is_f =
         walk_is (place_of program query) rows pending word false (Some (name, v)) is_b is_long idle
-        ∙ long_walk_is idle (place_of program query) rows pending word name v n b is_n is_help
+        ∙ long_walk_is idle (place_of program query) rows pending word name v n f is_n is_f
 
   -- `--name` of an option that takes a value
   option_alone : (o : Taker) (said : Option Text) → value_of o values ≡ said
@@ -187,18 +203,40 @@ module _ (word : Text) (words : List Text) (rest : Rests words) (await : Awaits 
       ap are_wrong (fails_at _ word words kind.ValueValidation (turn ∙ valued_fault idle (place_of program query) rows pending word o x
       ∙ ap₂ (λ f u. or_else (or_else f u) []) fine (used_fault o before x ∙ first_value o before x false (has_said o values before None (holds.at_value o) is_said) e)))
 
-  long_words : (name : Text) (v : Option Text) (n : Option Taker) (b : Bool) → bytes_eq word dashes ≡ false → long_of word ≡ Some (name, v) → named name ≡ n
-      → bytes_eq (codes "help") name ≡ b → Agrees (asks_after (long_step now n b v) (λ next. asks_from next words)) here (word ∷ words)
-  long_words name None (Some o) b is_b is_long is_n is_help =
-      option_alone o (value_of o values) refl (long_turn name None is_b is_long (Some o) b is_n is_help) (long_walk name None is_b is_long (Some o) b is_n is_help)
-  long_words name (Some x) (Some o) b is_b is_long is_n is_help =
-      option_valued o x (value_of o values) (fits o x) refl refl (long_turn name (Some x) is_b is_long (Some o) b is_n is_help) (long_walk name (Some x) is_b is_long (Some o) b is_n is_help)
-  long_words name None None true is_b is_long is_n is_help =
-      fails_at _ word words kind.DisplayHelp (long_turn name None is_b is_long None true is_n is_help ∙ ap (λ f. or_else (or_else f (kind.DisplayHelp ∷ [])) []) fine)
-  long_words name (Some x) None true is_b is_long is_n is_help =
-      ap are_wrong (fails_at _ word words kind.TooManyValues (long_turn name (Some x) is_b is_long None true is_n is_help))
-  long_words name v None false is_b is_long is_n is_help =
-      ap are_wrong (fails_at _ word words kind.UnknownArgument (long_turn name v is_b is_long None false is_n is_help))
+  -- `--totals`, by whether it was said before
+  totals_fault : (said : Bool) → values.totals ≡ said → turn_fault top [] here word ≡ long_fault_by idle (place_of program query) (held_at rows pending) word None (Some totals_built)
+      → turn_fault top [] here word ≡ cond said (kind.ArgumentConflict ∷ []) []
+  totals_fault said is_said turn =
+      turn ∙ flag_fault idle (place_of program query) rows pending word totals_flag
+      ∙ ap₂ (λ f b. or_else (or_else f (or_else (cond (b && true) (kind.ArgumentConflict ∷ []) []) [])) []) fine (holds.at_totals.has ∙ ap (λ b. is_some (said_totals b)) is_said) ∙ by_said said
+    where
+      by_said : (said : Bool) → or_else (or_else (cond (is_some (said_totals said) && true) (kind.ArgumentConflict ∷ []) []) []) [] ≡ cond said (kind.ArgumentConflict ∷ []) []
+      by_said true = refl
+      by_said false = refl
+
+  totals_alone : (said : Bool) → values.totals ≡ said → turn_fault top [] here word ≡ long_fault_by idle (place_of program query) (held_at rows pending) word None (Some totals_built)
+      → walked rules [] here word ≡ long_walk_by idle (place_of program query) rows pending word None (Some totals_built)
+      → Agrees (asks_after (cond said (stops refused) (goes (reading program query (with_totals values) None false))) (λ next. asks_from next words)) here (word ∷ words)
+  totals_alone true is_said turn walk = ap are_wrong (fails_at _ word words kind.ArgumentConflict (totals_fault true is_said turn))
+  totals_alone false is_said turn walk =
+      goes_on _ _ (at false idle (place_of program query) (used totals_built [] before) None) word words (totals_fault false is_said turn)
+      (walk ∙ totals_walk idle (place_of program query) rows pending word)
+      (rest false program query (with_totals values) (used totals_built [] before) None refl (totals_used program query values before is_said holds))
+
+  long_words : (name : Text) (v : Option Text) (n : Option Taker) (f : Option Flag) → bytes_eq word dashes ≡ false → long_of word ≡ Some (name, v) → named name ≡ n
+      → flag_named name ≡ f → Agrees (asks_after (long_step now n f v) (λ next. asks_from next words)) here (word ∷ words)
+  long_words name None (Some o) f is_b is_long is_n is_f =
+      option_alone o (value_of o values) refl (long_turn name None is_b is_long (Some o) f is_n is_f) (long_walk name None is_b is_long (Some o) f is_n is_f)
+  long_words name (Some x) (Some o) f is_b is_long is_n is_f =
+      option_valued o x (value_of o values) (fits o x) refl refl (long_turn name (Some x) is_b is_long (Some o) f is_n is_f) (long_walk name (Some x) is_b is_long (Some o) f is_n is_f)
+  long_words name None None (Some help_flag) is_b is_long is_n is_f =
+      fails_at _ word words kind.DisplayHelp (long_turn name None is_b is_long None (Some help_flag) is_n is_f ∙ ap (λ f. or_else (or_else f (kind.DisplayHelp ∷ [])) []) fine)
+  long_words name None None (Some totals_flag) is_b is_long is_n is_f =
+      totals_alone values.totals refl (long_turn name None is_b is_long None (Some totals_flag) is_n is_f) (long_walk name None is_b is_long None (Some totals_flag) is_n is_f)
+  long_words name (Some x) None (Some f) is_b is_long is_n is_f =
+      ap are_wrong (fails_at _ word words kind.TooManyValues (long_turn name (Some x) is_b is_long None (Some f) is_n is_f ∙ flag_valued idle (place_of program query) rows pending word f x))
+  long_words name v None None is_b is_long is_n is_f =
+      ap are_wrong (fails_at _ word words kind.UnknownArgument (long_turn name v is_b is_long None None is_n is_f))
 
   module _ (is_b : bytes_eq word dashes ≡ false) (is_long : long_of word ≡ None) where
     short_turn : (letters : Option Text) → short_of word ≡ letters → turn_fault top [] here word ≡ short_fault_by idle (place_of program query) (held_at rows pending) word letters
@@ -226,7 +264,7 @@ module _ (word : Text) (words : List Text) (rest : Rests words) (await : Awaits 
   option_words true parts letters is_b is_long is_short =
       goes_on _ _ (at true idle (place_of program query) rows pending) word words (turn_is (place_of program query) rows pending word true parts is_b is_long idle)
       (walk_is (place_of program query) rows pending word true parts is_b is_long idle) (rest true program query values rows pending fine holds)
-  option_words false (Some p) letters is_b is_long is_short = long_words p.0 p.1 (named p.0) (bytes_eq (codes "help") p.0) is_b is_long refl refl
+  option_words false (Some p) letters is_b is_long is_short = long_words p.0 p.1 (named p.0) (flag_named p.0) is_b is_long refl refl
   option_words false None (Some flags) is_b is_long is_short = letter_words is_b is_long flags (slice_get (chars flags) 0) is_short refl
   option_words false None None is_b is_long is_short =
       places word words rest false program query values rows pending fine holds (short_turn is_b is_long None is_short) (short_walk is_b is_long None is_short)
@@ -313,10 +351,14 @@ all_words (word ∷ words) =
 
 nothing_held : (o : Taker) → HasFirst (name_of o) [] (value_of o no_values)
 nothing_held budget = record { first = refl; one = refl; has = refl }
+nothing_held workers = record { first = refl; one = refl; has = refl }
+nothing_held recorded = record { first = refl; one = refl; has = refl }
 nothing_held replay = record { first = refl; one = refl; has = refl }
 
 nothing_fit : (o : Taker) (text : Text) → value_of o no_values ≡ Some text → fits o text ≡ true
 nothing_fit budget text e = absurd (true≢false (ap is_some (sym e)))
+nothing_fit workers text e = absurd (true≢false (ap is_some (sym e)))
+nothing_fit recorded text e = refl
 nothing_fit replay text e = refl
 
 nothing_holds : Holds None None no_values []
@@ -324,6 +366,7 @@ nothing_holds = record {
   at_program = record { first = refl; one = refl; has = refl };
   at_query = record { first = refl; one = refl; has = refl };
   at_value = nothing_held;
+  at_totals = record { first = refl; one = refl; has = refl };
   ordered = λ e. e;
   fit = nothing_fit;
 }

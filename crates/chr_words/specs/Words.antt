@@ -1,5 +1,5 @@
 -- What the words after the program's name ask for. A word that begins with a hyphen is an option, up to the word `--`.
-use Rattle.std.specs.Prelude.{◌^◌, ◌&&◌, ◌==◌, ℕ, Bool, true, false, List, [], ◌∷◌, Option, Some, None, if◌then◌else◌, codes, nat_lt, not, is_some, length, slice_get}
+use Rattle.std.specs.Prelude.{◌^◌, ◌&&◌, ◌==◌, ℕ, Bool, true, false, List, [], ◌∷◌, Option, Some, None, if◌then◌else◌, codes, nat_lt, not, is_some, length, find, slice_get}
 use Rattle.std.specs.List.{list_all}
 use Rattle.std.specs.Char.{digit_value}
 use Rattle.std.specs.Str.{byte, bytes_eq, chars}
@@ -9,26 +9,52 @@ use Rattle.clap.specs.Lexer.{long_of, short_of}
 -- the options that take a value
 pub data Taker : Type 0 where
   budget : Taker
+  workers : Taker
+  recorded : Taker
   replay : Taker
 
--- their values, as they were said
+abbrev pub takers : List Taker
+takers = budget ∷ workers ∷ recorded ∷ replay ∷ []
+
+-- the options that take none
+pub data Flag : Type 0 where
+  totals_flag : Flag
+  help_flag : Flag
+
+abbrev pub flags : List Flag
+flags = totals_flag ∷ help_flag ∷ []
+
+-- the values of the options, as they were said, and whether `--totals` was
 pub record Values : Type 0 where
   pub budget : Option (List ℕ)
+  pub workers : Option (List ℕ)
+  pub recorded : Option (List ℕ)
   pub replay : Option (List ℕ)
+  pub totals : Bool
 
 abbrev pub no_values : Values
-no_values = record { budget = None; replay = None }
+no_values = record { budget = None; workers = None; recorded = None; replay = None; totals = false }
 
 abbrev pub name_of : Taker → List ℕ
 name_of budget = codes "budget"
+name_of workers = codes "workers"
+name_of recorded = codes "record"
 name_of replay = codes "replay"
+
+abbrev pub flag_name : Flag → List ℕ
+flag_name totals_flag = codes "totals"
+flag_name help_flag = codes "help"
 
 abbrev pub value_of : Taker → Values → Option (List ℕ)
 value_of budget values = values.budget
+value_of workers values = values.workers
+value_of recorded values = values.recorded
 value_of replay values = values.replay
 
 abbrev pub with_value : Taker → List ℕ → Values → Values
 with_value budget word values = record values { budget = Some word }
+with_value workers word values = record values { workers = Some word }
+with_value recorded word values = record values { recorded = Some word }
 with_value replay word values = record values { replay = Some word }
 
 -- what was said: the program, the query, and the values of the options
@@ -57,11 +83,11 @@ pub data Step : Type 0 where
   goes : Reading → Step
   stops : Asks → Step
 
--- decimal digits, where one plus may stand first, of a number of 64 bits
-abbrev pub is_number : List ℕ → Bool
-is_number text =
+-- decimal digits, where one plus may stand first, of a number below this bound
+abbrev pub is_below : ℕ → List ℕ → Bool
+is_below bound text =
     let digits = without_leading_plus text in
-    (nat_lt 0 (length digits) && list_all (λ d. nat_lt (digit_value d) 10) digits) && nat_lt (digits_value 10 digits) (2 ^ 64)
+    (nat_lt 0 (length digits) && list_all (λ d. nat_lt (digit_value d) 10) digits) && nat_lt (digits_value 10 digits) bound
 
 -- its value
 abbrev pub number_of : List ℕ → ℕ
@@ -69,7 +95,9 @@ number_of text = digits_value 10 (without_leading_plus text)
 
 -- the option takes this word for its value
 abbrev pub fits : Taker → List ℕ → Bool
-fits budget word = is_number word
+fits budget word = is_below (2 ^ 64) word
+fits workers word = is_below (2 ^ 32) word
+fits recorded word = true
 fits replay word = true
 
 -- a word that is the program, the query, or one too many
@@ -93,19 +121,28 @@ abbrev pub taker_step : Reading → Taker → Option (List ℕ) → Step
 taker_step r o None = if is_some (value_of o r.run_words.values) then stops refused else goes (record r { awaits = Some o })
 taker_step r o (Some value) = taken_step r o value
 
--- `--help`
-abbrev pub help_step : Option (List ℕ) → Step
-help_step None = stops help
-help_step (Some value) = stops refused
+abbrev pub with_totals : Values → Values
+with_totals values = record values { totals = true }
 
--- the option of this name
+-- an option that takes no value: `--help`, or `--totals`, which is said once
+abbrev pub flag_step : Reading → Flag → Option (List ℕ) → Step
+flag_step r f (Some value) = stops refused
+flag_step r help_flag None = stops help
+flag_step r totals_flag None = if r.run_words.values.totals then stops refused
+    else goes (record r { run_words = record r.run_words { values = with_totals r.run_words.values } })
+
+-- the option of this name that takes a value, and the one that takes none
 abbrev pub named : List ℕ → Option Taker
-named name = if bytes_eq (name_of budget) name then Some budget else (if bytes_eq (name_of replay) name then Some replay else None)
+named name = find (λ o. bytes_eq (name_of o) name) takers
 
--- `--name`, by the option of this name, or by whether the name is `help`
-abbrev pub long_step : Reading → Option Taker → Bool → Option (List ℕ) → Step
-long_step r (Some o) is_help value = taker_step r o value
-long_step r None is_help value = if is_help then help_step value else stops refused
+abbrev pub flag_named : List ℕ → Option Flag
+flag_named name = find (λ f. bytes_eq (flag_name f) name) flags
+
+-- `--name`, by the option of this name
+abbrev pub long_step : Reading → Option Taker → Option Flag → Option (List ℕ) → Step
+long_step r (Some o) flag value = taker_step r o value
+long_step r None (Some f) value = flag_step r f value
+long_step r None None value = stops refused
 
 -- `-c` and what follows, where `-h` is the only one
 abbrev pub short_step : Reading → List ℕ → Option ℕ → Step
@@ -114,7 +151,7 @@ short_step r word (Some c) = if is_some r.awaits then stops refused else (if byt
 
 -- by its parts, where it is `--name`, or `-c`
 abbrev pub option_step : Reading → List ℕ → Option (List ℕ × Option (List ℕ)) → Option (List ℕ) → Step
-option_step r word (Some parts) letters = if is_some r.awaits then stops refused else long_step r (named parts.0) (bytes_eq (codes "help") parts.0) parts.1
+option_step r word (Some parts) letters = if is_some r.awaits then stops refused else long_step r (named parts.0) (flag_named parts.0) parts.1
 option_step r word None (Some letters) = short_step r word (slice_get (chars letters) 0)
 option_step r word None None = value_step r r.awaits word
 

@@ -1,10 +1,10 @@
-//! Inputs that are read whole.
+//! Inputs that are read whole, and outputs that are written whole.
 ghost use Rattle.std.specs.Prelude.{◌≡◌, ℕ, List, Option, Some, None, IfOk, IfSome};
-ghost use Rattle.std.specs.Io.KnownBytes.{Consumes, IsAtEnd};
+ghost use Rattle.std.specs.Io.KnownBytes.{Appends, Consumes, IsAtEnd};
 
 use std::alloc::Global;
 use std::io;
-use std::io::Read;
+use std::io::{Read, Write};
 use std::rt::Files;
 
 /// How often an input is read at most.
@@ -23,6 +23,19 @@ pub trait Opens {
             (λ bytes. Self.File.remaining file ≡ Some bytes)) };
 }
 
+/// What creates the file of a path, to be written.
+pub trait Creates {
+    type Sink: Write + Drop;
+
+    // The bytes that the file of a path has when it is created, where they are known.
+    ghost fresh: { Self → List ℕ → Option (List ℕ) };
+
+    fn create(&self, path: &str) -> io::Result<Self::Sink>
+        ensures { IfOk result
+            (λ sink. IfSome (fresh self.now path.now)
+            (λ bytes. Self.Sink.contents sink ≡ Some bytes)) };
+}
+
 /// The files of the system, of whose bytes nothing is known.
 #[derive(Clone, Copy)]
 pub struct Disk<'r, R>(pub &'r R);
@@ -34,6 +47,16 @@ impl<R: Files> Opens for Disk<'_, R> {
 
     fn open(&self, path: &str) -> io::Result<R::File> {
         std::fs::open(self.0, path)
+    }
+}
+
+impl<R: Files> Creates for Disk<'_, R> {
+    type Sink = R::File;
+
+    ghost fresh = { λ _ _. None };
+
+    fn create(&self, path: &str) -> io::Result<R::File> {
+        std::fs::create(self.0, path)
     }
 }
 
@@ -62,6 +85,30 @@ pub fn read_file<O: Opens>(alloc: Global, opens: &O, path: &str) -> Option<Vec<u
 {
     let mut file = opens.open(path).ok()?;
     read_all(alloc, &mut file)
+}
+
+/// Writes all the bytes, or gives none where a write fails or takes nothing of what is left.
+pub fn write_all<W: Write>(output: &mut W, bytes: &[u8]) -> Option<()>
+    ensures { IfSome result
+        (λ _. Appends (W.contents output.old) (W.contents output.new) bytes.now) }
+{
+    let mut rest = bytes;
+    while !rest.is_empty() {
+        match output.write(rest) {
+            Ok(0) | Err(_) => return None,
+            Ok(count) => rest = rest.split_at(count).1,
+        }
+    }
+    Some(())
+}
+
+/// Creates the file of a path and writes all the bytes to it, or gives none where it cannot.
+pub fn write_file<C: Creates>(creates: &C, path: &str, bytes: &[u8]) -> Option<()>
+    ensures { IfSome result
+        (λ _. (sink : C.Sink) × Appends (C.fresh creates.now path.now) (C.Sink.contents sink) bytes.now) }
+{
+    let mut sink = creates.create(path).ok()?;
+    write_all(&mut sink, bytes)
 }
 
 #[cfg(test)]

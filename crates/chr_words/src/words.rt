@@ -2,12 +2,13 @@
 ghost use Rattle.std.specs.Prelude.{◌≡◌, ℕ, List, [], ◌∷◌, Some, None, IfOk, false, true, map};
 ghost use Rattle.std.specs.String.{string_bytes};
 ghost use Rattle.clap.specs.Words.{app_of, found_of, kind_of, rule_of};
-ghost use Rattle.chr_words.specs.App.{chr_app, program_rule, query_rule, budget_rule, replay_rule};
+ghost use Rattle.chr_words.specs.App.{chr_app, program_rule, query_rule, budget_rule, workers_rule, record_rule, replay_rule, totals_rule};
 ghost use Rattle.chr_words.specs.Answer.{IsAnswer, IsRead, IsRefusal, IsRun};
 ghost use Rattle.chr_words.specs.Words.{is_plain};
 
+use clap::builder::ValueParser;
 use clap::error::ErrorKind;
-use clap::{Arg, ArgMatches, Command, Error, value_parser};
+use clap::{Arg, ArgAction, ArgMatches, Command, Error, value_parser};
 use std::alloc::{AllocError, Global};
 
 /// What the words after the program's name ask for.
@@ -21,8 +22,14 @@ pub enum Request<'a> {
         query: Option<&'a str>,
         /// The greatest number of transitions.
         budget: Option<u64>,
-        /// The path of the schedule's file.
+        /// The number of workers that search ahead.
+        workers: Option<u32>,
+        /// The path of the file to which the schedule is written.
+        record: Option<&'a str>,
+        /// The path of the file of the schedule to be replayed.
         replay: Option<&'a str>,
+        /// Whether the counts and totals are to be said.
+        totals: bool,
     },
     /// This text of help.
     Help(String),
@@ -55,6 +62,27 @@ fn budget_arg<'a>(alloc: Global) -> Arg<'a>
         .help("The greatest number of transitions, 100000 where not given")
 }
 
+fn workers_arg<'a>(alloc: Global) -> Arg<'a>
+    ensures rule { rule_of result ≡ workers_rule }
+    ensures local { result.global ≡ false }
+{
+    Arg::new(alloc, "workers")
+        .long("workers")
+        .value_name("W")
+        .value_parser(ValueParser::unsigned(0, 4_294_967_295))
+        .help("The number of workers that search ahead, 0 where not given")
+}
+
+fn record_arg<'a>(alloc: Global) -> Arg<'a>
+    ensures rule { rule_of result ≡ record_rule }
+    ensures local { result.global ≡ false }
+{
+    Arg::new(alloc, "record")
+        .long("record")
+        .value_name("FILE")
+        .help("Writes the schedule of the run to this file")
+}
+
 fn replay_arg<'a>(alloc: Global) -> Arg<'a>
     ensures rule { rule_of result ≡ replay_rule }
     ensures local { result.global ≡ false }
@@ -63,6 +91,16 @@ fn replay_arg<'a>(alloc: Global) -> Arg<'a>
         .long("replay")
         .value_name("FILE")
         .help("Replays the schedule in this file, and stands alone")
+}
+
+fn totals_arg<'a>(alloc: Global) -> Arg<'a>
+    ensures rule { rule_of result ≡ totals_rule }
+    ensures local { result.global ≡ false }
+{
+    Arg::new(alloc, "totals")
+        .long("totals")
+        .action(ArgAction::SetTrue)
+        .help("Says the counts and totals of the run")
 }
 
 /// The words that the program takes.
@@ -75,7 +113,10 @@ fn chr_command<'a>(alloc: Global) -> Result<Command<'a>, AllocError>
         .arg(program_arg(alloc))?
         .arg(query_arg(alloc))?
         .arg(budget_arg(alloc))?
-        .arg(replay_arg(alloc))
+        .arg(workers_arg(alloc))?
+        .arg(record_arg(alloc))?
+        .arg(replay_arg(alloc))?
+        .arg(totals_arg(alloc))
 }
 
 /// What words that were taken ask for.
@@ -86,7 +127,10 @@ fn run_of<'a>(matches: &ArgMatches<'a>) -> Request<'a>
         program: matches.get_str("PROGRAM"),
         query: matches.get_str("QUERY"),
         budget: matches.get_one::<u64>("budget"),
+        workers: matches.get_one::<u32>("workers"),
+        record: matches.get_str("record"),
         replay: matches.get_str("replay"),
+        totals: matches.get_flag("totals"),
     }
 }
 

@@ -44,7 +44,7 @@ fn gcd(rt: HostRuntime) {
     assert_text(rt.alloc(), &rt, GCD, Status::Done, GCD_TEXT);
 }
 
-/// The greatest budget, and one more; no workers, and as many as no run can have.
+/// The greatest budget, and one more; 1 and 8 workers, by which the text is the same, and as many as no run can have.
 #[test]
 fn limits_and_workers(rt: HostRuntime) {
     let greatest = Example {
@@ -58,6 +58,10 @@ fn limits_and_workers(rt: HostRuntime) {
     };
     let error = TextError::Run(RunError::BudgetTooLarge);
     assert_refused(rt.alloc(), &rt, greater, 0, error);
+    for workers in [1, 8] {
+        let out = text_of(rt.alloc(), &rt, GCD, workers, Status::Done);
+        assert_eq!(rt; out.as_slice(), GCD_TEXT.as_bytes(), "{workers}");
+    }
     let error = TextError::Run(RunError::TooManyWorkers);
     assert_refused(rt.alloc(), &rt, GCD, 65, error);
 }

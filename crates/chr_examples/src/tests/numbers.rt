@@ -10,7 +10,11 @@ struct Told {
 }
 
 /// X is told that value in one transition.
-fn assert_told(alloc: Global, rt: &impl Abort, told: &Told) -> Result<(), Fail> {
+fn assert_told(
+    alloc: Global,
+    rt: &(impl Threads + Wait + Abort + Sync),
+    told: &Told,
+) -> Result<(), Fail> {
     let text = format!(in alloc;
         "1 solve {}\nend done\nstack 0\nstore 0\nbindings 1\nX = {}\nhistory 0\n",
         told.goal, told.value
@@ -28,7 +32,7 @@ fn assert_told(alloc: Global, rt: &impl Abort, told: &Told) -> Result<(), Fail> 
 /// The one goal of the query, which is printed so, has a fault, and the stack keeps it.
 fn assert_fault(
     alloc: Global,
-    rt: &impl Abort,
+    rt: &(impl Threads + Wait + Abort + Sync),
     query: &'static str,
     goal: &str,
     fault: Fault,

@@ -1,48 +1,17 @@
 //! The replay that the program `chr` makes of a schedule in a file.
 ghost use Rattle.std.specs.Prelude.{◌⊎◌, option_map};
-ghost use Rattle.chr_core.specs.CoreView.{counts_view};
-ghost use Rattle.chr_run.specs.Command.{Refuses, ReplaysFile, ReplaysFiles, ReplaysTexts, ReplaysWords, counts_text, effect, unread_text};
-ghost use Rattle.chr_run.specs.Output.{AppendsPart};
+ghost use Rattle.chr_run.specs.Command.{Refuses, ReplaysFile, ReplaysFiles, ReplaysTexts, ReplaysWords, effect};
+ghost use Rattle.chr_run.specs.Reports.{asked_view, is_silent, unread_text};
 
+use super::reporting::Asked;
 use super::{REFUSED, status_code};
+use crate::numbers::say_counts;
 use crate::refusal::{say, say_refusal, say_unread};
 use crate::replays::replay_text;
-use chr_core::Counts;
 use chr_words::{Opens, read_file};
-use itoa::Buffer;
 use std::alloc::Global;
 use std::io::Write;
 use std::sync::Wait;
-
-/// Says the counts of a replay, as far as they can be written.
-fn say_counts<E: Write>(error: &mut E, counts: Counts)
-    ensures { AppendsPart (E.contents error.old) (E.contents error.new)
-        (counts_text (counts_view counts)) }
-{
-    let (mut kept, mut late, mut double) = (Buffer::new(), Buffer::new(), Buffer::new());
-    let (mut used, mut own) = (Buffer::new(), Buffer::new());
-    let kept = kept.format(counts.kept);
-    let late = late.format(counts.late);
-    let double = double.format(counts.double);
-    let used = used.format(counts.used);
-    let own = own.format(counts.own);
-    say(
-        error,
-        &[
-            "counts kept ",
-            kept,
-            " late ",
-            late,
-            " double ",
-            double,
-            " used ",
-            used,
-            " own ",
-            own,
-            "\n",
-        ],
-    );
-}
 
 /// Writes the text of the replay of a schedule, and says its counts; or says why there is none.
 fn replay_texts<W: Write, E: Write>(
@@ -142,19 +111,19 @@ pub(super) fn replay_words<O: Opens, W: Write, E: Write>(
     alloc: Global,
     program: Option<&str>,
     query: Option<&str>,
-    budget: Option<u64>,
+    asked: Asked<'_>,
     schedule: &str,
     files: &O,
     output: &mut W,
     error: &mut E,
 ) -> u8
     ensures { ReplaysWords (option_map (λ t. t.now) program.entry)
-        (option_map (λ t. t.now) query.entry) budget schedule.now (O.bytes_of files.now)
+        (option_map (λ t. t.now) query.entry) (is_silent (asked_view asked.entry)) schedule.now (O.bytes_of files.now)
         (effect (W.contents output.old) (W.contents output.new)
         (E.contents error.old) (E.contents error.new) result) }
 {
-    match (program, query, budget) {
-        (Some(program), Some(query), None) => {
+    match (program, query, asked.is_silent()) {
+        (Some(program), Some(query), true) => {
             replay_files(rt, alloc, files, program, query, schedule, output, error)
         }
         _ => {

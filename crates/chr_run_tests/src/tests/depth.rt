@@ -1,8 +1,6 @@
 //! The deepest texts, on a stack as large as the program gives to `command`.
 use super::words::{answer_to_file, assert_runs};
 use super::*;
-use std::sync::Wait;
-use std::thread::Threads;
 use std::{io, thread};
 
 /// The bytes of that stack.
@@ -25,7 +23,11 @@ fn repeated(
 }
 
 /// A goal that is a whole text long is stored, printed and copied.
-fn is_stored(alloc: Global, rt: &(impl Abort + Wait), goal: &str) -> Result<(), Memory> {
+fn is_stored(
+    alloc: Global,
+    rt: &(impl Threads + Wait + Abort + Sync),
+    goal: &str,
+) -> Result<(), Memory> {
     let query = format!(in alloc; "{goal}.")?;
     let text = format!(in alloc;
         "1 activate {goal}#1\n2 drop {goal}#1:1\nend done\nstack 0\nstore 1\n{goal}#1\nbindings 0\nhistory 0\n"
@@ -37,7 +39,11 @@ fn is_stored(alloc: Global, rt: &(impl Abort + Wait), goal: &str) -> Result<(), 
 }
 
 /// A head that is nearly a whole text long is compared with the same goal, which the body then has again.
-fn is_compared(alloc: Global, rt: &(impl Abort + Wait), goal: &str) -> Result<(), Memory> {
+fn is_compared(
+    alloc: Global,
+    rt: &(impl Threads + Wait + Abort + Sync),
+    goal: &str,
+) -> Result<(), Memory> {
     let query = format!(in alloc; "{goal}.")?;
     let program = format!(in alloc; ":- chr_constraint p/1, q/0.\n{goal} <=> q.\n")?;
     let text = format!(in alloc;
@@ -49,7 +55,11 @@ fn is_compared(alloc: Global, rt: &(impl Abort + Wait), goal: &str) -> Result<()
 }
 
 /// A body that is nearly a whole text long becomes a goal.
-fn is_put(alloc: Global, rt: &(impl Abort + Wait), goal: &str) -> Result<(), Memory> {
+fn is_put(
+    alloc: Global,
+    rt: &(impl Threads + Wait + Abort + Sync),
+    goal: &str,
+) -> Result<(), Memory> {
     let program = format!(in alloc; ":- chr_constraint p/1, q/0.\nq <=> {goal}.\n")?;
     let text = format!(in alloc;
         "1 activate q#1\n2 simplify q#1:1 #1 1\n3 activate {goal}#2\n4 drop {goal}#2:1\nend done\nstack 0\nstore 1\n{goal}#2\nbindings 0\nhistory 1\n#1 1\n"
@@ -59,7 +69,7 @@ fn is_put(alloc: Global, rt: &(impl Abort + Wait), goal: &str) -> Result<(), Mem
     Ok(())
 }
 
-fn are_deep(rt: &(impl Abort + Wait), alloc: Global) -> io::Result<()> {
+fn are_deep(rt: &(impl Threads + Wait + Abort + Sync), alloc: Global) -> io::Result<()> {
     let chain = repeated(alloc, "p(1", "+1", 524_285, ")")?;
     is_stored(alloc, rt, chain.as_str())?;
     let list = repeated(alloc, "p([1", ",1", 524_284, "])")?;

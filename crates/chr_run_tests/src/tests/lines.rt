@@ -1,14 +1,13 @@
 //! Each line that says what is wrong with a text, with its exact bytes.
 use super::words::{answer_to_file, answer_to_input, assert_refuses, whole};
 use super::*;
-use std::sync::Wait;
 
 const DECLARED: &str = ":- chr_constraint p/0, q/0, r/0, t/1.\n";
 
 /// The query is refused, over a program that is accepted: by its words, and where it is the first line of the input.
 fn query_refused(
     alloc: Global,
-    rt: &(impl Abort + Wait),
+    rt: &(impl Threads + Wait + Abort + Sync),
     query: &str,
     line: &str,
 ) -> Result<(), Fail> {
@@ -20,7 +19,7 @@ fn query_refused(
 /// The first line of the input is refused as a query.
 fn bytes_refused(
     alloc: Global,
-    rt: &(impl Abort + Wait),
+    rt: &(impl Threads + Wait + Abort + Sync),
     query: &[u8],
     line: &str,
 ) -> Result<(), Fail> {
@@ -36,7 +35,7 @@ fn bytes_refused(
 /// The program is refused, whatever the query.
 fn program_refused(
     alloc: Global,
-    rt: &(impl Abort + Wait),
+    rt: &(impl Threads + Wait + Abort + Sync),
     program: &[u8],
     line: &str,
 ) -> Result<(), Fail> {

@@ -26,10 +26,15 @@ fn place_of(error: TextError) -> Option<usize> {
 }
 
 /// Where the run of the texts is refused with so many growths. Nothing goes out before the texts are accepted; then a first part does.
-fn refused_at(meter: &Meter, rt: &impl Abort, alloc: Global, left: u64) -> Option<usize> {
+fn refused_at<R: Threads + Wait + Abort + Sync>(
+    meter: &Meter,
+    rt: &R,
+    alloc: Global,
+    left: u64,
+) -> Option<usize> {
     let mut sink = Sink::open(alloc);
     meter.allow(left);
-    let ran = run_case(meter, GROUND_RULE, &mut sink);
+    let ran = run_case(rt, meter, GROUND_RULE, &mut sink);
     assert_eq!(rt; meter.asked() > left, ran.is_err(), "{left}");
     let Err(error) = ran else {
         assert_eq!(rt; sink.text.as_slice(), GROUND_TEXT.as_bytes());
@@ -78,8 +83,17 @@ fn both_of<A: Allocator + Copy>(
     Ok((program, query))
 }
 
+/// A gate that holds nobody.
+#[derive(Drop)]
+struct Open;
+
+impl Gate for Open {
+    fn at(&self, _point: Point) {}
+}
+
 /// Runs by `run_into` what was read with all the memory that it wants.
-fn run_read<A: Allocator + Copy>(
+fn run_read<A: Allocator + Copy + Send + Sync, R: Threads + Wait + Sync>(
+    rt: &R,
     alloc: A,
     meter: &Meter,
     case: Case,
@@ -89,20 +103,21 @@ fn run_read<A: Allocator + Copy>(
     meter.allow(u64::MAX);
     let (program, query) = both_of(alloc, case.program, case.query)?;
     meter.allow(left);
-    Ok(run_into(alloc, &program, query, 100, 0, sink))
+    let ran = run_into(rt, alloc, &program, query, 100, 0, &Open, sink);
+    Ok(ran.map(|run| run.outcome.status))
 }
 
 /// Whether the run goes through with so many growths. Where it does not, a first part of the text is out, of whole lines.
-fn is_run(
+fn is_run<R: Threads + Wait + Abort + Sync>(
     meter: &Meter,
-    rt: &impl Abort,
+    rt: &R,
     alloc: Global,
     case: Case,
     left: u64,
 ) -> Result<bool, Fail> {
     let whole = text_of(alloc, rt, case);
     let mut sink = Sink::open(alloc);
-    let ran = run_read(meter, meter, case, left, &mut sink)?;
+    let ran = run_read(rt, meter, meter, case, left, &mut sink)?;
     let text = sink.text.as_slice();
     assert_eq!(rt; meter.asked() > left, ran.is_err(), "{left}");
     assert!(rt; whole.as_slice().starts_with(text), "{left}");

@@ -1,12 +1,11 @@
 //! `replay_text`, and `chr` with `--replay`: texts, counts, and each line that says what is wrong with a schedule.
 ghost use Rattle.std.specs.Prelude.{None};
 
-use super::words::{Answer, assert_refuses, owned};
+use super::words::{Answer, assert_refuses, owned, recorded};
 use super::*;
 use chr_core::{Counts, ReplayError};
 use chr_schedule::{ScheduleError, ScheduleErrorKind};
-use chr_words::Opens;
-use std::sync::Wait;
+use chr_words::{Creates, Opens};
 
 const SCHEDULE: &str = "step 6\npublish\narrive 0 0\narrive 0 1\narrive 0 2\nstep 8\n";
 
@@ -49,7 +48,7 @@ bindings 0
 history 0
 ";
 
-/// Two files, `program` and `schedule`.
+/// Two files, `program` and `schedule`. None can be written.
 #[derive(Drop)]
 struct Pair<'t> {
     program: &'t [u8],
@@ -75,9 +74,19 @@ impl<'t> Opens for Pair<'t> {
     }
 }
 
+impl Creates for Pair<'_> {
+    type Sink = Sink;
+
+    ghost fresh = { λ _ _. None };
+
+    fn create(&self, _path: &str) -> std::io::Result<Sink> {
+        Err(Error::from(ErrorKind::Other))
+    }
+}
+
 /// What it answers to words, with this program and this schedule in its files.
 fn answer_to(
-    rt: &impl Wait,
+    rt: &(impl Threads + Wait + Sync),
     alloc: Global,
     words: &[&str],
     program: &str,
@@ -107,7 +116,11 @@ fn answer_to(
 }
 
 /// What it answers to the replay of a schedule of `speculation`.
-fn answer_to_schedule(rt: &impl Wait, alloc: Global, schedule: &[u8]) -> Result<Answer, Memory> {
+fn answer_to_schedule(
+    rt: &(impl Threads + Wait + Sync),
+    alloc: Global,
+    schedule: &[u8],
+) -> Result<Answer, Memory> {
     let words = ["program", SPECULATION.query, "--replay", "schedule"];
     answer_to(rt, alloc, &words, SPECULATION.program, schedule)
 }
@@ -173,7 +186,7 @@ fn replays_that_end_otherwise(rt: HostRuntime) -> Result<(), Fail> {
 
 /// The schedule of `speculation` is refused with this line, and nothing goes out.
 fn assert_unread(
-    rt: &(impl Abort + Wait),
+    rt: &(impl Threads + Wait + Abort + Sync),
     schedule: &[u8],
     alloc: Global,
     line: &str,
@@ -276,15 +289,56 @@ fn hostile_schedules(rt: HostRuntime) -> Result<(), Fail> {
 #[test]
 fn stands_alone(rt: HostRuntime) -> Result<(), Fail> {
     let query = SPECULATION.query;
-    let words: [&[&str]; 4] = [
+    let words: [&[&str]; 9] = [
         &["--replay", "schedule"],
         &["program", "--replay", "schedule"],
         &["program", query, "--replay", "schedule", "--budget", "9"],
         &["else/where", "--budget=9", "--replay=nowhere"],
+        &["program", query, "--replay", "schedule", "--workers", "2"],
+        &["program", query, "--replay", "schedule", "--workers=0"],
+        &["program", query, "--replay", "schedule", "--record", "r"],
+        &["program", query, "--replay", "schedule", "--totals"],
+        &["else/where", "--totals", "--replay=nowhere", "--record=r"],
     ];
     for words in words {
         let answer = answer_to(&rt, rt.alloc(), words, SPECULATION.program, b"".as_slice())?;
         assert_refuses(&rt, &answer, "chr: --replay stands alone\n");
+    }
+    Ok(())
+}
+
+/// The schedule that a run writes leads to its text, and to the counts that it says.
+#[test]
+fn recorded_runs(rt: HostRuntime) -> Result<(), Fail> {
+    let (program, query) = (SPECULATION.program, SPECULATION.query);
+    for workers in ["0", "1", "8"] {
+        let words = [
+            "there",
+            query,
+            "--totals",
+            "--record=record",
+            "--workers",
+            workers,
+        ];
+        let (run, record) = recorded(&rt, rt.alloc(), &words, program, u64::MAX)?;
+        assert_eq!(rt; run.status, 0, "{workers}");
+        assert_eq!(rt;
+            run.output.as_slice(),
+            SPECULATION_TEXT.as_bytes(),
+            "{workers}"
+        );
+        let answer = answer_to_schedule(&rt, rt.alloc(), record.as_slice())?;
+        assert_eq!(rt; answer.status, 0, "{workers}");
+        assert_eq!(rt;
+            answer.output.as_slice(),
+            SPECULATION_TEXT.as_bytes(),
+            "{workers}"
+        );
+        let (said, counts) = (run.error.as_slice(), answer.error.as_slice());
+        assert!(rt;
+            said.starts_with(counts) && lines_in(counts) == 1,
+            "{workers}"
+        );
     }
     Ok(())
 }

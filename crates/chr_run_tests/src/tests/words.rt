@@ -2,10 +2,10 @@
 ghost use Rattle.std.specs.Prelude.{None};
 
 use super::*;
-use chr_words::Opens;
-use std::sync::Wait;
+use chr_words::{Creates, Opens};
+use std::cell::RefCell;
 
-/// One file, `there`, that is read by so many calls, each of at most `step` bytes.
+/// One file, `there`, that is read by so many calls, each of at most `step` bytes. None can be written.
 #[derive(Drop)]
 pub struct Files<'t> {
     pub text: &'t [u8],
@@ -30,6 +30,80 @@ impl<'t> Opens for Files<'t> {
     }
 }
 
+impl Creates for Files<'_> {
+    type Sink = Sink;
+
+    ghost fresh = { λ _ _. None };
+
+    fn create(&self, _path: &str) -> std::io::Result<Sink> {
+        Err(Error::from(ErrorKind::Other))
+    }
+}
+
+/// Keeps what is written, a byte at a call, and fails once `calls` of them were made.
+#[derive(Drop)]
+pub struct Recorder<'t> {
+    record: &'t RefCell<Vec<u8>>,
+    calls: u64,
+}
+
+impl Write for Recorder<'_> {
+    fn write(&mut self, buf: &[u8]) -> std::io::Result<usize> {
+        if self.calls == 0 {
+            return Err(Error::from(ErrorKind::Other));
+        }
+        self.calls -= 1;
+        let count = buf.len().min(1);
+        let mut record = self
+            .record
+            .try_borrow_mut()
+            .map_err(|_| Error::from(ErrorKind::Other))?;
+        record.extend_from_slice(&buf[..count])?;
+        Ok(count)
+    }
+
+    fn flush(&mut self) -> std::io::Result<()> {
+        Ok(())
+    }
+}
+
+/// A program in the file `there`, and the file `record`, which takes so many bytes.
+#[derive(Drop)]
+pub struct Recording<'t> {
+    program: &'t [u8],
+    record: &'t RefCell<Vec<u8>>,
+    calls: u64,
+}
+
+impl<'t> Opens for Recording<'t> {
+    type File = Source<'t>;
+
+    ghost bytes_of = { λ _ _. None };
+
+    fn open(&self, path: &str) -> std::io::Result<Source<'t>> {
+        if path != "there" {
+            return Err(Error::from(ErrorKind::NotFound));
+        }
+        Ok(whole(self.program))
+    }
+}
+
+impl<'t> Creates for Recording<'t> {
+    type Sink = Recorder<'t>;
+
+    ghost fresh = { λ _ _. None };
+
+    fn create(&self, path: &str) -> std::io::Result<Recorder<'t>> {
+        if path != "record" {
+            return Err(Error::from(ErrorKind::NotFound));
+        }
+        Ok(Recorder {
+            record: self.record,
+            calls: self.calls,
+        })
+    }
+}
+
 /// What `chr` answers and writes.
 #[derive(Drop)]
 pub struct Answer {
@@ -48,10 +122,10 @@ pub(super) fn owned(alloc: Global, words: &[&str]) -> Result<Vec<String>, Memory
 
 /// What it answers to words and an input.
 fn answer_of(
-    rt: &impl Wait,
+    rt: &(impl Threads + Wait + Sync),
     alloc: Global,
     words: &[&str],
-    files: &Files,
+    files: &(impl Opens + Creates),
     input: &mut impl Read,
 ) -> Result<Answer, Memory> {
     let words = owned(alloc, words)?;
@@ -75,7 +149,7 @@ fn answer_of(
 
 /// What it answers to words where the file has this text, and the input none.
 pub(crate) fn answer_to_file(
-    rt: &impl Wait,
+    rt: &(impl Threads + Wait + Sync),
     alloc: Global,
     words: &[&str],
     text: &[u8],
@@ -90,7 +164,7 @@ pub(crate) fn answer_to_file(
 
 /// What it answers with no words to an input that is read so.
 pub(crate) fn answer_to_input(
-    rt: &impl Wait,
+    rt: &(impl Threads + Wait + Sync),
     alloc: Global,
     source: &mut Source,
 ) -> Result<Answer, Memory> {
@@ -100,6 +174,24 @@ pub(crate) fn answer_to_input(
         calls: 0,
     };
     answer_of(rt, alloc, &[], &files, source)
+}
+
+/// What it answers to words where the file has this program, and what is then in the file `record`, which takes so many bytes.
+pub(crate) fn recorded(
+    rt: &(impl Threads + Wait + Sync),
+    alloc: Global,
+    words: &[&str],
+    program: &str,
+    calls: u64,
+) -> Result<(Answer, Vec<u8>), Memory> {
+    let record = RefCell::new(Vec::new(alloc));
+    let files = Recording {
+        program: program.as_bytes(),
+        record: &record,
+        calls,
+    };
+    let answer = answer_of(rt, alloc, words, &files, &mut Endless)?;
+    Ok((answer, record.into_inner()))
 }
 
 /// The whole text in one call.
@@ -316,7 +408,10 @@ Arguments:
 
 Options:
       --budget <N>     The greatest number of transitions, 100000 where not given
+      --workers <W>    The number of workers that search ahead, 0 where not given
+      --record <FILE>  Writes the schedule of the run to this file
       --replay <FILE>  Replays the schedule in this file, and stands alone
+      --totals         Says the counts and totals of the run
   -h, --help           Print help
 ";
 
@@ -343,9 +438,9 @@ fn words_that_are_refused(rt: HostRuntime) -> Result<(), Fail> {
     let line =
         "error: invalid value 'x' for '--budget <N>': invalid digit found in string\n\nFor more information, try '--help'.\n";
     assert_refuses(&rt, &answer, line);
-    let answer = answer_to_file(&rt, rt.alloc(), &["--totals"], b"".as_slice())?;
+    let answer = answer_to_file(&rt, rt.alloc(), &["--bogus"], b"".as_slice())?;
     let line =
-        "error: unexpected argument '--totals' found\n\n  tip: to pass '--totals' as a value, use '-- --totals'\n\nUsage: chr [OPTIONS] [PROGRAM] [QUERY]\n\nFor more information, try '--help'.\n";
+        "error: unexpected argument '--bogus' found\n\n  tip: to pass '--bogus' as a value, use '-- --bogus'\n\nUsage: chr [OPTIONS] [PROGRAM] [QUERY]\n\nFor more information, try '--help'.\n";
     assert_refuses(&rt, &answer, line);
     Ok(())
 }
@@ -354,7 +449,7 @@ fn words_that_are_refused(rt: HostRuntime) -> Result<(), Fail> {
 /// changes nothing.
 fn cannot_write(
     alloc: Global,
-    rt: &(impl Abort + Wait),
+    rt: &(impl Threads + Wait + Abort + Sync),
     words: &[&str],
     (text, sent): (&str, usize),
 ) -> Result<(), Fail> {
@@ -392,4 +487,194 @@ fn outputs_that_fail(rt: HostRuntime) -> Result<(), Fail> {
     let words = ["there", GROUND_QUERY];
     cannot_write(rt.alloc(), &rt, &words, (GROUND_TEXT, 42))?;
     cannot_write(rt.alloc(), &rt, &["--help"], (HELP, 60))
+}
+
+/// With workers the bytes are the same.
+#[test]
+fn workers_that_search_ahead(rt: HostRuntime) -> Result<(), Fail> {
+    for workers in ["0", "1", "2", "8"] {
+        let words = ["there", GCD.query, "--workers", workers];
+        let answer = answer_to_file(&rt, rt.alloc(), &words, GCD.program.as_bytes())?;
+        assert_runs(&rt, &answer, 0, GCD_TEXT);
+    }
+    Ok(())
+}
+
+/// This is looked at before the texts, and nothing is said or recorded then.
+#[test]
+fn too_many_workers(rt: HostRuntime) -> Result<(), Fail> {
+    for program in [GCD.program, "!"] {
+        let words = [
+            "there",
+            GCD.query,
+            "--workers=65",
+            "--totals",
+            "--record=record",
+        ];
+        let (answer, record) = recorded(&rt, rt.alloc(), &words, program, u64::MAX)?;
+        assert_refuses(&rt, &answer, "chr: TooManyWorkers\n");
+        assert!(rt; record.is_empty());
+    }
+    Ok(())
+}
+
+/// What is said of a run of `gcd` with no workers. Ten of its transitions are search steps.
+const GCD_TOTALS: &str =
+    "counts kept 0 late 0 double 0 used 0 own 10\ntotals put 0 taken 0 posted 0 given_up 0 drained 0 waiting 0 left 0\n";
+
+/// It runs so, and this is said.
+fn assert_says(rt: &impl Abort, answer: &Answer, status: u8, text: &str, said: &str) {
+    assert_eq!(rt; answer.status, status);
+    assert_eq!(rt; answer.output.as_slice(), text.as_bytes());
+    assert_eq!(rt; answer.error.as_slice(), said.as_bytes());
+}
+
+/// The option may stand anywhere, and in a run of the input too, where two transitions of `ground_rule` are search steps.
+#[test]
+fn totals(rt: HostRuntime) -> Result<(), Fail> {
+    let program = GCD.program.as_bytes();
+    for words in [
+        ["--totals", "there", GCD.query],
+        ["there", "--totals", GCD.query],
+        ["there", GCD.query, "--totals"],
+    ] {
+        let answer = answer_to_file(&rt, rt.alloc(), &words, program)?;
+        assert_says(&rt, &answer, 0, GCD_TEXT, GCD_TOTALS);
+    }
+    let files = Files {
+        text: &[],
+        step: 0,
+        calls: 0,
+    };
+    let mut input = whole(GROUND_INPUT.as_bytes());
+    let answer = answer_of(&rt, rt.alloc(), &["--totals"], &files, &mut input)?;
+    let said =
+        "counts kept 0 late 0 double 0 used 0 own 2\ntotals put 0 taken 0 posted 0 given_up 0 drained 0 waiting 0 left 0\n";
+    assert_says(&rt, &answer, 0, GROUND_TEXT, said);
+    Ok(())
+}
+
+/// With workers the counts may be others. They stand in the same two lines.
+#[test]
+fn totals_of_workers(rt: HostRuntime) -> Result<(), Fail> {
+    let words = ["there", GCD.query, "--totals", "--workers=2"];
+    let answer = answer_to_file(&rt, rt.alloc(), &words, GCD.program.as_bytes())?;
+    assert_eq!(rt; answer.status, 0);
+    assert_eq!(rt; answer.output.as_slice(), GCD_TEXT.as_bytes());
+    let error = answer.error.as_slice();
+    assert!(rt; error.starts_with(b"counts kept ".as_slice()));
+    assert_eq!(rt; lines_in(error), 2);
+    let end = error
+        .iter()
+        .position(|byte| *byte == b'\n')
+        .ok_or("a line")?;
+    let rest = error.get(end..).ok_or("a second line")?;
+    assert!(rt; rest.starts_with(b"\ntotals put ".as_slice()));
+    Ok(())
+}
+
+/// A run that fails, one with a fault, and one whose budget is used up are not refused.
+#[test]
+fn totals_of_other_ends(rt: HostRuntime) -> Result<(), Fail> {
+    let said =
+        "counts kept 0 late 0 double 0 used 0 own 0\ntotals put 0 taken 0 posted 0 given_up 0 drained 0 waiting 0 left 0\n";
+    for (query, status, text) in [
+        ("X = f(X).", 3, FAILED_TEXT),
+        ("X is 1 // 0.", 4, FAULT_TEXT),
+    ] {
+        let words = ["there", query, "--totals"];
+        let answer = answer_to_file(&rt, rt.alloc(), &words, b"".as_slice())?;
+        assert_says(&rt, &answer, status, text, said);
+    }
+    let words = ["there", GROUND_QUERY, "--budget=1", "--totals"];
+    let answer = answer_to_file(&rt, rt.alloc(), &words, GROUND_PROGRAM.as_bytes())?;
+    assert_says(&rt, &answer, 5, ONE_TEXT, said);
+    Ok(())
+}
+
+/// Where the error output takes so many bytes, it has the first of them, and the run is as it was.
+#[test]
+fn totals_that_are_cut(rt: HostRuntime) -> Result<(), Fail> {
+    let words = owned(rt.alloc(), &["there", GCD.query, "--totals"])?;
+    let files = Files {
+        text: GCD.program.as_bytes(),
+        step: usize::MAX,
+        calls: u64::MAX,
+    };
+    for calls in [0, 10, 44, 60] {
+        let mut output = Sink::open(rt.alloc());
+        let mut error = Sink::new(rt.alloc(), 1, calls as u64);
+        let status = command(
+            &rt,
+            rt.alloc(),
+            words.as_slice(),
+            &files,
+            &mut Endless,
+            &mut output,
+            &mut error,
+        );
+        assert_eq!(rt; status, 0);
+        assert_eq!(rt; output.text.as_slice(), GCD_TEXT.as_bytes());
+        assert_eq!(rt; error.text.len(), calls);
+        assert!(rt; GCD_TOTALS.as_bytes().starts_with(error.text.as_slice()));
+    }
+    Ok(())
+}
+
+/// The schedule of a run with no workers has its transitions alone.
+#[test]
+fn records(rt: HostRuntime) -> Result<(), Fail> {
+    let words = ["there", GCD.query, "--record", "record"];
+    let (answer, record) = recorded(&rt, rt.alloc(), &words, GCD.program, 8)?;
+    assert_runs(&rt, &answer, 0, GCD_TEXT);
+    assert_eq!(rt; record.as_slice(), b"step 18\n".as_slice());
+    let words = ["there", GCD.query, "--record=record", "--totals"];
+    let (answer, record) = recorded(&rt, rt.alloc(), &words, GCD.program, 8)?;
+    assert_says(&rt, &answer, 0, GCD_TEXT, GCD_TOTALS);
+    assert_eq!(rt; record.as_slice(), b"step 18\n".as_slice());
+    Ok(())
+}
+
+/// The text is out where the file cannot be created, or takes too few bytes; nothing is said of counts then.
+#[test]
+fn records_that_fail(rt: HostRuntime) -> Result<(), Fail> {
+    for calls in 0..8 {
+        let words = ["there", GCD.query, "--record=record", "--totals"];
+        let (answer, record) = recorded(&rt, rt.alloc(), &words, GCD.program, calls as u64)?;
+        assert_says(&rt, &answer, 2, GCD_TEXT, "chr: cannot write record\n");
+        assert_eq!(rt; record.len(), calls);
+        assert!(rt; b"step 18\n".starts_with(record.as_slice()));
+    }
+    for words in [
+        ["there", GCD.query, "--record", "else/where"],
+        ["there", GCD.query, "--totals", "--record=else/where"],
+    ] {
+        let answer = answer_to_file(&rt, rt.alloc(), &words, GCD.program.as_bytes())?;
+        assert_says(&rt, &answer, 2, GCD_TEXT, "chr: cannot write else/where\n");
+    }
+    Ok(())
+}
+
+/// Where the run is refused, nothing is said of counts, and nothing is recorded.
+#[test]
+fn refused_runs_say_nothing(rt: HostRuntime) -> Result<(), Fail> {
+    for (path, query, budget, line) in [
+        ("nowhere", GCD.query, "9", "chr: cannot read nowhere\n"),
+        ("there", GCD.query, "1000001", "chr: BudgetTooLarge\n"),
+        ("there", "gcd(", "9", "chr: query 1:5: Expected\n"),
+        ("there", "z.", "9", "chr: query line 1: Undeclared\n"),
+    ] {
+        let words = [
+            path,
+            query,
+            "--budget",
+            budget,
+            "--totals",
+            "--record=record",
+        ];
+        let (answer, record) = recorded(&rt, rt.alloc(), &words, GCD.program, u64::MAX)?;
+        assert_refuses(&rt, &answer, line);
+        assert!(rt; record.is_empty());
+    }
+    Ok(())
 }

@@ -2,15 +2,15 @@
 use super::*;
 
 /// What went out where so many writes went through, each of at most so many bytes, and one more failed: a first part of the text.
-fn cut_text(
+fn cut_text<R: Threads + Wait + Abort + Sync>(
     alloc: Global,
-    rt: &impl Abort,
+    rt: &R,
     case: Case,
     (step, calls): (usize, u64),
     whole: &[u8],
 ) -> Vec<u8> {
     let mut sink = Sink::new(alloc, step, calls);
-    let answer = run_case(alloc, case, &mut sink);
+    let answer = run_case(rt, alloc, case, &mut sink);
     assert_eq!(rt; answer, Err(TextError::Write), "{calls} {}", case.query);
     assert!(rt;
         whole.starts_with(sink.text.as_slice()),
@@ -21,15 +21,15 @@ fn cut_text(
 }
 
 /// As many writes as this go through, and so the text is whole.
-fn assert_whole(
+fn assert_whole<R: Threads + Wait + Abort + Sync>(
     alloc: Global,
-    rt: &impl Abort,
+    rt: &R,
     case: Case,
     (step, calls): (usize, u64),
     whole: &[u8],
 ) {
     let mut sink = Sink::new(alloc, step, calls);
-    let answer = run_case(alloc, case, &mut sink);
+    let answer = run_case(rt, alloc, case, &mut sink);
     assert_eq!(rt; answer, Ok(Status::Done), "{}", case.query);
     assert_eq!(rt; sink.text.as_slice(), whole, "{}", case.query);
 }
@@ -69,7 +69,7 @@ fn lines_go_out_as_made(rt: HostRuntime) {
 #[test]
 fn writer_takes_nothing(rt: HostRuntime) {
     let mut sink = Sink::new(rt.alloc(), 0, u64::MAX);
-    let answer = run_case(rt.alloc(), GROUND_RULE, &mut sink);
+    let answer = run_case(&rt, rt.alloc(), GROUND_RULE, &mut sink);
     assert_eq!(rt; answer, Err(TextError::Write));
     assert!(rt; sink.text.is_empty());
 }

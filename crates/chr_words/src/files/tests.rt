@@ -1,6 +1,7 @@
-ghost use Rattle.std.specs.Prelude.{None, Some};
+ghost use Rattle.std.specs.Prelude.{None, Some, []};
 
 use super::*;
+use std::cell::RefCell;
 use std::io::{Error, ErrorKind};
 use std::test::Fail;
 
@@ -140,4 +141,115 @@ fn inputs_of_any_length(rt: HostRuntime) {
             );
         }
     }
+}
+
+/// Each file is in memory, and empty at first.
+#[derive(Drop)]
+struct Empty(Global);
+
+impl Creates for Empty {
+    type Sink = Vec<u8>;
+
+    ghost fresh = { λ _ _. Some [] };
+
+    fn create(&self, _path: &str) -> io::Result<Vec<u8>> {
+        Ok(Vec::new(self.0))
+    }
+}
+
+/// Takes a byte at a call. Once `calls` of them were made, it fails, or takes nothing.
+#[derive(Drop)]
+struct Sink<'s> {
+    taken: &'s RefCell<Vec<u8>>,
+    calls: u64,
+    fails: bool,
+}
+
+impl Write for Sink<'_> {
+    fn write(&mut self, buf: &[u8]) -> io::Result<usize> {
+        if self.calls == 0 {
+            return if self.fails {
+                Err(Error::from(ErrorKind::Other))
+            } else {
+                Ok(0)
+            };
+        }
+        self.calls -= 1;
+        let count = buf.len().min(1);
+        let mut taken = self
+            .taken
+            .try_borrow_mut()
+            .map_err(|_| Error::from(ErrorKind::Other))?;
+        taken.extend_from_slice(&buf[..count])?;
+        Ok(count)
+    }
+
+    fn flush(&mut self) -> io::Result<()> {
+        Ok(())
+    }
+}
+
+/// One file, `there`, that takes so many bytes.
+#[derive(Drop)]
+struct Place<'s> {
+    taken: &'s RefCell<Vec<u8>>,
+    calls: u64,
+    fails: bool,
+}
+
+impl<'s> Creates for Place<'s> {
+    type Sink = Sink<'s>;
+
+    ghost fresh = { λ _ _. None };
+
+    fn create(&self, path: &str) -> io::Result<Sink<'s>> {
+        if path != "there" {
+            return Err(Error::from(ErrorKind::NotFound));
+        }
+        Ok(Sink {
+            taken: self.taken,
+            calls: self.calls,
+            fails: self.fails,
+        })
+    }
+}
+
+/// Whether the bytes are written to a file that takes so many, and those that it took.
+fn written(alloc: Global, path: &str, bytes: &[u8], calls: u64, fails: bool) -> (bool, Vec<u8>) {
+    let taken = RefCell::new(Vec::new(alloc));
+    let place = Place {
+        taken: &taken,
+        calls,
+        fails,
+    };
+    let is_written = write_file(&place, path, bytes).is_some();
+    (is_written, taken.into_inner())
+}
+
+#[test]
+fn writes_a_file(rt: HostRuntime) {
+    let alloc = rt.alloc();
+    assert!(rt; write_file(&Empty(alloc), "there", TEXT).is_some());
+    for calls in [7, 8, u64::MAX] {
+        let (is_written, taken) = written(alloc, "there", TEXT, calls, true);
+        assert!(rt; is_written);
+        assert_eq!(rt; taken.as_slice(), TEXT);
+    }
+    assert!(rt; written(alloc, "there", b"", 0, true).0);
+}
+
+#[test]
+fn cannot_write(rt: HostRuntime) {
+    let alloc = rt.alloc();
+    for calls in 0..7 {
+        for fails in [false, true] {
+            let (is_written, taken) = written(alloc, "there", TEXT, calls, fails);
+            assert!(rt; !is_written);
+            assert_eq!(rt; taken.as_slice(), &TEXT[..calls as usize]);
+        }
+    }
+    assert!(rt; !written(alloc, "elsewhere", TEXT, 7, true).0);
+    let disk = Disk(&rt);
+    assert!(rt; write_file(&disk, "/no/such/file", TEXT).is_none());
+    assert!(rt; write_file(&disk, "/", TEXT).is_none());
 }

@@ -12,7 +12,10 @@ Arguments:
 
 Options:
       --budget <N>     The greatest number of transitions, 100000 where not given
+      --workers <W>    The number of workers that search ahead, 0 where not given
+      --record <FILE>  Writes the schedule of the run to this file
       --replay <FILE>  Replays the schedule in this file, and stands alone
+      --totals         Says the counts and totals of the run
   -h, --help           Print help
 ";
 
@@ -37,13 +40,37 @@ fn owned(alloc: Global, words: &[&str]) -> Result<Vec<String>, AllocError> {
     Ok(all)
 }
 
-/// What is said of the program, the query, the budget and the schedule.
-type Said<'a> = (
-    Option<&'a str>,
-    Option<&'a str>,
-    Option<u64>,
-    Option<&'a str>,
-);
+/// What is said of a run.
+#[derive(Clone, Copy)]
+struct Said<'a> {
+    program: Option<&'a str>,
+    query: Option<&'a str>,
+    budget: Option<u64>,
+    workers: Option<u32>,
+    record: Option<&'a str>,
+    replay: Option<&'a str>,
+    totals: bool,
+}
+
+/// Nothing is said.
+const NOTHING: Said<'static> = Said {
+    program: None,
+    query: None,
+    budget: None,
+    workers: None,
+    record: None,
+    replay: None,
+    totals: false,
+};
+
+/// The program and the query are said.
+fn operands<'a>(program: Option<&'a str>, query: Option<&'a str>) -> Said<'a> {
+    Said {
+        program,
+        query,
+        ..NOTHING
+    }
+}
 
 /// The words ask for this run.
 fn runs(alloc: Global, rt: &impl Abort, words: &[&str], said: Said<'_>) -> Result<(), Fail> {
@@ -52,15 +79,21 @@ fn runs(alloc: Global, rt: &impl Abort, words: &[&str], said: Said<'_>) -> Resul
         program,
         query,
         budget,
+        workers,
+        record,
         replay,
+        totals,
     } = asked(alloc, words.as_slice())?
     else {
         return Err(Fail::from("no run"));
     };
-    assert_eq!(rt; program, said.0);
-    assert_eq!(rt; query, said.1);
-    assert_eq!(rt; budget, said.2);
-    assert_eq!(rt; replay, said.3);
+    assert_eq!(rt; program, said.program);
+    assert_eq!(rt; query, said.query);
+    assert_eq!(rt; budget, said.budget);
+    assert_eq!(rt; workers, said.workers);
+    assert_eq!(rt; record, said.record);
+    assert_eq!(rt; replay, said.replay);
+    assert_eq!(rt; totals, said.totals);
     Ok(())
 }
 
@@ -94,43 +127,143 @@ fn refuses(
 #[test]
 fn programs_and_queries(rt: HostRuntime) -> Result<(), Fail> {
     let alloc = rt.alloc();
-    runs(alloc, &rt, &[], (None, None, None, None))?;
-    runs(alloc, &rt, &["P"], (Some("P"), None, None, None))?;
-    runs(alloc, &rt, &["P", "Q"], (Some("P"), Some("Q"), None, None))?;
-    runs(alloc, &rt, &["", ""], (Some(""), Some(""), None, None))?;
-    runs(alloc, &rt, &["P", "-"], (Some("P"), Some("-"), None, None))?;
+    runs(alloc, &rt, &[], NOTHING)?;
+    runs(alloc, &rt, &["P"], operands(Some("P"), None))?;
+    runs(alloc, &rt, &["P", "Q"], operands(Some("P"), Some("Q")))?;
+    runs(alloc, &rt, &["", ""], operands(Some(""), Some("")))?;
+    runs(alloc, &rt, &["P", "-"], operands(Some("P"), Some("-")))?;
     let behind = ["P", "--", "-q."];
-    runs(alloc, &rt, &behind, (Some("P"), Some("-q."), None, None))?;
-    runs(alloc, &rt, &["help"], (Some("help"), None, None, None))
+    runs(alloc, &rt, &behind, operands(Some("P"), Some("-q.")))?;
+    let flag_behind = ["--", "--totals"];
+    runs(alloc, &rt, &flag_behind, operands(Some("--totals"), None))?;
+    runs(alloc, &rt, &["help"], operands(Some("help"), None))
+}
+
+/// The words ask for a run of this budget.
+fn has_budget(alloc: Global, rt: &impl Abort, words: &[&str], budget: u64) -> Result<(), Fail> {
+    let said = Said {
+        budget: Some(budget),
+        ..NOTHING
+    };
+    runs(alloc, rt, words, said)
 }
 
 #[test]
 fn budgets(rt: HostRuntime) -> Result<(), Fail> {
     let alloc = rt.alloc();
-    runs(alloc, &rt, &["--budget", "5"], (None, None, Some(5), None))?;
-    runs(alloc, &rt, &["--budget=7"], (None, None, Some(7), None))?;
-    runs(alloc, &rt, &["--budget", "+5"], (None, None, Some(5), None))?;
-    runs(
-        alloc,
-        &rt,
-        &["--budget", "007"],
-        (None, None, Some(7), None),
-    )?;
+    has_budget(alloc, &rt, &["--budget", "5"], 5)?;
+    has_budget(alloc, &rt, &["--budget=7"], 7)?;
+    has_budget(alloc, &rt, &["--budget", "+5"], 5)?;
+    has_budget(alloc, &rt, &["--budget", "007"], 7)?;
     let greatest = ["--budget", "18446744073709551615"];
-    runs(alloc, &rt, &greatest, (None, None, Some(u64::MAX), None))?;
+    has_budget(alloc, &rt, &greatest, u64::MAX)?;
     let between = ["P", "--budget", "9", "Q"];
-    runs(alloc, &rt, &between, (Some("P"), Some("Q"), Some(9), None))
+    let said = Said {
+        budget: Some(9),
+        ..operands(Some("P"), Some("Q"))
+    };
+    runs(alloc, &rt, &between, said)
+}
+
+/// The words ask for a run of so many workers.
+fn has_workers(alloc: Global, rt: &impl Abort, words: &[&str], workers: u32) -> Result<(), Fail> {
+    let said = Said {
+        workers: Some(workers),
+        ..NOTHING
+    };
+    runs(alloc, rt, words, said)
+}
+
+#[test]
+fn workers(rt: HostRuntime) -> Result<(), Fail> {
+    let alloc = rt.alloc();
+    has_workers(alloc, &rt, &["--workers", "4"], 4)?;
+    has_workers(alloc, &rt, &["--workers=0"], 0)?;
+    has_workers(alloc, &rt, &["--workers", "+5"], 5)?;
+    has_workers(alloc, &rt, &["--workers", "007"], 7)?;
+    has_workers(alloc, &rt, &["--workers", "4294967295"], u32::MAX)
 }
 
 #[test]
 fn schedules(rt: HostRuntime) -> Result<(), Fail> {
     let alloc = rt.alloc();
-    let all = ["P", "Q", "--replay", "S"];
-    runs(alloc, &rt, &all, (Some("P"), Some("Q"), None, Some("S")))?;
-    runs(alloc, &rt, &["--replay=S"], (None, None, None, Some("S")))?;
-    runs(alloc, &rt, &["--replay="], (None, None, None, Some("")))?;
-    let beside = ["--replay", "S", "--budget", "5", "P"];
-    runs(alloc, &rt, &beside, (Some("P"), None, Some(5), Some("S")))
+    let replays = Said {
+        replay: Some("S"),
+        ..NOTHING
+    };
+    runs(alloc, &rt, &["--replay=S"], replays)?;
+    runs(alloc, &rt, &["--replay", "S"], replays)?;
+    let empty = Said {
+        replay: Some(""),
+        ..NOTHING
+    };
+    runs(alloc, &rt, &["--replay="], empty)?;
+    let records = Said {
+        record: Some("S"),
+        ..NOTHING
+    };
+    runs(alloc, &rt, &["--record=S"], records)?;
+    runs(alloc, &rt, &["--record", "S"], records)?;
+    let both = Said {
+        record: Some("S"),
+        ..replays
+    };
+    runs(alloc, &rt, &["--replay", "S", "--record", "S"], both)
+}
+
+#[test]
+fn totals(rt: HostRuntime) -> Result<(), Fail> {
+    let alloc = rt.alloc();
+    let said = Said {
+        totals: true,
+        ..NOTHING
+    };
+    runs(alloc, &rt, &["--totals"], said)?;
+    let beside = Said {
+        totals: true,
+        ..operands(Some("P"), Some("Q"))
+    };
+    runs(alloc, &rt, &["--totals", "P", "Q"], beside)?;
+    runs(alloc, &rt, &["P", "--totals", "Q"], beside)?;
+    runs(alloc, &rt, &["P", "Q", "--totals"], beside)
+}
+
+#[test]
+fn all_options(rt: HostRuntime) -> Result<(), Fail> {
+    let alloc = rt.alloc();
+    let said = Said {
+        program: Some("P"),
+        query: Some("Q"),
+        budget: Some(5),
+        workers: Some(2),
+        record: Some("R"),
+        replay: Some("S"),
+        totals: true,
+    };
+    let in_order = [
+        "P",
+        "Q",
+        "--budget",
+        "5",
+        "--workers",
+        "2",
+        "--record",
+        "R",
+        "--replay",
+        "S",
+        "--totals",
+    ];
+    runs(alloc, &rt, &in_order, said)?;
+    let mixed = [
+        "--totals",
+        "--replay=S",
+        "P",
+        "--record=R",
+        "--workers=2",
+        "Q",
+        "--budget=5",
+    ];
+    runs(alloc, &rt, &mixed, said)
 }
 
 #[test]
@@ -140,6 +273,7 @@ fn help(rt: HostRuntime) -> Result<(), Fail> {
         helps(alloc, &rt, &[word])?;
         helps(alloc, &rt, &["P", "Q", "--budget", "5", word, "R"])?;
         helps(alloc, &rt, &["--replay", "S", word, "--replay"])?;
+        helps(alloc, &rt, &["--totals", word, "--totals"])?;
     }
     Ok(())
 }
@@ -173,6 +307,51 @@ fn refused_budgets(rt: HostRuntime) -> Result<(), Fail> {
     refuses(alloc, &rt, &["--budget", "--", "5"], missing, MORE)?;
     let twice = "the argument '--budget <N>' cannot be used multiple times";
     refuses(alloc, &rt, &["--budget=5", "--budget", "6"], twice, USAGE)
+}
+
+#[test]
+fn refused_workers(rt: HostRuntime) -> Result<(), Fail> {
+    let alloc = rt.alloc();
+    let invalid_digit = "invalid value 'x' for '--workers <W>': invalid digit found in string";
+    refuses(alloc, &rt, &["--workers", "x"], invalid_digit, MORE)?;
+    let negative = "invalid value '-0' for '--workers <W>': invalid digit found in string";
+    refuses(alloc, &rt, &["--workers=-0"], negative, MORE)?;
+    let large =
+        "invalid value '4294967296' for '--workers <W>': 4294967296 is not in 0..=4294967295";
+    refuses(alloc, &rt, &["--workers", "4294967296"], large, MORE)?;
+    let missing = "a value is required for '--workers <W>' but none was supplied";
+    refuses(alloc, &rt, &["--workers"], missing, MORE)?;
+    refuses(alloc, &rt, &["--workers", "--totals"], missing, MORE)?;
+    let twice = "the argument '--workers <W>' cannot be used multiple times";
+    refuses(alloc, &rt, &["--workers=5", "--workers", "6"], twice, USAGE)
+}
+
+#[test]
+fn refused_records(rt: HostRuntime) -> Result<(), Fail> {
+    let alloc = rt.alloc();
+    let missing = "a value is required for '--record <FILE>' but none was supplied";
+    refuses(alloc, &rt, &["--record"], missing, MORE)?;
+    refuses(alloc, &rt, &["--record", "--replay", "S"], missing, MORE)?;
+    let twice = "the argument '--record <FILE>' cannot be used multiple times";
+    refuses(alloc, &rt, &["--record=S", "--record", "T"], twice, USAGE)
+}
+
+#[test]
+fn refused_totals(rt: HostRuntime) -> Result<(), Fail> {
+    let alloc = rt.alloc();
+    let twice = "the argument '--totals' cannot be used multiple times";
+    refuses(alloc, &rt, &["--totals", "--totals"], twice, USAGE)?;
+    refuses(
+        alloc,
+        &rt,
+        &["--totals", "P", "--totals", "--help"],
+        twice,
+        USAGE,
+    )?;
+    let valued = "unexpected value 'x' for '--totals' found; no more were expected
+
+Usage: chr --totals [PROGRAM] [QUERY]";
+    refuses(alloc, &rt, &["--totals=x"], valued, MORE)
 }
 
 #[test]

@@ -1,13 +1,16 @@
-use Rattle.std.proofs.Common.{◌≤◌, ◌-◌}
-use Rattle.chr_machine.specs.MachineView.{Further, machine_view}
+use Rattle.std.proofs.Common.{◌≡◌, ◌≤◌, ◌-◌}
+use Rattle.chr_policy.specs.CoordinatorView.{IsAtRest, machine_by}
 use Rattle.chr_run.specs.Sending.{AreOut}
+use Rattle.chr_run.specs.Turns.{IsOfRun}
 use Rattle.chr_run.proofs.sending.perform.Given as goal
 
 abbrev pub invariant-loop-made : goal.invariant-loop-made
 invariant-loop-made g l = record {
   within : l.made ≤ l.n;
-  further : Further l.made (machine_view l.initial.machine) (machine_view l.machine);
-  out : AreOut (g.W.Write.contents l.initial.writer) (g.W.Write.contents l.writer) (machine_view l.machine).lines l.sent;
+  steps : (machine_by l.coordinator).steps ≡ l.made;
+  same : IsOfRun l.initial.coordinator l.coordinator;
+  rests : IsAtRest l.coordinator;
+  out : AreOut (g.W.Write.contents l.initial.writer) (g.W.Write.contents l.writer) (machine_by l.coordinator).lines l.sent;
 }
 
 abbrev pub decreases-loop-made : goal.decreases-loop-made

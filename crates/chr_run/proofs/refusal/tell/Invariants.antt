@@ -2,7 +2,7 @@
 use Rattle.std.proofs.Common.{drop, map}
 use Rattle.std.specs.List.{concat}
 use Rattle.chr_run.specs.Output.{IsOut}
-use Rattle.chr_run.proofs.refusal.say.Given as goal
+use Rattle.chr_run.proofs.refusal.tell.Given as goal
 
 abbrev pub invariant-loop-piece : goal.invariant-loop-piece
 invariant-loop-piece g l =

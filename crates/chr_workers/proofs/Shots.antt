@@ -1,0 +1,233 @@
+-- Which types threads may share: rows, maps, key lists, tables, snapshots, shelves.
+use denote.RattleType.{RattleType}
+use denote.Param.Send.{IsSend, IsSync, Frees, sendable, recorded_sync, recorded_send, enum_sync, enum_send, struct_sync, struct_send}
+use denote.Enum.Declared as enum
+use denote.Struct.Declared as struct
+use Rattle.std.specs.declared.alloc.Allocator.{Ghosts}
+use Rattle.std.proofs.CrossingOver.{crosses}
+use Rattle.std.specs.contracts.vec.Vec as Vec
+use Rattle.chr_term.specs.contracts.term.Term as Term
+use Rattle.chr_store.specs.contracts.row.Row as Row
+use Rattle.chr_map.specs.contracts.pointer.Pointer as Pointer
+use Rattle.chr_map.proofs.pointer.Pointer.TheSendSync as pointer_laws
+use Rattle.chr_map.proofs.node.Node.TheLaws.TheKnot as node_laws
+use Rattle.chr_term.proofs.term.Term.TheLaws.TheKnot.{send-Term}
+use Rattle.chr_term.proofs.term.Sym.TheSendSync as sym_laws
+use Rattle.chr_store.proofs.id.Id.TheSendSync as id_laws
+use Rattle.std.specs.contracts.sync.Arc as Arc
+use Rattle.std.specs.contracts.option.Option as Option
+use Rattle.chr_map.specs.contracts.map.Map as Map
+use Rattle.std.specs.declared.cmp.Ord as ord
+use Rattle.std.specs.declared.cmp.PartialEq as eq
+use Rattle.std.specs.declared.cmp.PartialOrd as partial
+use Rattle.chr_find.specs.contracts.fired.Fired as Fired
+use Rattle.chr_find.specs.contracts.firings.Firing as Firing
+use Rattle.chr_find.specs.contracts.firings.Entry as Entry
+use Rattle.chr_find.specs.contracts.list.Place as Place
+use Rattle.chr_find.specs.contracts.note.Note as Note
+use Rattle.chr_find.proofs.firings.Firing.TheSendSync as firing_laws
+use Rattle.chr_find.proofs.firings.Entry.TheSendSync as entry_laws
+use Rattle.chr_find.proofs.list.Place.TheSendSync as place_laws
+use Rattle.chr_keys.specs.contracts.key_lists.KeyLists as KeyLists
+use Rattle.chr_keys.specs.contracts.noted_keys.NotedKeys as NotedKeys
+use Rattle.chr_keys.specs.contracts.id_list.IdList as IdList
+use Rattle.chr_keys.specs.contracts.place.Place as KeyPlace
+use Rattle.chr_keys.specs.contracts.note.Note as KeyNote
+use Rattle.chr_keys.proofs.id_list.IdList.TheSendSync as id_list_laws
+use Rattle.chr_keys.proofs.place.Place.TheSendSync as key_place_laws
+use Rattle.chr_keys.proofs.note.Note.TheSendSync as key_note_laws
+use Rattle.chr_find.specs.contracts.keyed.Keyed as Keyed
+use Rattle.chr_find.specs.contracts.noted.Noted as Noted
+use Rattle.chr_find.specs.contracts.table.Table as Table
+use Rattle.chr_find.specs.contracts.snapshot.Task as Task
+use Rattle.chr_find.specs.contracts.snapshot.Snapshot as Snapshot
+use Rattle.chr_find.proofs.snapshot.Task.TheSendSync as task_laws
+use Rattle.boxcar.proofs.vec.Vec.TheSendSync as boxcar_laws
+use Rattle.chr_shelf.specs.contracts.shelf.Shelf as Shelf
+use Rattle.chr_map.specs.contracts.node.Node as Node
+use Rattle.chr_find.specs.contracts.plan.Plan as Plan
+use Rattle.chr_find.proofs.plan.Plan.TheSendSync as plan_laws
+use Rattle.chr_find.specs.contracts.lists.Change as Change
+use Rattle.chr_workers.proofs.Crosses.{term, term_row, vec_of}
+
+module _ (A : RattleType) (g : Ghosts A.Denot) (s : IsSend A) (y : IsSync A) (f : Frees g g.dealloc_token) where
+  vec_send : (R : RattleType) → IsSend R → IsSend (Vec.the_field R A g).row
+  vec_send R r = search (crosses, sendable) depth 20
+
+  pub term_send : IsSend (Term.the_field A g).row
+  term_send = send-Term A g (search sendable) (search sendable) (search sendable depth 20) (λ h sh. search (crosses, sendable) depth 20)
+
+  pub term_row_send : IsSend (Term.the_row A g)
+  term_row_send = recorded_send _ _ _ (Term.the_type A g).to_one term_send
+
+  pub row : IsSync (Row.the_field A g).row
+  row = let args = vec_of A g y (Term.the_row A g) (term_row A g y) in struct_sync (struct.shape (Row.the_type A g)) (search (args, sym_laws.the_field_sync, sendable) depth 20)
+
+  pub row_row : IsSync (Row.the_row A g)
+  row_row = recorded_sync _ _ _ (Row.the_type A g).to_one row
+
+  pub row_send : IsSend (Row.the_field A g).row
+  row_send = let args = vec_send (Term.the_row A g) term_row_send in struct_send (struct.shape (Row.the_type A g)) (search (args, sym_laws.the_field_send, sendable) depth 20)
+
+  pub row_row_send : IsSend (Row.the_row A g)
+  row_row_send = recorded_send _ _ _ (Row.the_type A g).to_one row_send
+
+  -- a pointer to a row
+  pub shared_row : IsSync (Pointer.the_row (Row.the_row A g) A g)
+  shared_row = pointer_laws.the_sync (Row.the_row A g) A g row_row_send s row_row y f
+
+  pub shared_row_send : IsSend (Pointer.the_row (Row.the_row A g) A g)
+  shared_row_send = pointer_laws.the_send (Row.the_row A g) A g row_row_send s row_row y f
+
+  pub plan : IsSync (Plan.the_row A g)
+  plan = plan_laws.the_sync A g y
+
+  pub change : IsSync (Change.the_field A g).row
+  change = let r : IsSync (Pointer.the_field (Row.the_row A g) A g).row = shared_row in struct_sync (struct.shape (Change.the_type A g)) (search (r, id_laws.the_field_sync, sendable) depth 20)
+
+  -- trees of keys and values
+  module _ (K V : RattleType) (ks : IsSend K) (ky : IsSync K) (vs : IsSend V) (vy : IsSync V) where
+    pub node : IsSync (Node.the_field K V A g).row
+    node = node_laws.both_sync-Node K V A g (λ h hs hy. search (crosses, sendable) depth 20) (λ h hs hy. search (crosses, sendable) depth 20) (search sendable) (search sendable) (search sendable) (search sendable) (search sendable) (search sendable)
+
+    pub node_send : IsSend (Node.the_field K V A g).row
+    node_send = node_laws.both_send-Node K V A g (λ h hs hy. search (crosses, sendable) depth 20) (λ h hs hy. search (crosses, sendable) depth 20) (search sendable) (search sendable) (search sendable) (search sendable) (search sendable) (search sendable)
+
+    pub node_row : IsSync (Node.the_row K V A g)
+    node_row = recorded_sync _ _ _ (Node.the_type K V A g).to_one node
+
+    pub node_row_send : IsSend (Node.the_row K V A g)
+    node_row_send = recorded_send _ _ _ (Node.the_type K V A g).to_one node_send
+
+    pub arc : IsSync (Arc.the_row (Node.the_row K V A g) A g)
+    arc = let a = node_row in let b = node_row_send in search (crosses, sendable) depth 20
+
+    pub link : IsSync (Option.the_field (Arc.the_row (Node.the_row K V A g) A g)).row
+    link = let a : IsSync (Arc.the_field (Node.the_row K V A g) A g).row = arc in let b = arc in search (sendable) depth 20
+
+    -- a map from the keys to the values, whatever the order of the keys
+    module _ (o : ord.Ghosts K.Denot) (e : eq.Ghosts K.Denot) (l : partial.Ghosts K.Denot) where
+      pub map : IsSync (Map.the_row K V A o e l g)
+      map = let root = link in let below = arc in search (sendable) depth 20
+
+      pub map_field : IsSync (Map.the_field K V A o e l g).row
+      map_field = map
+
+  pub fired : IsSync (Fired.the_field A g).row
+  fired =
+      let all = map_field Firing.the_row denote.Builtin.unit firing_laws.the_send firing_laws.the_sync (search sendable) (search sendable) in
+      let by_id = map_field Entry.the_row denote.Builtin.unit entry_laws.the_send entry_laws.the_sync (search sendable) (search sendable) in
+      struct_sync (struct.shape (Fired.the_type A g)) (search (all, by_id, sendable) depth 20)
+
+  pub note : IsSync (Note.the_field A g).row
+  note = let c = change in enum_sync (enum.shape (Note.the_type A g)) (search (c, firing_laws.the_field_sync, sendable) depth 20)
+
+  pub rows : (o : ord.Ghosts Place.the_row.Denot) (e : eq.Ghosts Place.the_row.Denot) (l : partial.Ghosts Place.the_row.Denot) → IsSync (Map.the_field Place.the_row (Pointer.the_row (Row.the_row A g) A g) A o e l g).row
+  rows o e l = map_field Place.the_row (Pointer.the_row (Row.the_row A g) A g) place_laws.the_send place_laws.the_sync shared_row_send shared_row o e l
+
+  pub key_lists : IsSync (KeyLists.the_field A g).row
+  key_lists =
+      let lists = map_field KeyPlace.the_row (IdList.the_row A g) key_place_laws.the_send key_place_laws.the_sync (id_list_laws.the_send A g s y f) (id_list_laws.the_sync A g s y f) in
+      struct_sync (struct.shape (KeyLists.the_type A g)) (search (lists, sendable) depth 20)
+
+  pub noted_keys : IsSync (NotedKeys.the_field A g).row
+  noted_keys =
+      let keys = key_lists in
+      let notes = vec_of A g y KeyNote.the_row key_note_laws.the_sync in
+      struct_sync (struct.shape (NotedKeys.the_type A g)) (search (keys, notes, sendable) depth 20)
+
+  pub noted_keys_row : IsSync (NotedKeys.the_row A g)
+  noted_keys_row = recorded_sync _ _ _ (NotedKeys.the_type A g).to_one noted_keys
+
+  pub keyed : IsSync (Keyed.the_field A g).row
+  keyed = let keys : IsSync (Option.the_field (NotedKeys.the_row A g)).row = (let k = noted_keys_row in search (sendable) depth 20) in struct_sync (struct.shape (Keyed.the_type A g)) (search (keys, sendable) depth 20)
+
+  pub noted : IsSync (Noted.the_field A g).row
+  noted =
+      let shared_plan : IsSync (Pointer.the_field (Plan.the_row A g) A g).row = pointer_laws.the_sync (Plan.the_row A g) A g (plan_laws.the_send A g s f) s plan y f in
+      let firings = fired in
+      let notes = vec_of A g y (Note.the_row A g) (recorded_sync _ _ _ (Note.the_type A g).to_one note) in
+      struct_sync (struct.shape (Noted.the_type A g)) (search (shared_plan, rows, firings, notes, sendable) depth 20)
+
+  pub table : IsSync (Table.the_field A g).row
+  table = let n = noted in let k = keyed in struct_sync (struct.shape (Table.the_type A g)) (search (n, k, sendable) depth 20)
+
+  pub snapshot : IsSync (Snapshot.the_field A g).row
+  snapshot =
+      let t = table in
+      let tasks = vec_of A g y Task.the_row task_laws.the_sync in
+      let guest : IsSync (Option.the_field (Pointer.the_row (Row.the_row A g) A g)).row = (let r = shared_row in search (sendable) depth 20) in
+      struct_sync (struct.shape (Snapshot.the_type A g)) (search (t, tasks, guest, id_laws.the_field_sync, sendable) depth 20)
+
+  pub snapshot_row : IsSync (Snapshot.the_row A g)
+  snapshot_row = recorded_sync _ _ _ (Snapshot.the_type A g).to_one snapshot
+
+  -- the same of what moves to a thread
+  module _ (K V : RattleType) (ks : IsSend K) (ky : IsSync K) (vs : IsSend V) (vy : IsSync V) where
+    pub arc_send : IsSend (Arc.the_row (Node.the_row K V A g) A g)
+    arc_send = let a = node_row K V ks ky vs vy in let b = node_row_send K V ks ky vs vy in search (crosses, sendable) depth 20
+
+    pub link_send : IsSend (Option.the_field (Arc.the_row (Node.the_row K V A g) A g)).row
+    link_send = let a : IsSend (Arc.the_field (Node.the_row K V A g) A g).row = arc_send in let b = arc_send in search (sendable) depth 20
+
+    module _ (o : ord.Ghosts K.Denot) (e : eq.Ghosts K.Denot) (l : partial.Ghosts K.Denot) where
+      pub map_send : IsSend (Map.the_row K V A o e l g)
+      map_send = let root = link_send in let below = arc_send in search (sendable) depth 20
+
+      pub map_field_send : IsSend (Map.the_field K V A o e l g).row
+      map_field_send = map_send
+
+  pub change_send : IsSend (Change.the_field A g).row
+  change_send = let r : IsSend (Pointer.the_field (Row.the_row A g) A g).row = shared_row_send in struct_send (struct.shape (Change.the_type A g)) (search (r, id_laws.the_field_send, sendable) depth 20)
+
+  pub fired_send : IsSend (Fired.the_field A g).row
+  fired_send =
+      let all = map_field_send Firing.the_row denote.Builtin.unit firing_laws.the_send firing_laws.the_sync (search sendable) (search sendable) in
+      let by_id = map_field_send Entry.the_row denote.Builtin.unit entry_laws.the_send entry_laws.the_sync (search sendable) (search sendable) in
+      struct_send (struct.shape (Fired.the_type A g)) (search (all, by_id, sendable) depth 20)
+
+  pub note_send : IsSend (Note.the_field A g).row
+  note_send = let c = change_send in enum_send (enum.shape (Note.the_type A g)) (search (c, firing_laws.the_field_send, sendable) depth 20)
+
+  pub rows_send : (o : ord.Ghosts Place.the_row.Denot) (e : eq.Ghosts Place.the_row.Denot) (l : partial.Ghosts Place.the_row.Denot) → IsSend (Map.the_field Place.the_row (Pointer.the_row (Row.the_row A g) A g) A o e l g).row
+  rows_send o e l = map_field_send Place.the_row (Pointer.the_row (Row.the_row A g) A g) place_laws.the_send place_laws.the_sync shared_row_send shared_row o e l
+
+  pub key_lists_send : IsSend (KeyLists.the_field A g).row
+  key_lists_send =
+      let lists = map_field_send KeyPlace.the_row (IdList.the_row A g) key_place_laws.the_send key_place_laws.the_sync (id_list_laws.the_send A g s y f) (id_list_laws.the_sync A g s y f) in
+      struct_send (struct.shape (KeyLists.the_type A g)) (search (lists, sendable) depth 20)
+
+  pub noted_keys_send : IsSend (NotedKeys.the_field A g).row
+  noted_keys_send =
+      let keys = key_lists_send in
+      let notes = vec_send KeyNote.the_row key_note_laws.the_send in
+      struct_send (struct.shape (NotedKeys.the_type A g)) (search (keys, notes, sendable) depth 20)
+
+  pub noted_keys_row_send : IsSend (NotedKeys.the_row A g)
+  noted_keys_row_send = recorded_send _ _ _ (NotedKeys.the_type A g).to_one noted_keys_send
+
+  pub keyed_send : IsSend (Keyed.the_field A g).row
+  keyed_send = let keys : IsSend (Option.the_field (NotedKeys.the_row A g)).row = (let k = noted_keys_row_send in search (sendable) depth 20) in struct_send (struct.shape (Keyed.the_type A g)) (search (keys, sendable) depth 20)
+
+  pub noted_send : IsSend (Noted.the_field A g).row
+  noted_send =
+      let shared_plan : IsSend (Pointer.the_field (Plan.the_row A g) A g).row = pointer_laws.the_send (Plan.the_row A g) A g (plan_laws.the_send A g s f) s plan y f in
+      let firings = fired_send in
+      let notes = vec_send (Note.the_row A g) (recorded_send _ _ _ (Note.the_type A g).to_one note_send) in
+      struct_send (struct.shape (Noted.the_type A g)) (search (shared_plan, rows_send, firings, notes, sendable) depth 20)
+
+  pub table_send : IsSend (Table.the_field A g).row
+  table_send = let n = noted_send in let k = keyed_send in struct_send (struct.shape (Table.the_type A g)) (search (n, k, sendable) depth 20)
+
+  pub snapshot_send : IsSend (Snapshot.the_field A g).row
+  snapshot_send =
+      let t = table_send in
+      let tasks = vec_send Task.the_row task_laws.the_send in
+      let guest : IsSend (Option.the_field (Pointer.the_row (Row.the_row A g) A g)).row = (let r = shared_row_send in search (sendable) depth 20) in
+      struct_send (struct.shape (Snapshot.the_type A g)) (search (t, tasks, guest, id_laws.the_field_send, sendable) depth 20)
+
+  pub snapshot_row_send : IsSend (Snapshot.the_row A g)
+  snapshot_row_send = recorded_send _ _ _ (Snapshot.the_type A g).to_one snapshot_send
+
+  pub shelf : IsSync (Shelf.the_row A g)
+  shelf = let a = snapshot_row in let b = snapshot_row_send in search (boxcar_laws.the_sync, sendable) depth 20

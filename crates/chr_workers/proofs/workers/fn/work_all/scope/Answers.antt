@@ -1,0 +1,24 @@
+use denote.Exit.{no}
+use denote.Param.{param, copied}
+use denote.Param.Send.{IsSend, IsSync, Frees, sendable, param_send, arg_send, shr_send}
+use Rattle.chr_board.specs.contracts.board.Board as Board
+use Rattle.chr_rules.specs.contracts.program.Program as Program
+use Rattle.chr_shelf.specs.contracts.shelf.Shelf as Shelf
+use Rattle.chr_board.proofs.board.Board.TheSendSync as board_laws
+use Rattle.chr_workers.proofs.Crosses.{five_send, program_row}
+use Rattle.chr_workers.proofs.Shots.{shelf}
+use Rattle.chr_workers.proofs.workers.fn.work_all.scope.Goals as goal
+
+pub spawn-started-requires-send-F : goal.spawn-started-requires-send-F
+spawn-started-requires-send-F g c κs within =
+    let gate : IsSync (param 2 g.row.G) = search sendable in
+    let rt : IsSync (param 3 g.row.R) = search sendable in
+    let send_alloc : IsSend (copied 1 g.row.A) = search sendable in
+    let alloc : IsSync (copied 1 g.row.A) = search sendable in
+    let send_run : IsSend (param 0 g.row.J) = search sendable in
+    let run : IsSync (param 0 g.row.J) = search sendable in
+    let frees : Frees g.A.Allocator g.A.Allocator.dealloc_token = search sendable in
+    let program : IsSync (Program.the_row (copied 1 g.row.A) g.A.Allocator) = program_row (copied 1 g.row.A) g.A.Allocator alloc in
+    let shelf_row : IsSync (Shelf.the_row (copied 1 g.row.A) g.A.Allocator) = shelf (copied 1 g.row.A) g.A.Allocator send_alloc alloc frees in
+    let board : IsSync (Board.the_row (param 0 g.row.J) (copied 1 g.row.A) g.J.Run g.A.Allocator) = search (board_laws.the_sync, sendable) depth 20 in
+    param_send 1 _ (arg_send _ no _ (five_send _ _ _ _ _ _ (shr_send _ _ _ rt) (shr_send _ _ _ program) (shr_send _ _ _ shelf_row) (shr_send _ _ _ board) (shr_send _ _ _ gate)))

@@ -1,0 +1,180 @@
+//! Texts of runs with workers, as they go out to a writer.
+use super::*;
+use chr_machine::Status;
+use std::io::{Error, ErrorKind, Write};
+use std::sync::atomic::{AtomicU64, Ordering};
+
+/// More writes than a run of these tests makes.
+const MOST: u64 = 10_000;
+
+/// Keeps what is written. It takes at most `step` bytes at a call, and fails once `calls` of them were made.
+#[derive(Drop)]
+struct Sink {
+    text: Vec<u8>,
+    step: usize,
+    calls: u64,
+}
+
+impl Sink {
+    fn new(alloc: Global, step: usize, calls: u64) -> Sink {
+        Sink {
+            text: Vec::new(alloc),
+            step,
+            calls,
+        }
+    }
+}
+
+impl Write for Sink {
+    fn write(&mut self, buf: &[u8]) -> std::io::Result<usize> {
+        if self.calls == 0 {
+            return Err(Error::from(ErrorKind::Other));
+        }
+        self.calls -= 1;
+        let count = buf.len().min(self.step);
+        self.text.extend_from_slice(&buf[..count])?;
+        Ok(count)
+    }
+
+    fn flush(&mut self) -> std::io::Result<()> {
+        Ok(())
+    }
+}
+
+/// Counts the lines that are written.
+#[derive(Drop)]
+struct Counting<'c> {
+    lines: &'c AtomicU64,
+}
+
+impl Write for Counting<'_> {
+    fn write(&mut self, buf: &[u8]) -> std::io::Result<usize> {
+        let lines = buf.iter().filter(|byte| **byte == b'\n').count();
+        self.lines.fetch_add(lines as u64, Ordering::SeqCst);
+        Ok(buf.len())
+    }
+
+    fn flush(&mut self) -> std::io::Result<()> {
+        Ok(())
+    }
+}
+
+/// The own points of `speculation`, and how many lines are written at each.
+const OWNS: [(u64, u64); 6] = [(2, 1), (5, 4), (7, 6), (10, 9), (12, 11), (13, 12)];
+
+/// Compares the lines that are written at each own point with those that should be.
+#[derive(Drop)]
+struct Comparing<'c> {
+    lines: &'c AtomicU64,
+    owns: AtomicU64,
+    alike: AtomicU64,
+}
+
+impl Gate for Comparing<'_> {
+    fn at(&self, point: Point) {
+        if let Point::Own(number) = point {
+            let place = self.owns.fetch_add(1, Ordering::SeqCst);
+            let found = (number, self.lines.load(Ordering::SeqCst));
+            if OWNS.get(place as usize) == Some(&found) {
+                self.alike.fetch_add(1, Ordering::SeqCst);
+            }
+        }
+    }
+}
+
+/// `run_into` of an example to its end, with no clause.
+fn sent_into<A: Allocator + Copy + Send + Sync, G: Gate, R: Threads + Wait + Sync, W: Write>(
+    rt: &R,
+    alloc: A,
+    example: Example,
+    workers: u32,
+    gate: &G,
+    writer: &mut W,
+) -> Result<Result<Run<A>, TextError>, Fail> {
+    let (program, query) = both_of(alloc, example)?;
+    Ok(run_into(rt, alloc, &program, query, AMPLE, workers, gate, writer))
+}
+
+/// Each line goes out before the next transition.
+#[test]
+fn lines_go_out_as_made(rt: HostRuntime) -> Result<(), Fail> {
+    let lines = AtomicU64::new(0);
+    let gate = Comparing {
+        lines: &lines,
+        owns: AtomicU64::new(0),
+        alike: AtomicU64::new(0),
+    };
+    let mut writer = Counting { lines: &lines };
+    let sent = sent_into(&rt, rt.alloc(), SPECULATION, 0, &gate, &mut writer)?;
+    assert!(rt; sent.is_ok());
+    assert_eq!(rt; gate.owns.load(Ordering::SeqCst), OWNS.len() as u64);
+    assert_eq!(rt; gate.alike.load(Ordering::SeqCst), OWNS.len() as u64);
+    Ok(())
+}
+
+/// `run_text` of an example to its end: how it ended, or why it was refused.
+fn sent<R: Threads + Wait + Sync>(
+    rt: &R,
+    alloc: Global,
+    example: Example,
+    workers: u32,
+    sink: &mut Sink,
+) -> Result<Status, TextError> {
+    let (program, query) = (example.program.as_bytes(), example.query.as_bytes());
+    let run = run_text(rt, alloc, program, query, AMPLE, workers, sink)?;
+    Ok(run.outcome.status)
+}
+
+/// Whether the whole text goes out with so many writes, each of at most so many bytes. Where it does not, a first part of it is out.
+fn goes_out<R: Threads + Wait + Abort + Sync>(
+    rt: &R,
+    alloc: Global,
+    example: Example,
+    workers: u32,
+    (step, calls): (usize, u64),
+) -> bool {
+    let mut sink = Sink::new(alloc, step, calls);
+    let sent = sent(rt, alloc, example, workers, &mut sink);
+    let (text, whole) = (sink.text.as_slice(), example.text.as_bytes());
+    match sent {
+        Ok(status) => {
+            assert_eq!(rt; status, Status::Done, "{calls}");
+            assert_eq!(rt; text, whole, "{calls}");
+            true
+        }
+        Err(error) => {
+            assert_eq!(rt; error, TextError::Write, "{calls}");
+            assert!(rt; whole.starts_with(text), "{calls}");
+            false
+        }
+    }
+}
+
+/// How many writes of at most so many bytes the text takes: each of them is refused in turn.
+fn writes_of<R: Threads + Wait + Abort + Sync>(
+    rt: &R,
+    alloc: Global,
+    example: Example,
+    workers: u32,
+    step: usize,
+) -> u64 {
+    for calls in 0..MOST {
+        if goes_out(rt, alloc, example, workers, (step, calls)) {
+            return calls;
+        }
+    }
+    MOST
+}
+
+/// A writer that takes all it is given, until a write fails; and one that takes a byte at a call, which gets the whole text too.
+#[test]
+fn failing_writes(rt: HostRuntime) {
+    for example in [GCD, GROUND_RULE] {
+        for workers in [0, 2] {
+            let writes = writes_of(&rt, rt.alloc(), example, workers, usize::MAX);
+            assert!(rt; writes > 0 && writes < MOST, "{writes} {}", example.query);
+            let writes = writes_of(&rt, rt.alloc(), example, workers, 1);
+            assert_eq!(rt; writes, example.text.len() as u64, "{}", example.query);
+        }
+    }
+}
