@@ -1,6 +1,6 @@
 //! The threads.
 ghost use Rattle.std.specs.Prelude.{◌≡◌};
-ghost use Rattle.std.specs.Thread.{IsSync};
+ghost use Rattle.std.specs.Thread.{IsSend, IsSync};
 ghost use denote.Param.Send.{Frees};
 ghost use Rattle.chr_rules.specs.ProgramView.{rules_of};
 
@@ -19,6 +19,9 @@ const NO_TALLY: Tally = Tally {
     given_up: 0,
 };
 
+/// The bytes of stack of a worker: a search goes down terms, and a term may be nested as deep as its text is long.
+const STACK: usize = 0x4000_0000;
+
 /// Of the workers of both, as far as the numbers reach.
 fn sum(one: Tally, other: Tally) -> Tally {
     Tally {
@@ -28,7 +31,7 @@ fn sum(one: Tally, other: Tally) -> Tally {
     }
 }
 
-/// Has so many workers answer tasks, one of them in this thread, until the board is closed. A worker that cannot start is left out.
+/// Has so many workers answer tasks, until the board is closed. A worker that cannot start is left out.
 fn work_all<
     'x,
     J: Name + Send + Sync,
@@ -51,25 +54,28 @@ fn work_all<
         thread::scope_env(),
         rt,
         move |scope| -> Tally
-            requires { IsSync R.row × Frees A.Allocator A.dealloc_token × (shelf.now ≡ J.shelf) × (rules_of program.now ≡ J.rules) }
+            requires { IsSend J.row × IsSync J.row × IsSend A.row × IsSync A.row × IsSync G.row × IsSync R.row
+                × Frees A.Allocator A.dealloc_token × (shelf.now ≡ J.shelf) × (rules_of program.now ≡ J.rules) }
         {
-            let mut others = match Vec::with_capacity(alloc, workers as usize) {
-                Ok(others) => others,
-                Err(_) => return work(rt, program, shelf, board, gate),
+            let mut started = match Vec::with_capacity(alloc, workers as usize) {
+                Ok(started) => started,
+                Err(_) => return NO_TALLY,
             };
-            for _ in 1..workers {
-                let started = scope.spawn(
+            for _ in 0..workers {
+                let large = thread::Builder::new().stack_size(STACK);
+                let worker = large.spawn_scoped(
+                    scope,
                     move || -> Tally
                         requires { (shelf.now ≡ J.shelf) × (rules_of program.now ≡ J.rules) }
                     { work(rt, program, shelf, board, gate) },
                 );
-                if let Ok(handle) = started {
-                    others.push_reserved(handle);
+                if let Ok(handle) = worker {
+                    started.push_reserved(handle);
                 }
             }
-            let mut tally = work(rt, program, shelf, board, gate);
-            for other in others {
-                tally = sum(tally, other.join(rt));
+            let mut tally = NO_TALLY;
+            for handle in started {
+                tally = sum(tally, handle.join(rt));
             }
             tally
         },

@@ -9,8 +9,8 @@ use Rattle.chr_workers.proofs.Crosses.{five_send, program_row}
 use Rattle.chr_workers.proofs.Shots.{shelf}
 use Rattle.chr_workers.proofs.workers.fn.work_all.scope.Goals as goal
 
-pub spawn-started-requires-send-F : goal.spawn-started-requires-send-F
-spawn-started-requires-send-F g c κs within =
+pub spawn_scoped-worker-requires-send-F : goal.spawn_scoped-worker-requires-send-F
+spawn_scoped-worker-requires-send-F g c κs within =
     let gate : IsSync (param 2 g.row.G) = search sendable in
     let rt : IsSync (param 3 g.row.R) = search sendable in
     let send_alloc : IsSend (copied 1 g.row.A) = search sendable in
