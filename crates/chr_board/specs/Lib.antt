@@ -1,3 +1,4 @@
+pub mod Begun
 pub mod DeskView
 pub mod Errors
 pub mod IsDesk

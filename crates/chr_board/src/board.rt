@@ -5,17 +5,21 @@ ghost use Rattle.std.specs.Prelude.{◌≡◌};
 use crate::Memory;
 use crate::desk::Desk;
 use crate::error::BoardError;
+use crate::searches::Searches;
 use crate::slip::Slip;
 use crate::totals::Totals;
+use chr_find::Task;
 use chr_shelf::{Answer, Run};
 use std::alloc::{Allocator, Global};
 use std::sync::{Condvar, Mutex, Wait};
 
-/// A desk behind a lock, with a signal for those who wait for a task. Nobody holds the lock while searching.
+/// A desk behind a lock, with a signal for those who wait for a task, and the searches that have begun behind another. Nobody holds a lock
+/// while searching.
 #[derive(Drop)]
 pub struct Board<J: Run, A: Allocator = Global> {
     desk: Mutex<Desk<J, A>>,
     changed: Condvar,
+    searches: Mutex<Searches<A>>,
 }
 
 impl<J: Run, A: Allocator + Copy> Board<J, A> {
@@ -24,6 +28,7 @@ impl<J: Run, A: Allocator + Copy> Board<J, A> {
         Board {
             desk: Mutex::new(Desk::new(alloc)),
             changed: Condvar::new(),
+            searches: Mutex::new(Searches::new(alloc)),
         }
     }
 
@@ -60,9 +65,24 @@ impl<J: Run, A: Allocator + Copy> Board<J, A> {
         self.desk.lock(rt).give_up(slip);
     }
 
-    /// `Desk::drain`.
+    /// `Desk::drain`. The tasks of the answers may be searched again.
     pub fn drain(&self, rt: &impl Wait, into: &mut Vec<Answer<J, A>, A>) -> Result<usize, Memory> {
-        self.desk.lock(rt).drain(into)
+        let before = into.len();
+        let count = self.desk.lock(rt).drain(into)?;
+        for answer in into.iter().skip(before) {
+            self.end(rt, answer.task());
+        }
+        Ok(count)
+    }
+
+    /// Whether the search for a task may begin: nobody has begun it whose answer was not drained yet.
+    pub(crate) fn begin(&self, rt: &impl Wait, task: Task) -> bool {
+        self.searches.lock(rt).begin(task)
+    }
+
+    /// Ends a search that was begun.
+    pub(crate) fn end(&self, rt: &impl Wait, task: Task) {
+        self.searches.lock(rt).end(task);
     }
 
     /// `Desk::close`, which wakes those who wait for a task.

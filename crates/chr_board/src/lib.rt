@@ -5,6 +5,7 @@ mod board;
 mod desk;
 mod error;
 mod row;
+mod searches;
 mod slip;
 mod totals;
 mod worker;

@@ -1,11 +1,13 @@
 //! What a worker does.
-ghost use Rattle.std.specs.Prelude.{◌≡◌, ◌+◌};
+ghost use Rattle.std.specs.Prelude.{◌≡◌, ◌+◌, IfSome};
 ghost use Rattle.chr_rules.specs.ProgramView.{rules_of};
+ghost use Rattle.chr_shelf.specs.Seat.{place_of};
 
 use crate::board::Board;
 use crate::slip::Slip;
+use chr_find::Task;
 use chr_rules::Program;
-use chr_shelf::{Run, Shelf, solve};
+use chr_shelf::{Run, Shelf, Ticket, solve};
 use std::alloc::Allocator;
 use std::sync::Wait;
 
@@ -42,6 +44,29 @@ fn is_newest<J: Run, A: Allocator + Copy>(
     board.newest(rt) == Some(slip.place())
 }
 
+/// The ticket of a slip's round, and the task, where its search may begin now: the round is still the one that was offered last, the task stands
+/// in it, and nobody else has begun to search for it.
+fn begun<J: Run, A: Allocator + Copy>(
+    rt: &impl Wait,
+    shelf: &Shelf<A>,
+    board: &Board<J, A>,
+    slip: &Slip,
+) -> Option<(Ticket<J, A>, Task)>
+    requires name { shelf.now ≡ J.shelf }
+    ensures { IfSome result (λ found. place_of found.0 ≡ slip.now.place) }
+{
+    if !is_newest(rt, board, slip) {
+        return None;
+    }
+    let ticket = shelf.ticket::<J>(slip.place())?;
+    let task = *shelf.see(&ticket).tasks().get(slip.index() as usize)?;
+    if board.begin(rt, task) {
+        Some((ticket, task))
+    } else {
+        None
+    }
+}
+
 /// Searches for a task and posts the answer; or gives it up. Whether it was posted.
 fn answer<J: Run, A: Allocator + Copy, G: Gate>(
     rt: &impl Wait,
@@ -54,15 +79,11 @@ fn answer<J: Run, A: Allocator + Copy, G: Gate>(
     requires name { shelf.now ≡ J.shelf }
     requires rules { rules_of program.now ≡ J.rules }
 {
-    if !is_newest(rt, board, &slip) {
-        board.give_up(rt, slip);
-        return false;
-    }
-    gate.at(Point::Begins(slip.serial()));
-    let Some(ticket) = shelf.ticket::<J>(slip.place()) else {
+    let Some((ticket, task)) = begun(rt, shelf, board, &slip) else {
         board.give_up(rt, slip);
         return false;
     };
+    gate.at(Point::Begins(slip.serial()));
     match solve(program, shelf, ticket, slip.index()) {
         Ok(answer) => {
             gate.at(Point::Posts(slip.serial()));
@@ -70,6 +91,7 @@ fn answer<J: Run, A: Allocator + Copy, G: Gate>(
             true
         }
         Err(_) => {
+            board.end(rt, task);
             board.give_up(rt, slip);
             false
         }
@@ -77,7 +99,8 @@ fn answer<J: Run, A: Allocator + Copy, G: Gate>(
 }
 
 /// Answers tasks until the board is closed, or 4,294,967,295 of them were taken. A task is given up whose round is not the one that was
-/// offered last, whose snapshot is not found, or whose search lacks memory.
+/// offered last, whose snapshot is not found, for which another search has begun whose answer was not drained yet, or whose search lacks
+/// memory.
 pub fn work<J: Run, A: Allocator + Copy, G: Gate, R: Wait>(
     rt: &R,
     program: &Program<A>,

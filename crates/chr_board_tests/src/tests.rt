@@ -19,6 +19,7 @@ use std::test::Fail;
 
 mod calls;
 mod desk;
+mod repeats;
 
 /// After six steps of this query three tasks stand: (3,1), (2,1) and (2,2).
 const PROGRAM: &str = ":- chr_constraint act/0, q/1, s/1, out/1.
