@@ -11,7 +11,7 @@ mod writing;
 
 pub use names::Names;
 pub use numbered::Numbered;
-pub use printing::{print, print_active, print_atom, print_known, print_number, print_numbers};
+pub use printing::{print, print_atom, print_number, print_numbers};
 pub use std::alloc::AllocError as Memory;
 pub use term::{Sym, Term, are_ground, copy, copy_all, is_ground, same, same_all};
 pub use var_names::VarNames;

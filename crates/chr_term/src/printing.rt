@@ -3,13 +3,13 @@
 ghost use Rattle.std.specs.Prelude.{◌≡◌, ◌++◌, OnErr, OnOk, map, take, vec_len};
 ghost use Rattle.std.specs.Fmt.{decimal};
 ghost use Rattle.chr_semantics.specs.Print.{term_text};
-ghost use Rattle.chr_semantics.specs.Text.{active_text, atom_text, ids_text, known_text};
+ghost use Rattle.chr_semantics.specs.Text.{atom_text, ids_text};
 ghost use Rattle.chr_term.specs.Extension.{IsExtension};
 ghost use Rattle.chr_term.specs.TermView.{atom_view, view};
 
 use crate::numbered::Numbered;
 use crate::printer::Printer;
-use crate::writing::{write_byte, write_number, write_numbers};
+use crate::writing::write_numbers;
 use crate::{Memory, Names, Sym, Term, VarNames};
 use itoa::Buffer;
 use std::alloc::Allocator;
@@ -44,43 +44,6 @@ pub fn print_atom<N: Allocator, V: Allocator, T: Allocator, O: Allocator>(
 {
     let len = out.len();
     let written = Printer { names, vars }.write_node(sym, args, out);
-    all_or_nothing(written, len, out)
-}
-
-/// Appends a constraint with its identity. Where memory is refused, the text is as before.
-pub fn print_known<N: Allocator, V: Allocator, T: Allocator, O: Allocator>(
-    names: &Names<N>,
-    vars: &VarNames<V>,
-    sym: Sym,
-    args: &[Term<T>],
-    id: u64,
-    out: &mut Vec<u8, O>,
-) -> Result<(), Memory>
-    ensures ok { OnOk result (out.new.items ≡
-        out.old.items ++ known_text names.now vars.now (atom_view sym args.now) id) }
-    ensures err { OnErr result (out.new.items ≡ out.old.items) }
-{
-    let len = out.len();
-    let written = write_known(&Printer { names, vars }, sym, args, id, out);
-    all_or_nothing(written, len, out)
-}
-
-/// Appends an active constraint with its identity and its occurrence. Where memory is refused, the text is as before.
-pub fn print_active<N: Allocator, V: Allocator, T: Allocator, O: Allocator>(
-    names: &Names<N>,
-    vars: &VarNames<V>,
-    sym: Sym,
-    args: &[Term<T>],
-    id: u64,
-    occurrence: u64,
-    out: &mut Vec<u8, O>,
-) -> Result<(), Memory>
-    ensures ok { OnOk result (out.new.items ≡
-        out.old.items ++ active_text names.now vars.now (atom_view sym args.now) id occurrence) }
-    ensures err { OnErr result (out.new.items ≡ out.old.items) }
-{
-    let len = out.len();
-    let written = write_active(&Printer { names, vars }, sym, args, id, occurrence, out);
     all_or_nothing(written, len, out)
 }
 
@@ -120,37 +83,4 @@ fn all_or_nothing<O: Allocator>(
         out.truncate(len);
     }
     written
-}
-
-fn write_known<N: Allocator, V: Allocator, T: Allocator, O: Allocator>(
-    printer: &Printer<N, V>,
-    sym: Sym,
-    args: &[Term<T>],
-    id: u64,
-    out: &mut Vec<u8, O>,
-) -> Result<(), Memory>
-    ensures ok { OnOk result (out.new.items ≡ out.old.items
-        ++ known_text printer.now.names.now printer.now.vars.now (atom_view sym args.now) id) }
-    ensures kept { IsExtension out.old.items out.new.items }
-{
-    printer.write_node(sym, args, out)?;
-    write_byte(b'#', out)?;
-    write_number(id, out)
-}
-
-fn write_active<N: Allocator, V: Allocator, T: Allocator, O: Allocator>(
-    printer: &Printer<N, V>,
-    sym: Sym,
-    args: &[Term<T>],
-    id: u64,
-    occurrence: u64,
-    out: &mut Vec<u8, O>,
-) -> Result<(), Memory>
-    ensures ok { OnOk result (out.new.items ≡ out.old.items ++ active_text
-        printer.now.names.now printer.now.vars.now (atom_view sym args.now) id occurrence) }
-    ensures kept { IsExtension out.old.items out.new.items }
-{
-    write_known(printer, sym, args, id, out)?;
-    write_byte(b':', out)?;
-    write_number(occurrence, out)
 }

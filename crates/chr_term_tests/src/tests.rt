@@ -184,18 +184,14 @@ fn operators(rt: HostRuntime) -> Result<(), Fail> {
 enum Printed {
     Term,
     Atom,
-    Known,
-    Active,
     Number,
     Numbers,
 }
 
 /// Each, with its text where symbol 7 is `f` and the arguments are `(1+2)*(3+4)` and variable 0 with no name.
-const PRINTED: [(Printed, &str); 6] = [
+const PRINTED: [(Printed, &str); 4] = [
     (Printed::Term, ">(1+2)*(3+4)"),
     (Printed::Atom, ">f((1+2)*(3+4),_0)"),
-    (Printed::Known, ">f((1+2)*(3+4),_0)#12"),
-    (Printed::Active, ">f((1+2)*(3+4),_0)#12:3"),
     (Printed::Number, ">18446744073709551615"),
     (Printed::Numbers, ">0,7,18446744073709551615,10"),
 ];
@@ -211,8 +207,6 @@ fn print_one<A: Allocator, B: Allocator>(
     match printed {
         Printed::Term => print(names, vars, &args[0], out),
         Printed::Atom => print_atom(names, vars, sym, args, out),
-        Printed::Known => print_known(names, vars, sym, args, 12, out),
-        Printed::Active => print_active(names, vars, sym, args, 12, 3, out),
         Printed::Number => print_number(u64::MAX, out),
         Printed::Numbers => print_numbers(&[0, 7, u64::MAX, 10], out),
     }
