@@ -7,6 +7,7 @@ ghost use Rattle.chr_shelf.specs.Seat.{place_of};
 ghost use Rattle.chr_board.specs.RowView.{slip_view};
 
 use chr_board::*;
+use chr_find::Snapshot;
 use chr_machine::Machine;
 use chr_read::read_query;
 use chr_rules::{Program, Query};
@@ -37,6 +38,26 @@ fn both_of<A: Allocator + Copy>(alloc: A) -> Result<(Program<A>, Query<A>), Fail
     Ok((program, query))
 }
 
+/// What a machine shows after six steps.
+fn after_six<A: Allocator + Copy>(machine: &mut Machine<'_, A>) -> Result<Snapshot<A>, Memory> {
+    machine.run_alone(6)?;
+    machine.snapshot()
+}
+
+/// Puts a snapshot on the shelf. Its place there.
+fn put<J: Run, A: Allocator + Copy>(
+    rt: &impl Wait,
+    shelf: &Shelf<A>,
+    snapshot: Snapshot<A>,
+) -> Result<usize, Memory>
+    requires { shelf.now ≡ J.shelf }
+{
+    match shelf.put::<J>(rt, snapshot) {
+        Ok(ticket) => Ok(ticket.place()),
+        Err((_, error)) => Err(error),
+    }
+}
+
 /// Puts a snapshot of the state after six steps on the shelf. Its place there.
 fn put_state<J: Run, A: Allocator + Copy>(
     rt: &impl Wait,
@@ -49,11 +70,8 @@ fn put_state<J: Run, A: Allocator + Copy>(
     requires name { shelf.now ≡ J.shelf }
 {
     let mut machine = Machine::start(alloc, program, query)?;
-    machine.run_alone(6)?;
-    match shelf.put::<J>(rt, machine.snapshot()?) {
-        Ok(ticket) => Ok(ticket.place()),
-        Err((_, error)) => Err(error),
-    }
+    let snapshot = after_six(&mut machine)?;
+    put::<J, A>(rt, shelf, snapshot)
 }
 
 /// The slip is of the task with that index of the only round, which was offered at that place.

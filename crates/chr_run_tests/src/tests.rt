@@ -3,6 +3,7 @@ use chr_read::{ReadError, ReadErrorKind};
 use chr_rules::{RuleError, RuleErrorKind};
 use chr_run::*;
 use chr_term::Memory;
+use chr_worked::{GCD, GROUND_RULE, SPECULATION, Worked};
 use refusing_alloc::{Refusing, refused_in_turn};
 use std::alloc::{Allocator, Global};
 use std::io::{Error, ErrorKind, Read, Write};
@@ -18,75 +19,7 @@ mod replays;
 mod words;
 mod writes;
 
-const GROUND_PROGRAM: &str = ":- chr_constraint p/1, q/1.\nr @ p(1) <=> q(2).\n";
-
-const GROUND_QUERY: &str = "p(1), p(2).";
-
-const GROUND_TEXT: &str =
-    "1 activate p(1)#1\n2 simplify p(1)#1:1 r 1\n3 activate q(2)#2\n4 drop q(2)#2:1\n5 activate p(2)#3\n6 default p(2)#3:1\n7 drop p(2)#3:2\nend done\nstack 0\nstore 2\nq(2)#2\np(2)#3\nbindings 0\nhistory 1\nr 1\n";
-
-/// A program, a query over it, and how many transitions it makes until it is done.
-#[derive(Clone, Copy, Drop)]
-struct Case {
-    program: &'static str,
-    query: &'static str,
-    lines: usize,
-}
-
-const GROUND_RULE: Case = Case {
-    program: GROUND_PROGRAM,
-    query: GROUND_QUERY,
-    lines: 7,
-};
-
-const GCD: Case = Case {
-    program: ":- chr_constraint gcd/1.
-gcd1 @ gcd(0) <=> true.
-gcd2 @ gcd(N) \\ gcd(M) <=> M >= N | L is M-N, gcd(L).
-",
-    query: "gcd(4), gcd(2).",
-    lines: 18,
-};
-
-const GCD_TEXT: &str = "1 activate gcd(4)#1
-2 default gcd(4)#1:1
-3 default gcd(4)#1:2
-4 default gcd(4)#1:3
-5 drop gcd(4)#1:4
-6 activate gcd(2)#2
-7 default gcd(2)#2:1
-8 default gcd(2)#2:2
-9 propagate gcd(2)#2:3 gcd2 2,1
-10 solve _0 is 4-2
-11 activate gcd(2)#3
-12 default gcd(2)#3:1
-13 simplify gcd(2)#3:2 gcd2 2,3
-14 solve _1 is 2-2
-15 activate gcd(0)#4
-16 simplify gcd(0)#4:1 gcd1 4
-17 default gcd(2)#2:3
-18 drop gcd(2)#2:4
-end done
-stack 0
-store 1
-gcd(2)#2
-bindings 0
-history 3
-gcd2 2,1
-gcd2 2,3
-gcd1 4
-";
-
-const SPECULATION: Case = Case {
-    program: ":- chr_constraint act/0, q/1, s/1, out/1.
-p1 @ act ==> s(1).
-r @ act, q(X), s(X) ==> out(X).
-",
-    query: "q(1), act.",
-    lines: 14,
-};
-
-const CASES: [Case; 3] = [GROUND_RULE, GCD, SPECULATION];
+const EXAMPLES: [Worked; 3] = [GROUND_RULE, GCD, SPECULATION];
 
 /// Keeps what is written. It takes at most `step` bytes at a call, and fails once `calls` of them were made.
 #[derive(Drop)]
@@ -161,23 +94,23 @@ impl Read for Endless {
     }
 }
 
-/// How the run of a case ended, or why it was refused.
-fn run_case<A: Allocator + Copy + Send + Sync, R: Threads + Wait + Sync>(
+/// How the run of an example ended, or why it was refused.
+fn run_example<A: Allocator + Copy + Send + Sync, R: Threads + Wait + Sync>(
     rt: &R,
     alloc: A,
-    case: Case,
+    example: Worked,
     sink: &mut Sink,
 ) -> Result<Status, TextError> {
-    let (program, query) = (case.program.as_bytes(), case.query.as_bytes());
+    let (program, query) = (example.program.as_bytes(), example.query.as_bytes());
     let run = run_text(rt, alloc, program, query, 100, 0, sink)?;
     Ok(run.outcome.status)
 }
 
 /// The whole text of a run to its end.
-fn text_of<R: Threads + Wait + Abort + Sync>(alloc: Global, rt: &R, case: Case) -> Vec<u8> {
+fn text_of<R: Threads + Wait + Abort + Sync>(alloc: Global, rt: &R, example: Worked) -> Vec<u8> {
     let mut sink = Sink::open(alloc);
-    let answer = run_case(rt, alloc, case, &mut sink);
-    assert_eq!(rt; answer, Ok(Status::Done), "{}", case.query);
+    let answer = run_example(rt, alloc, example, &mut sink);
+    assert_eq!(rt; answer, Ok(Status::Done), "{}", example.query);
     sink.text
 }
 
@@ -242,7 +175,7 @@ fn texts_in_order(rt: HostRuntime) {
 /// The limits are looked at before the texts, the budget first.
 #[test]
 fn limits_first(rt: HostRuntime) {
-    for (program, query) in [(GROUND_PROGRAM, GROUND_QUERY), ("!", "!")] {
+    for (program, query) in [(GROUND_RULE.program, GROUND_RULE.query), ("!", "!")] {
         for (budget, workers, error) in [
             (1_000_001, 0, RunError::BudgetTooLarge),
             (1_000_001, 65, RunError::BudgetTooLarge),

@@ -8,6 +8,7 @@ use chr_read::read_query;
 use chr_rules::{Program, Query};
 use chr_run::*;
 use chr_texts::program_of;
+use chr_worked::{GCD, GROUND_RULE, SPECULATION, Worked};
 use std::alloc::{Allocator, Global};
 use std::process::Abort;
 use std::sync::Wait;
@@ -19,103 +20,6 @@ mod marks;
 mod refusals;
 mod runs;
 mod texts;
-
-/// A program and a query over it, as texts, and the whole text of the run.
-#[derive(Clone, Copy, Drop)]
-struct Example {
-    program: &'static str,
-    query: &'static str,
-    text: &'static str,
-}
-
-const GROUND_RULE: Example = Example {
-    program: ":- chr_constraint p/1, q/1.\nr @ p(1) <=> q(2).\n",
-    query: "p(1), p(2).",
-    text: "1 activate p(1)#1
-2 simplify p(1)#1:1 r 1
-3 activate q(2)#2
-4 drop q(2)#2:1
-5 activate p(2)#3
-6 default p(2)#3:1
-7 drop p(2)#3:2
-end done
-stack 0
-store 2
-q(2)#2
-p(2)#3
-bindings 0
-history 1
-r 1
-",
-};
-
-const GCD: Example = Example {
-    program: ":- chr_constraint gcd/1.
-gcd1 @ gcd(0) <=> true. gcd2 @ gcd(N) \\ gcd(M) <=> M >= N | L is M-N, gcd(L).
-",
-    query: "gcd(4), gcd(2).",
-    text: "1 activate gcd(4)#1
-2 default gcd(4)#1:1
-3 default gcd(4)#1:2
-4 default gcd(4)#1:3
-5 drop gcd(4)#1:4
-6 activate gcd(2)#2
-7 default gcd(2)#2:1
-8 default gcd(2)#2:2
-9 propagate gcd(2)#2:3 gcd2 2,1
-10 solve _0 is 4-2
-11 activate gcd(2)#3
-12 default gcd(2)#3:1
-13 simplify gcd(2)#3:2 gcd2 2,3
-14 solve _1 is 2-2
-15 activate gcd(0)#4
-16 simplify gcd(0)#4:1 gcd1 4
-17 default gcd(2)#2:3
-18 drop gcd(2)#2:4
-end done
-stack 0
-store 1
-gcd(2)#2
-bindings 0
-history 3
-gcd2 2,1
-gcd2 2,3
-gcd1 4
-",
-};
-
-const SPECULATION: Example = Example {
-    program: ":- chr_constraint act/0, q/1, s/1, out/1.
-p1 @ act ==> s(1). r @ act, q(X), s(X) ==> out(X).
-",
-    query: "q(1), act.",
-    text: "1 activate q(1)#1
-2 default q(1)#1:1
-3 drop q(1)#1:2
-4 activate act#2
-5 propagate act#2:1 p1 2
-6 activate s(1)#3
-7 propagate s(1)#3:1 r 2,1,3
-8 activate out(1)#4
-9 drop out(1)#4:1
-10 default s(1)#3:1
-11 drop s(1)#3:2
-12 default act#2:1
-13 default act#2:2
-14 drop act#2:3
-end done
-stack 0
-store 4
-q(1)#1
-act#2
-s(1)#3
-out(1)#4
-bindings 0
-history 2
-p1 2
-r 2,1,3
-",
-};
 
 /// More transitions than an example makes.
 const AMPLE: u64 = 100;
@@ -129,7 +33,7 @@ impl Gate for Open {
 }
 
 /// A program, and a query over it, as a run takes them.
-fn both_of<A: Allocator + Copy>(alloc: A, example: Example) -> Result<(Program<A>, Query<A>), Fail>
+fn both_of<A: Allocator + Copy>(alloc: A, example: Worked) -> Result<(Program<A>, Query<A>), Fail>
     ensures { IfOk result (λ both. IsQueryBounded (query_view both.1)) }
 {
     let mut program = program_of(alloc, example.program)?;
@@ -169,7 +73,7 @@ fn replayed<A: Allocator + Copy>(
 fn assert_text<A: Allocator + Copy>(
     rt: &impl Abort,
     alloc: A,
-    example: Example,
+    example: Worked,
     program: &Program<A>,
     outcome: &Outcome<A>,
 ) -> Result<(), Fail> {
@@ -188,7 +92,7 @@ fn assert_text<A: Allocator + Copy>(
 fn run_of<A: Allocator + Copy + Send + Sync, G: Gate, R: Threads + Wait + Abort + Sync>(
     rt: &R,
     alloc: A,
-    example: Example,
+    example: Worked,
     workers: u32,
     gate: &G,
 ) -> Result<Run<A>, Fail> {
@@ -202,7 +106,7 @@ fn run_of<A: Allocator + Copy + Send + Sync, G: Gate, R: Threads + Wait + Abort 
 fn replay_of<A: Allocator + Copy>(
     rt: &impl Wait,
     alloc: A,
-    example: Example,
+    example: Worked,
     events: &[Event],
 ) -> Result<(Program<A>, Outcome<A>, Counts), Fail> {
     let (program, query) = both_of(alloc, example)?;
@@ -214,7 +118,7 @@ fn replay_of<A: Allocator + Copy>(
 fn assert_replayed<A: Allocator + Copy>(
     rt: &(impl Abort + Wait),
     alloc: A,
-    example: Example,
+    example: Worked,
     run: &Run<A>,
 ) -> Result<(), Fail> {
     let (program, outcome, counts) = replay_of(rt, alloc, example, run.schedule.as_slice())?;

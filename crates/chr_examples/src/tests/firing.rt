@@ -1,47 +1,15 @@
 //! The worked examples that fire rules, by their names, with their whole texts.
 use super::*;
+use chr_worked::{GCD, GROUND_RULE, SPECULATION, Worked};
 
-const GCD: Example = Example {
-    program: ":- chr_constraint gcd/1.
-gcd1 @ gcd(0) <=> true.
-gcd2 @ gcd(N) \\ gcd(M) <=> M >= N | L is M-N, gcd(L).
-",
-    query: "gcd(4), gcd(2).",
-    budget: 100_000,
-};
-
-const GCD_TEXT: &str = "1 activate gcd(4)#1
-2 default gcd(4)#1:1
-3 default gcd(4)#1:2
-4 default gcd(4)#1:3
-5 drop gcd(4)#1:4
-6 activate gcd(2)#2
-7 default gcd(2)#2:1
-8 default gcd(2)#2:2
-9 propagate gcd(2)#2:3 gcd2 2,1
-10 solve _0 is 4-2
-11 activate gcd(2)#3
-12 default gcd(2)#3:1
-13 simplify gcd(2)#3:2 gcd2 2,3
-14 solve _1 is 2-2
-15 activate gcd(0)#4
-16 simplify gcd(0)#4:1 gcd1 4
-17 default gcd(2)#2:3
-18 drop gcd(2)#2:4
-end done
-stack 0
-store 1
-gcd(2)#2
-bindings 0
-history 3
-gcd2 2,1
-gcd2 2,3
-gcd1 4
-";
+/// With a budget that is never used up.
+fn worked(example: Worked) -> Example {
+    ample(example.program, example.query)
+}
 
 #[test]
 fn gcd(rt: HostRuntime) {
-    assert_text(rt.alloc(), &rt, GCD, Status::Done, GCD_TEXT);
+    assert_text(rt.alloc(), &rt, worked(GCD), Status::Done, GCD.text);
 }
 
 /// The greatest budget, and one more; 1 and 8 workers, by which the text is the same, and as many as no run can have.
@@ -49,21 +17,21 @@ fn gcd(rt: HostRuntime) {
 fn limits_and_workers(rt: HostRuntime) {
     let greatest = Example {
         budget: 1_000_000,
-        ..GCD
+        ..worked(GCD)
     };
-    assert_text(rt.alloc(), &rt, greatest, Status::Done, GCD_TEXT);
+    assert_text(rt.alloc(), &rt, greatest, Status::Done, GCD.text);
     let greater = Example {
         budget: 1_000_001,
-        ..GCD
+        ..worked(GCD)
     };
     let error = TextError::Run(RunError::BudgetTooLarge);
     assert_refused(rt.alloc(), &rt, greater, 0, error);
     for workers in [1, 8] {
-        let out = text_of(rt.alloc(), &rt, GCD, workers, Status::Done);
-        assert_eq!(rt; out.as_slice(), GCD_TEXT.as_bytes(), "{workers}");
+        let out = text_of(rt.alloc(), &rt, worked(GCD), workers, Status::Done);
+        assert_eq!(rt; out.as_slice(), GCD.text.as_bytes(), "{workers}");
     }
     let error = TextError::Run(RunError::TooManyWorkers);
-    assert_refused(rt.alloc(), &rt, GCD, 65, error);
+    assert_refused(rt.alloc(), &rt, worked(GCD), 65, error);
 }
 
 const PROPAGATED: &str = "1 activate p#1
@@ -236,32 +204,15 @@ fn guard_unbound(rt: HostRuntime) {
     }
 }
 
-const GROUND: Example = Example {
-    program: ":- chr_constraint p/1, q/1.\nr @ p(1) <=> q(2).\n",
-    query: "p(1), p(2).",
-    budget: 100_000,
-};
-
-const GROUND_TEXT: &str = "1 activate p(1)#1
-2 simplify p(1)#1:1 r 1
-3 activate q(2)#2
-4 drop q(2)#2:1
-5 activate p(2)#3
-6 default p(2)#3:1
-7 drop p(2)#3:2
-end done
-stack 0
-store 2
-q(2)#2
-p(2)#3
-bindings 0
-history 1
-r 1
-";
-
 #[test]
 fn ground_rule(rt: HostRuntime) {
-    assert_text(rt.alloc(), &rt, GROUND, Status::Done, GROUND_TEXT);
+    assert_text(
+        rt.alloc(),
+        &rt,
+        worked(GROUND_RULE),
+        Status::Done,
+        GROUND_RULE.text,
+    );
 }
 
 const AFTER_ONE: &str = "1 activate p(1)#1
@@ -280,43 +231,14 @@ history 0
 fn budget_used_up(rt: HostRuntime) {
     let one = Example {
         budget: 1,
-        ..GROUND
+        ..worked(GROUND_RULE)
     };
     assert_text(rt.alloc(), &rt, one, Status::Running, AFTER_ONE);
 }
 
-const SPECULATION: &str = "1 activate q(1)#1
-2 default q(1)#1:1
-3 drop q(1)#1:2
-4 activate act#2
-5 propagate act#2:1 p1 2
-6 activate s(1)#3
-7 propagate s(1)#3:1 r 2,1,3
-8 activate out(1)#4
-9 drop out(1)#4:1
-10 default s(1)#3:1
-11 drop s(1)#3:2
-12 default act#2:1
-13 default act#2:2
-14 drop act#2:3
-end done
-stack 0
-store 4
-q(1)#1
-act#2
-s(1)#3
-out(1)#4
-bindings 0
-history 2
-p1 2
-r 2,1,3
-";
-
 /// Without a worker.
 #[test]
 fn speculation(rt: HostRuntime) {
-    let program =
-        ":- chr_constraint act/0, q/1, s/1, out/1.\np1 @ act ==> s(1).\nr @ act, q(X), s(X) ==> out(X).\n";
-    let example = ample(program, "q(1), act.");
-    assert_text(rt.alloc(), &rt, example, Status::Done, SPECULATION);
+    let example = worked(SPECULATION);
+    assert_text(rt.alloc(), &rt, example, Status::Done, SPECULATION.text);
 }

@@ -34,16 +34,19 @@ fn refused_at<R: Threads + Wait + Abort + Sync>(
 ) -> Option<usize> {
     let mut sink = Sink::open(alloc);
     meter.allow(left);
-    let ran = run_case(rt, meter, GROUND_RULE, &mut sink);
+    let ran = run_example(rt, meter, GROUND_RULE, &mut sink);
     assert_eq!(rt; meter.asked() > left, ran.is_err(), "{left}");
     let Err(error) = ran else {
-        assert_eq!(rt; sink.text.as_slice(), GROUND_TEXT.as_bytes());
+        assert_eq!(rt; sink.text.as_slice(), GROUND_RULE.text.as_bytes());
         return None;
     };
     let place = place_of(error);
     assert!(rt; place == Some(4) || sink.text.is_empty(), "{left}");
     assert!(rt;
-        GROUND_TEXT.as_bytes().starts_with(sink.text.as_slice()),
+        GROUND_RULE
+            .text
+            .as_bytes()
+            .starts_with(sink.text.as_slice()),
         "{left}"
     );
     place
@@ -96,12 +99,12 @@ fn run_read<A: Allocator + Copy + Send + Sync, R: Threads + Wait + Sync>(
     rt: &R,
     alloc: A,
     meter: &Meter,
-    case: Case,
+    example: Worked,
     left: u64,
     sink: &mut Sink,
 ) -> Result<Result<Status, TextError>, Fail> {
     meter.allow(u64::MAX);
-    let (program, query) = both_of(alloc, case.program, case.query)?;
+    let (program, query) = both_of(alloc, example.program, example.query)?;
     meter.allow(left);
     let ran = run_into(rt, alloc, &program, query, 100, 0, &Open, sink);
     Ok(ran.map(|run| run.outcome.status))
@@ -112,12 +115,12 @@ fn is_run<R: Threads + Wait + Abort + Sync>(
     meter: &Meter,
     rt: &R,
     alloc: Global,
-    case: Case,
+    example: Worked,
     left: u64,
 ) -> Result<bool, Fail> {
-    let whole = text_of(alloc, rt, case);
+    let whole = text_of(alloc, rt, example);
     let mut sink = Sink::open(alloc);
-    let ran = run_read(rt, meter, meter, case, left, &mut sink)?;
+    let ran = run_read(rt, meter, meter, example, left, &mut sink)?;
     let text = sink.text.as_slice();
     assert_eq!(rt; meter.asked() > left, ran.is_err(), "{left}");
     assert!(rt; whole.as_slice().starts_with(text), "{left}");
@@ -133,9 +136,9 @@ fn is_run<R: Threads + Wait + Abort + Sync>(
 #[test]
 fn run_into_refused(rt: HostRuntime) -> Result<(), Fail> {
     let meter = Refusing::new(rt.alloc(), 0);
-    for case in CASES {
-        let refused = refused_in_turn(MOST, |left| is_run(&meter, &rt, rt.alloc(), case, left))?;
-        assert!(&rt; refused > 10 && refused < MOST, "{}", case.query);
+    for example in EXAMPLES {
+        let refused = refused_in_turn(MOST, |left| is_run(&meter, &rt, rt.alloc(), example, left))?;
+        assert!(&rt; refused > 10 && refused < MOST, "{}", example.query);
     }
     Ok(())
 }

@@ -9,33 +9,6 @@ use chr_words::{Creates, Opens};
 
 const SCHEDULE: &str = "step 6\npublish\narrive 0 0\narrive 0 1\narrive 0 2\nstep 8\n";
 
-const SPECULATION_TEXT: &str = "1 activate q(1)#1
-2 default q(1)#1:1
-3 drop q(1)#1:2
-4 activate act#2
-5 propagate act#2:1 p1 2
-6 activate s(1)#3
-7 propagate s(1)#3:1 r 2,1,3
-8 activate out(1)#4
-9 drop out(1)#4:1
-10 default s(1)#3:1
-11 drop s(1)#3:2
-12 default act#2:1
-13 default act#2:2
-14 drop act#2:3
-end done
-stack 0
-store 4
-q(1)#1
-act#2
-s(1)#3
-out(1)#4
-bindings 0
-history 2
-p1 2
-r 2,1,3
-";
-
 const THREE_STEPS_TEXT: &str = "1 activate q(1)#1
 2 default q(1)#1:1
 3 drop q(1)#1:2
@@ -125,44 +98,42 @@ fn answer_to_schedule(
     answer_to(rt, alloc, &words, SPECULATION.program, schedule)
 }
 
-/// `replay_text` of a case.
-fn replay_case<A: Allocator + Copy>(
+/// `replay_text` of an example.
+fn replay_example<A: Allocator + Copy>(
     rt: &impl Wait,
     alloc: A,
-    case: Case,
+    example: Worked,
     schedule: &[u8],
     sink: &mut Sink,
 ) -> Result<(Status, Counts), TextError> {
-    let (program, query) = (case.program.as_bytes(), case.query.as_bytes());
+    let (program, query) = (example.program.as_bytes(), example.query.as_bytes());
     replay_text(rt, alloc, program, query, schedule, sink)
 }
 
 /// The schedules with their texts, exit statuses and lines of counts: `speculation`; one that ends before the run does; and one that goes
 /// on after its end.
-const REPLAYS: [(&str, &str, u8, &str); 3] = [
-    (
-        SCHEDULE,
-        SPECULATION_TEXT,
-        0,
-        "counts kept 3 late 0 double 0 used 2 own 4\n",
-    ),
-    (
-        "step 3\n",
-        THREE_STEPS_TEXT,
-        5,
-        "counts kept 0 late 0 double 0 used 0 own 1\n",
-    ),
-    (
-        "step 20\npublish\nstep 5\n",
-        SPECULATION_TEXT,
-        0,
-        "counts kept 0 late 0 double 0 used 0 own 6\n",
-    ),
-];
-
 #[test]
 fn replays(rt: HostRuntime) -> Result<(), Fail> {
-    for (schedule, text, status, counts) in REPLAYS {
+    for (schedule, text, status, counts) in [
+        (
+            SCHEDULE,
+            SPECULATION.text,
+            0,
+            "counts kept 3 late 0 double 0 used 2 own 4\n",
+        ),
+        (
+            "step 3\n",
+            THREE_STEPS_TEXT,
+            5,
+            "counts kept 0 late 0 double 0 used 0 own 1\n",
+        ),
+        (
+            "step 20\npublish\nstep 5\n",
+            SPECULATION.text,
+            0,
+            "counts kept 0 late 0 double 0 used 0 own 6\n",
+        ),
+    ] {
         let answer = answer_to_schedule(&rt, rt.alloc(), schedule.as_bytes())?;
         assert_eq!(rt; answer.output.as_slice(), text.as_bytes());
         assert_eq!(rt; answer.error.as_slice(), counts.as_bytes());
@@ -324,14 +295,14 @@ fn recorded_runs(rt: HostRuntime) -> Result<(), Fail> {
         assert_eq!(rt; run.status, 0, "{workers}");
         assert_eq!(rt;
             run.output.as_slice(),
-            SPECULATION_TEXT.as_bytes(),
+            SPECULATION.text.as_bytes(),
             "{workers}"
         );
         let answer = answer_to_schedule(&rt, rt.alloc(), record.as_slice())?;
         assert_eq!(rt; answer.status, 0, "{workers}");
         assert_eq!(rt;
             answer.output.as_slice(),
-            SPECULATION_TEXT.as_bytes(),
+            SPECULATION.text.as_bytes(),
             "{workers}"
         );
         let (said, counts) = (run.error.as_slice(), answer.error.as_slice());
@@ -377,14 +348,14 @@ fn faults_in_order(rt: HostRuntime) -> Result<(), Fail> {
 /// A writer that takes a byte at a call gets the whole text; where one of its calls fails, it has what it took before.
 #[test]
 fn failing_writes(rt: HostRuntime) {
-    for calls in 0..=SPECULATION_TEXT.len() {
+    for calls in 0..=SPECULATION.text.len() {
         let mut sink = Sink::new(rt.alloc(), 1, calls as u64);
-        let answer = replay_case(&rt, rt.alloc(), SPECULATION, SCHEDULE.as_bytes(), &mut sink);
-        assert_eq!(rt; sink.text.as_slice(), &SPECULATION_TEXT.as_bytes()[..calls]);
+        let answer = replay_example(&rt, rt.alloc(), SPECULATION, SCHEDULE.as_bytes(), &mut sink);
+        assert_eq!(rt; sink.text.as_slice(), &SPECULATION.text.as_bytes()[..calls]);
         match answer {
             Ok((status, _)) => {
                 assert_eq!(rt; status, Status::Done);
-                assert_eq!(rt; calls, SPECULATION_TEXT.len());
+                assert_eq!(rt; calls, SPECULATION.text.len());
             }
             Err(error) => assert_eq!(rt; error, TextError::Write),
         }
@@ -416,10 +387,10 @@ fn refused_at(
 ) -> Option<usize> {
     let mut sink = Sink::open(alloc);
     meter.allow(left);
-    let replayed = replay_case(rt, meter, SPECULATION, SCHEDULE.as_bytes(), &mut sink);
+    let replayed = replay_example(rt, meter, SPECULATION, SCHEDULE.as_bytes(), &mut sink);
     assert_eq!(rt; meter.asked() > left, replayed.is_err(), "{left}");
     let Err(error) = replayed else {
-        assert_eq!(rt; sink.text.as_slice(), SPECULATION_TEXT.as_bytes());
+        assert_eq!(rt; sink.text.as_slice(), SPECULATION.text.as_bytes());
         return None;
     };
     assert!(rt; sink.text.is_empty(), "{left}");

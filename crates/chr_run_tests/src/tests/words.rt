@@ -224,7 +224,7 @@ const GROUND_INPUT: &str = "p(1), p(2).\n:- chr_constraint p/1, q/1.\nr @ p(1) <
 #[test]
 fn runs_of_the_input(rt: HostRuntime) -> Result<(), Fail> {
     for (input, text) in [
-        (GROUND_INPUT, GROUND_TEXT),
+        (GROUND_INPUT, GROUND_RULE.text),
         ("true.\n", NOTHING_TEXT),
         ("true.", NOTHING_TEXT),
     ] {
@@ -245,7 +245,7 @@ fn runs_of_the_input(rt: HostRuntime) -> Result<(), Fail> {
 #[test]
 fn runs_of_a_file(rt: HostRuntime) -> Result<(), Fail> {
     for (program, query, text) in [
-        (GROUND_PROGRAM, GROUND_QUERY, GROUND_TEXT),
+        (GROUND_RULE.program, GROUND_RULE.query, GROUND_RULE.text),
         ("", "true.", NOTHING_TEXT),
     ] {
         for step in [1, 7, usize::MAX] {
@@ -267,11 +267,11 @@ const ONE_TEXT: &str =
 /// The budget may stand anywhere, and in a run of the input too.
 #[test]
 fn a_budget(rt: HostRuntime) -> Result<(), Fail> {
-    let file = GROUND_PROGRAM.as_bytes();
+    let file = GROUND_RULE.program.as_bytes();
     for words in [
-        ["--budget", "1", "there", GROUND_QUERY],
-        ["there", "--budget", "1", GROUND_QUERY],
-        ["there", GROUND_QUERY, "--budget", "1"],
+        ["--budget", "1", "there", GROUND_RULE.query],
+        ["there", "--budget", "1", GROUND_RULE.query],
+        ["there", GROUND_RULE.query, "--budget", "1"],
     ] {
         let answer = answer_to_file(&rt, rt.alloc(), &words, file)?;
         assert_runs(&rt, &answer, 5, ONE_TEXT);
@@ -284,9 +284,9 @@ fn a_budget(rt: HostRuntime) -> Result<(), Fail> {
     let mut input = whole(GROUND_INPUT.as_bytes());
     let answer = answer_of(&rt, rt.alloc(), &["--budget=1"], &files, &mut input)?;
     assert_runs(&rt, &answer, 5, ONE_TEXT);
-    let greatest = ["there", GROUND_QUERY, "--budget=1000000"];
+    let greatest = ["there", GROUND_RULE.query, "--budget=1000000"];
     let answer = answer_to_file(&rt, rt.alloc(), &greatest, file)?;
-    assert_runs(&rt, &answer, 0, GROUND_TEXT);
+    assert_runs(&rt, &answer, 0, GROUND_RULE.text);
     Ok(())
 }
 
@@ -365,16 +365,16 @@ fn inputs_that_fail(rt: HostRuntime) -> Result<(), Fail> {
 /// Neither is a file, nor one that is not there.
 #[test]
 fn files_that_fail(rt: HostRuntime) -> Result<(), Fail> {
-    for calls in 0..=GROUND_PROGRAM.len() {
+    for calls in 0..=GROUND_RULE.program.len() {
         let files = Files {
-            text: GROUND_PROGRAM.as_bytes(),
+            text: GROUND_RULE.program.as_bytes(),
             step: 1,
             calls: calls as u64,
         };
         let answer = answer_of(
             &rt,
             rt.alloc(),
-            &["there", GROUND_QUERY],
+            &["there", GROUND_RULE.query],
             &files,
             &mut Endless,
         )?;
@@ -455,7 +455,7 @@ fn cannot_write(
 ) -> Result<(), Fail> {
     let words = owned(alloc, words)?;
     let files = Files {
-        text: GROUND_PROGRAM.as_bytes(),
+        text: GROUND_RULE.program.as_bytes(),
         step: usize::MAX,
         calls: u64::MAX,
     };
@@ -484,8 +484,8 @@ fn cannot_write(
 /// The first line of the run has 18 bytes, and is written alone.
 #[test]
 fn outputs_that_fail(rt: HostRuntime) -> Result<(), Fail> {
-    let words = ["there", GROUND_QUERY];
-    cannot_write(rt.alloc(), &rt, &words, (GROUND_TEXT, 42))?;
+    let words = ["there", GROUND_RULE.query];
+    cannot_write(rt.alloc(), &rt, &words, (GROUND_RULE.text, 42))?;
     cannot_write(rt.alloc(), &rt, &["--help"], (HELP, 60))
 }
 
@@ -495,7 +495,7 @@ fn workers_that_search_ahead(rt: HostRuntime) -> Result<(), Fail> {
     for workers in ["0", "1", "2", "8"] {
         let words = ["there", GCD.query, "--workers", workers];
         let answer = answer_to_file(&rt, rt.alloc(), &words, GCD.program.as_bytes())?;
-        assert_runs(&rt, &answer, 0, GCD_TEXT);
+        assert_runs(&rt, &answer, 0, GCD.text);
     }
     Ok(())
 }
@@ -539,7 +539,7 @@ fn totals(rt: HostRuntime) -> Result<(), Fail> {
         ["there", GCD.query, "--totals"],
     ] {
         let answer = answer_to_file(&rt, rt.alloc(), &words, program)?;
-        assert_says(&rt, &answer, 0, GCD_TEXT, GCD_TOTALS);
+        assert_says(&rt, &answer, 0, GCD.text, GCD_TOTALS);
     }
     let files = Files {
         text: &[],
@@ -550,7 +550,7 @@ fn totals(rt: HostRuntime) -> Result<(), Fail> {
     let answer = answer_of(&rt, rt.alloc(), &["--totals"], &files, &mut input)?;
     let said =
         "counts kept 0 late 0 double 0 used 0 own 2\ntotals put 0 taken 0 posted 0 given_up 0 drained 0 waiting 0 left 0\n";
-    assert_says(&rt, &answer, 0, GROUND_TEXT, said);
+    assert_says(&rt, &answer, 0, GROUND_RULE.text, said);
     Ok(())
 }
 
@@ -560,7 +560,7 @@ fn totals_of_workers(rt: HostRuntime) -> Result<(), Fail> {
     let words = ["there", GCD.query, "--totals", "--workers=2"];
     let answer = answer_to_file(&rt, rt.alloc(), &words, GCD.program.as_bytes())?;
     assert_eq!(rt; answer.status, 0);
-    assert_eq!(rt; answer.output.as_slice(), GCD_TEXT.as_bytes());
+    assert_eq!(rt; answer.output.as_slice(), GCD.text.as_bytes());
     let error = answer.error.as_slice();
     assert!(rt; error.starts_with(b"counts kept ".as_slice()));
     assert_eq!(rt; lines_in(error), 2);
@@ -586,8 +586,8 @@ fn totals_of_other_ends(rt: HostRuntime) -> Result<(), Fail> {
         let answer = answer_to_file(&rt, rt.alloc(), &words, b"".as_slice())?;
         assert_says(&rt, &answer, status, text, said);
     }
-    let words = ["there", GROUND_QUERY, "--budget=1", "--totals"];
-    let answer = answer_to_file(&rt, rt.alloc(), &words, GROUND_PROGRAM.as_bytes())?;
+    let words = ["there", GROUND_RULE.query, "--budget=1", "--totals"];
+    let answer = answer_to_file(&rt, rt.alloc(), &words, GROUND_RULE.program.as_bytes())?;
     assert_says(&rt, &answer, 5, ONE_TEXT, said);
     Ok(())
 }
@@ -614,7 +614,7 @@ fn totals_that_are_cut(rt: HostRuntime) -> Result<(), Fail> {
             &mut error,
         );
         assert_eq!(rt; status, 0);
-        assert_eq!(rt; output.text.as_slice(), GCD_TEXT.as_bytes());
+        assert_eq!(rt; output.text.as_slice(), GCD.text.as_bytes());
         assert_eq!(rt; error.text.len(), calls);
         assert!(rt; GCD_TOTALS.as_bytes().starts_with(error.text.as_slice()));
     }
@@ -626,11 +626,11 @@ fn totals_that_are_cut(rt: HostRuntime) -> Result<(), Fail> {
 fn records(rt: HostRuntime) -> Result<(), Fail> {
     let words = ["there", GCD.query, "--record", "record"];
     let (answer, record) = recorded(&rt, rt.alloc(), &words, GCD.program, 8)?;
-    assert_runs(&rt, &answer, 0, GCD_TEXT);
+    assert_runs(&rt, &answer, 0, GCD.text);
     assert_eq!(rt; record.as_slice(), b"step 18\n".as_slice());
     let words = ["there", GCD.query, "--record=record", "--totals"];
     let (answer, record) = recorded(&rt, rt.alloc(), &words, GCD.program, 8)?;
-    assert_says(&rt, &answer, 0, GCD_TEXT, GCD_TOTALS);
+    assert_says(&rt, &answer, 0, GCD.text, GCD_TOTALS);
     assert_eq!(rt; record.as_slice(), b"step 18\n".as_slice());
     Ok(())
 }
@@ -641,7 +641,7 @@ fn records_that_fail(rt: HostRuntime) -> Result<(), Fail> {
     for calls in 0..8 {
         let words = ["there", GCD.query, "--record=record", "--totals"];
         let (answer, record) = recorded(&rt, rt.alloc(), &words, GCD.program, calls as u64)?;
-        assert_says(&rt, &answer, 2, GCD_TEXT, "chr: cannot write record\n");
+        assert_says(&rt, &answer, 2, GCD.text, "chr: cannot write record\n");
         assert_eq!(rt; record.len(), calls);
         assert!(rt; b"step 18\n".starts_with(record.as_slice()));
     }
@@ -650,7 +650,7 @@ fn records_that_fail(rt: HostRuntime) -> Result<(), Fail> {
         ["there", GCD.query, "--totals", "--record=else/where"],
     ] {
         let answer = answer_to_file(&rt, rt.alloc(), &words, GCD.program.as_bytes())?;
-        assert_says(&rt, &answer, 2, GCD_TEXT, "chr: cannot write else/where\n");
+        assert_says(&rt, &answer, 2, GCD.text, "chr: cannot write else/where\n");
     }
     Ok(())
 }

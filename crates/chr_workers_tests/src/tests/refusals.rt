@@ -20,7 +20,7 @@ struct Scene<'m, A> {
 fn is_through<A: Allocator + Copy + Send + Sync, R: Threads + Wait + Abort + Sync>(
     rt: &R,
     scene: &Scene<'_, A>,
-    example: Example,
+    example: Worked,
     workers: u32,
     left: u64,
 ) -> Result<bool, Fail> {
@@ -45,7 +45,7 @@ fn is_through<A: Allocator + Copy + Send + Sync, R: Threads + Wait + Abort + Syn
 fn is_through_metered<R: Threads + Wait + Abort + Sync>(
     rt: &R,
     meter: &Meter,
-    example: Example,
+    example: Worked,
     workers: u32,
     left: u64,
 ) -> Result<bool, Fail> {
@@ -60,7 +60,7 @@ fn is_through_metered<R: Threads + Wait + Abort + Sync>(
 fn assert_refused<R: Threads + Wait + Abort + Sync>(
     rt: &R,
     alloc: Global,
-    example: Example,
+    example: Worked,
 ) -> Result<(), Fail> {
     let meter = Refusing::new(alloc, 0);
     for workers in 0..3 {

@@ -29,7 +29,7 @@ fn assert_sums<A: Allocator>(rt: &impl Abort, run: &Run<A>) {
 fn assert_totals<A: Allocator + Copy + Send + Sync, R: Threads + Wait + Abort + Sync>(
     rt: &R,
     alloc: A,
-    example: Example,
+    example: Worked,
     workers: u32,
 ) -> Result<(), Fail> {
     let run = run_of(rt, alloc, example, workers, &Open)?;
@@ -51,7 +51,7 @@ fn totals_add_up(rt: HostRuntime) -> Result<(), Fail> {
 fn assert_printed<A: Allocator + Copy>(
     rt: &(impl Abort + Wait),
     alloc: A,
-    example: Example,
+    example: Worked,
     run: &Run<A>,
 ) -> Result<(), Fail> {
     let mut printed = Vec::new(alloc);
@@ -72,7 +72,7 @@ fn assert_printed<A: Allocator + Copy>(
 fn assert_bytes<A: Allocator + Copy + Send + Sync, R: Threads + Wait + Abort + Sync>(
     rt: &R,
     alloc: A,
-    example: Example,
+    example: Worked,
     workers: u32,
 ) -> Result<(), Fail> {
     let run = run_of(rt, alloc, example, workers, &Open)?;

@@ -86,7 +86,7 @@ impl Gate for Comparing<'_> {
 fn sent_into<A: Allocator + Copy + Send + Sync, G: Gate, R: Threads + Wait + Sync, W: Write>(
     rt: &R,
     alloc: A,
-    example: Example,
+    example: Worked,
     workers: u32,
     gate: &G,
     writer: &mut W,
@@ -116,7 +116,7 @@ fn lines_go_out_as_made(rt: HostRuntime) -> Result<(), Fail> {
 fn sent<R: Threads + Wait + Sync>(
     rt: &R,
     alloc: Global,
-    example: Example,
+    example: Worked,
     workers: u32,
     sink: &mut Sink,
 ) -> Result<Status, TextError> {
@@ -129,7 +129,7 @@ fn sent<R: Threads + Wait + Sync>(
 fn goes_out<R: Threads + Wait + Abort + Sync>(
     rt: &R,
     alloc: Global,
-    example: Example,
+    example: Worked,
     workers: u32,
     (step, calls): (usize, u64),
 ) -> bool {
@@ -154,7 +154,7 @@ fn goes_out<R: Threads + Wait + Abort + Sync>(
 fn writes_of<R: Threads + Wait + Abort + Sync>(
     rt: &R,
     alloc: Global,
-    example: Example,
+    example: Worked,
     workers: u32,
     step: usize,
 ) -> u64 {
