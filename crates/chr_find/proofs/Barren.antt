@@ -2,8 +2,7 @@
 use Rattle.std.proofs.Common.{◌≡◌, ◌∙◌, ◌+◌, ◌==◌, ◌||◌, ℕ, zero, suc, Bool, true, false, cond, List, [], ◌∷◌, ◌++◌, map, Option, Some, None, ap, refl, sym, arith, add-zero}
 use Rattle.std.specs.Prelude.{All, filter, flat_map, slice_get}
 use Rattle.std.proofs.lemmas.List.Elements.{All-cons, All-head, All-nil, All-tail}
-use Rattle.chr_semantics.proofs.Makes.{Extends, Extends-itself, Extends-through, MakesAtom, fit_atom_least, fit_atom_makes, none_some}
-use Rattle.chr_semantics.specs.Cursor.{is_new}
+use Rattle.chr_semantics.proofs.Makes.{Extends, Extends-through, fit_atom_least, fit_atom_makes, none_some}
 use Rattle.chr_semantics.specs.Join.{Joined, after_row, branch, joined}
 use Rattle.chr_semantics.specs.Match.{Row, fit_atom}
 use Rattle.chr_semantics.specs.Program.{Atom, Head}

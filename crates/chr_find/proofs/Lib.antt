@@ -8,6 +8,7 @@ pub mod FiringMaps
 pub mod FoundLaw
 pub mod FoundLists
 pub mod Gates
+pub mod GroundRows
 pub mod Held
 pub mod JoinEnds
 pub mod JoinSteps

@@ -66,7 +66,7 @@ in_open ps a (Some x) e = by_ground (is_ground_trees x.args) refl e
         some_is : (x y : Atom) → ◌≡◌ {A = Option Atom} (Some x) (Some y) → x ≡ y
         some_is x y e = cc
 
-ground_same : (s : Subst) (a : Atom) → is_ground_trees a.args ≡ true → resolved_atom s a ≡ a
+pub ground_same : (s : Subst) (a : Atom) → is_ground_trees a.args ≡ true → resolved_atom s a ≡ a
 ground_same s a g = λ i. record { sym = a.sym; args = ground_stays_all (value_at s) a.args g i }
 
 abbrev pub or_else : Option Atom → Option Atom → Option Atom
@@ -120,7 +120,7 @@ filter_twice p q (c ∷ rows) h = by_test (q c) refl (filter_twice p q rows h)
     by_test true e go = ap (λ (l : List semantics.Row). cond (p c) (c ∷ l) l) go
     by_test false e go = go ∙ ap (λ (b : Bool). cond b (c ∷ filter p rows) (filter p rows)) (sym (h c e))
 
-closed_stays : (s : Subst) (c : semantics.Row) → not (is_ground_trees c.1.args) ≡ false → is_open s c ≡ false
+pub closed_stays : (s : Subst) (c : semantics.Row) → not (is_ground_trees c.1.args) ≡ false → is_open s c ≡ false
 closed_stays s c e =
     let ground : is_ground_trees c.1.args ≡ true = was_true (is_ground_trees c.1.args) e in
     ap not (ap is_ground_trees (ground_stays_all (value_at s) c.1.args ground) ∙ ground)

@@ -18,6 +18,10 @@ IsEnough ps head m l = (c : Row) → has_list (ps c.1.sym) c.1 l ≡ false → f
 abbrev pub IsOneOf : Listing → Listing → Listing → Type 0
 IsOneOf one other l = (ps : ℕ → List ℕ) (head : Atom) (m : Subst) → IsEnough ps head m one → IsEnough ps head m other → IsEnough ps head m l
 
+-- the list has rows enough, if rows are found by the position
+abbrev pub IsEnoughAt : {A : Type 0} → Match A → Atom → ℕ → Listing → Type 0
+IsEnoughAt matching head p l = (ps : ℕ → List ℕ) (m : Subst) → list_any (λ q. q == p) (ps head.sym) ≡ true → AgreesWith matching m → IsEnough ps head m l
+
 -- where the one list has rows enough, so has the other, if rows are found by the position
 abbrev pub StaysEnough : {A : Type 0} → Match A → Atom → ℕ → Listing → Listing → Type 0
 StaysEnough matching head p old new = (ps : ℕ → List ℕ) (m : Subst) → list_any (λ q. q == p) (ps head.sym) ≡ true → AgreesWith matching m → IsEnough ps head m old → IsEnough ps head m new

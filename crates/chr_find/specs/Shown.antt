@@ -1,5 +1,5 @@
 -- The constraints that a table shows.
-use Rattle.std.specs.Prelude.{◌≡◌, ◌<◌, ℕ, Bool, cond, List, [], ◌∷◌, Option, Some, None, option_map, filter}
+use Rattle.std.specs.Prelude.{◌≡◌, ◌<◌, ℕ, Bool, true, cond, List, [], ◌∷◌, Option, Some, None, option_map, filter}
 use Rattle.std.specs.List.{list_any}
 use Rattle.chr_semantics.specs.Cursor.{is_new}
 use Rattle.chr_semantics.specs.Match as semantics
@@ -7,6 +7,7 @@ use Rattle.chr_semantics.specs.Program.{Atom}
 use Rattle.chr_store.specs.Rows.{row_atom}
 use Rattle.chr_store.specs.declared.row.Row.{Row}
 use Rattle.chr_semantics.specs.Search.{atom_of}
+use Rattle.chr_semantics.specs.Tree.{is_ground_trees}
 use Rattle.chr_find.specs.Places.{has_list, held, same_list}
 use Rattle.chr_find.specs.declared.list.List.{List as Listing}
 use Rattle.chr_find.specs.declared.list.Place.{Place}
@@ -25,6 +26,10 @@ module _ {A : Type 0} where
   abbrev pub walk : Listing → List (Place × Row A) → List semantics.Row
   walk l [] = []
   walk l (e ∷ es) = cond (same_list e.0.list l) ((e.0.id.0, row_atom e.1) ∷ walk l es) (walk l es)
+
+-- no constraint has variables
+abbrev pub AreGround : (ℕ → Option Atom) → Type 0
+AreGround f = (i : ℕ) (a : Atom) → f i ≡ Some a → is_ground_trees a.args ≡ true
 
 -- the constraints that are in a list
 abbrev pub rows_in_list : Listing → (ℕ → List ℕ) → List semantics.Row → List semantics.Row

@@ -14,7 +14,7 @@ use crate::join::{Prefix, Search};
 use crate::mode::Mode;
 use crate::past::Past;
 use crate::quiet::has_new;
-use crate::search::{fits, list_for};
+use crate::search::{fits, some_list_for};
 use chr_bind::Match;
 use chr_store::Row;
 use std::alloc::Allocator;
@@ -27,7 +27,7 @@ impl<'a, P: Past, A: Allocator + Copy> Search<'a, P, A> {
             ForRows (positions_of self.now.plan.now) self.now.rows.now (λ rows. IsBarren rows matching.now x) }
     {
         let (sym, args) = &self.rule.heads[level];
-        let list = list_for(self.plan, self.rows, *sym, args.as_slice(), matching);
+        let list = some_list_for(self.plan, *sym, args.as_slice(), matching);
         !has_new(&self.rows.entries(), list, 0)
     }
 

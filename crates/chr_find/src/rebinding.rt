@@ -1,5 +1,6 @@
 //! Bindings, and the rows that they change.
-ghost use Rattle.std.specs.Prelude.{◌≡◌, ◌+◌, IfOk, List, OnOk, Some, ℕ, vec_len};
+ghost use Rattle.std.specs.Prelude.{◌≡◌, ◌+◌, [], IfOk, List, OnOk, Some, ℕ, false, vec_len};
+ghost use Rattle.chr_semantics.specs.Subst.{Subst};
 ghost use Rattle.chr_store.specs.Rows.{row_atom};
 
 use crate::Memory;
@@ -8,7 +9,7 @@ use crate::lists::Change;
 use crate::note::Note;
 use crate::resolving::resolved;
 use crate::standing::{Standing, collect};
-use crate::table::Table;
+use crate::table::{Table, is_open};
 use chr_bind::Bindings;
 use chr_map::{Pointer, Share};
 use chr_store::{Id, Row};
@@ -34,6 +35,17 @@ pub struct Rebound<A: Allocator = Global> {
 
 impl<A: Allocator + Copy> Rebound<A> {
     ghost use Rattle.chr_find.specs.Rebinding.{Adds};
+
+    /// Nothing, where no constraint has variables.
+    fn none(alloc: A) -> Rebound<A>
+        ensures replaced { result.replaced.items ≡ [] }
+        ensures woken { result.woken.items ≡ [] }
+    {
+        Rebound {
+            replaced: Vec::new(alloc),
+            woken: Vec::new(alloc),
+        }
+    }
 
     /// Adds what bindings make of a row that has variables.
     fn add(
@@ -69,8 +81,8 @@ impl<A: Allocator + Copy> Table<A> {
     ghost use Rattle.chr_find.specs.Rebound.{IsRebound};
     ghost use Rattle.chr_find.specs.TableView.{HasRoom, IsSettled, atom_at, atoms_with, fired_at};
 
-    /// What bindings change: the constraints that have variables, with the bindings applied. Makes the room to note it.
-    pub fn rebound(&mut self, bindings: &Bindings<A>) -> Result<Rebound<A>, Memory>
+    /// What bindings change where some constraints may have variables.
+    fn rebound_open(&mut self, bindings: &Bindings<A>) -> Result<Rebound<A>, Memory>
         requires { IsSettled self.old }
         ensures same { (i : ℕ) → atom_at self.new i ≡ atom_at self.old i }
         ensures fired { (r : ℕ) (ids : List ℕ) → fired_at self.new r ids ≡ fired_at self.old r ids }
@@ -78,15 +90,38 @@ impl<A: Allocator + Copy> Table<A> {
     {
         let mut rows = Vec::new(self.alloc);
         collect(&self.noted.rows.entries(), Listing::Open, &mut rows)?;
-        let mut rebound = Rebound {
-            replaced: Vec::new(self.alloc),
-            woken: Vec::new(self.alloc),
-        };
+        self.may_open = !rows.is_empty();
+        let mut rebound = Rebound::none(self.alloc);
         for standing in &rows {
             rebound.add(self.alloc, bindings, standing)?;
         }
         self.room(rebound.replaced.len())?;
         Ok(rebound)
+    }
+
+    /// Where none has, they change nothing.
+    fn rebound_none(&mut self) -> Result<Rebound<A>, Memory>
+        requires { self.old.may_open ≡ false }
+        ensures same { (i : ℕ) → atom_at self.new i ≡ atom_at self.old i }
+        ensures fired { (r : ℕ) (ids : List ℕ) → fired_at self.new r ids ≡ fired_at self.old r ids }
+        ensures ok { IfOk result (λ rebound. (s : Subst) → IsRebound s self.new rebound) }
+    {
+        self.room(0)?;
+        Ok(Rebound::none(self.alloc))
+    }
+
+    /// What bindings change: the constraints that have variables, with the bindings applied. Makes the room to note it.
+    pub fn rebound(&mut self, bindings: &Bindings<A>) -> Result<Rebound<A>, Memory>
+        requires { IsSettled self.old }
+        ensures same { (i : ℕ) → atom_at self.new i ≡ atom_at self.old i }
+        ensures fired { (r : ℕ) (ids : List ℕ) → fired_at self.new r ids ≡ fired_at self.old r ids }
+        ensures ok { IfOk result (IsRebound bindings.now.subst self.new) }
+    {
+        if self.may_open {
+            self.rebound_open(bindings)
+        } else {
+            self.rebound_none()
+        }
     }
 
     /// Notes a row in the place of another.
@@ -100,6 +135,7 @@ impl<A: Allocator + Copy> Table<A> {
     {
         let Replaced { id, old, new } = replaced;
         self.keyed.replace(id, old.value(), new.value());
+        self.may_open = self.may_open | is_open(new.value());
         let out = Change {
             id,
             row: old,

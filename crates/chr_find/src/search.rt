@@ -1,5 +1,5 @@
 //! The search for the first tuple of a rule that can fire.
-ghost use Rattle.std.specs.Prelude.{◌≡◌, ◌∷◌};
+ghost use Rattle.std.specs.Prelude.{◌≡◌, ◌∷◌, IfSome};
 ghost use Rattle.chr_bind.specs.Matching.{AgreesWith};
 ghost use Rattle.chr_semantics.specs.Bounds.{AreBelow};
 ghost use Rattle.chr_semantics.specs.Keys.{pattern_root};
@@ -7,7 +7,7 @@ ghost use Rattle.chr_semantics.specs.Search.{has_number};
 ghost use Rattle.chr_semantics.specs.Subst.{Subst};
 ghost use Rattle.chr_store.specs.Rows.{row_atom};
 ghost use Rattle.chr_term.specs.TermView.{atom_view, trees_view, view};
-ghost use Rattle.chr_find.specs.Enough.{FitsHead, IsEnough, IsOneOf, StaysEnough, TakesAs};
+ghost use Rattle.chr_find.specs.Enough.{FitsHead, IsEnough, IsEnoughAt, IsOneOf, StaysEnough, TakesAs};
 ghost use Rattle.chr_find.specs.PlanView.{positions_of};
 ghost use Rattle.chr_find.specs.RootView.{roots_view};
 
@@ -37,13 +37,34 @@ fn root_under<A: Allocator>(pattern: &Term<A>, matching: &Match<'_, A>) -> Optio
     }
 }
 
-/// The shorter of two lists that are enough; that of a symbol is the longer one.
+/// The list by the position, if the head asks for a root there under the match.
+fn list_at<A: Allocator>(
+    sym: Sym,
+    position: u8,
+    args: &[Term<A>],
+    matching: &Match<'_, A>,
+) -> Option<List>
+    ensures { IfSome result (IsEnoughAt matching.now (atom_view sym args.now) position) }
+{
+    let pattern = match args.get(position as usize) {
+        None => return None,
+        Some(pattern) => pattern,
+    };
+    match root_under(pattern, matching) {
+        None => None,
+        Some(root) => Some(List::At(sym, position, root)),
+    }
+}
+
+/// The shorter of two lists that are enough; that of a symbol is the longer one. Where the first has one row at the most, the other is not
+/// counted.
 fn shorter<A: Allocator + Copy>(rows: &Rows<A>, one: List, other: List) -> List
     ensures { IsOneOf one other result }
 {
     match one {
         List::At(_, _, _) => {
-            if count(&rows.entries(), one) <= count(&rows.entries(), other) {
+            let length = count(&rows.entries(), one);
+            if length <= 1 || length <= count(&rows.entries(), other) {
                 one
             } else {
                 other
@@ -64,14 +85,29 @@ fn shorter_at<A: Allocator + Copy>(
 ) -> List
     ensures { StaysEnough matching.now (atom_view sym args.now) position best result }
 {
-    let pattern = match args.get(position as usize) {
-        None => return best,
-        Some(pattern) => pattern,
-    };
-    match root_under(pattern, matching) {
+    match list_at(sym, position, args, matching) {
         None => best,
-        Some(root) => shorter(rows, best, List::At(sym, position, root)),
+        Some(list) => shorter(rows, best, list),
     }
+}
+
+/// A list with all rows that may fit the head: the first of those by a root that it asks for under the match, or else that of its symbol.
+/// No list is counted.
+pub(crate) fn some_list_for<A: Allocator + Copy>(
+    plan: &Plan<A>,
+    sym: Sym,
+    args: &[Term<A>],
+    matching: &Match<'_, A>,
+) -> List
+    ensures { (m : Subst) → AgreesWith matching.now m →
+        IsEnough (positions_of plan.now) (atom_view sym args.now) m result }
+{
+    for position in plan.positions(sym) {
+        if let Some(list) = list_at(sym, *position, args, matching) {
+            return list;
+        }
+    }
+    List::Symbol(sym)
 }
 
 /// The list to look at for a head: the shortest of those by a root that it asks for under the match, where rows are found by that

@@ -1,10 +1,12 @@
 //! Tables: the living constraints and what has fired with them, to be searched.
 ghost use Rattle.std.specs.Prelude.{◌≡◌, ◌+◌, ◌≤◌, ◌&&◌, ◌||◌, ◌==◌, IfOk, List, None, OnOk, Some, ℕ, false, length, not, option_map};
 ghost use Rattle.chr_semantics.specs.Search.{has_number, same_ids};
+ghost use Rattle.chr_semantics.specs.Tree.{is_ground_trees};
 ghost use Rattle.chr_store.specs.Rows.{row_atom};
 ghost use Rattle.chr_find.specs.AtomCode.{atoms};
 ghost use Rattle.chr_find.specs.KeyedView.{AreListed};
 ghost use Rattle.chr_find.specs.NotedView.{AreShown, noted_atom};
+ghost use Rattle.chr_find.specs.Shown.{AreGround};
 
 use crate::Memory;
 use crate::fired::Fired;
@@ -18,6 +20,7 @@ use crate::plan::Plan;
 use crate::standing::collect;
 use chr_map::{Map, Pointer, Share};
 use chr_store::{Id, Row};
+use chr_term::are_ground;
 use std::alloc::{Allocator, Global};
 
 /// The living constraints with their resolved arguments, by symbol and by what they have at their positions, and the firings whose
@@ -27,9 +30,19 @@ use std::alloc::{Allocator, Global};
 pub struct Table<A: Allocator = Global> {
     pub(crate) noted: Noted<A>,
     pub(crate) keyed: Keyed<A>,
+    /// Whether a constraint may have variables: where none has, bindings change nothing.
+    pub(crate) may_open: bool,
     pub(crate) alloc: A,
     ghost shown: { AreShown noted } by { Prim.hlevel atoms },
     ghost listed: { AreListed (noted_atom noted) keyed },
+    ghost ground: { may_open ≡ false → AreGround (noted_atom noted) },
+}
+
+/// Whether a row has variables.
+pub(crate) fn is_open<A: Allocator>(row: &Row<A>) -> bool
+    ensures { result ≡ not (is_ground_trees (row_atom row.now).args) }
+{
+    !are_ground(row.args.as_slice())
 }
 
 impl<A: Allocator + Copy> Table<A> {
@@ -44,6 +57,7 @@ impl<A: Allocator + Copy> Table<A> {
         Table {
             noted: Noted::new(alloc, plan, Map::new(alloc), Fired::new(alloc)),
             keyed: Keyed::off(),
+            may_open: false,
             alloc,
         }
     }
@@ -68,6 +82,7 @@ impl<A: Allocator + Copy> Table<A> {
         ensures room { (n : ℕ) → HasRoom (n + 1) self.old → HasRoom n self.new }
     {
         self.keyed.enter(id, row.value());
+        self.may_open = self.may_open | is_open(row.value());
         self.noted.note(Note::Changed(Change {
             id,
             row,
@@ -158,6 +173,7 @@ impl<A: Allocator + Copy> Table<A> {
         Ok(Table {
             noted: Noted::new(self.alloc, plan, rows, fired),
             keyed: self.keyed.share()?,
+            may_open: self.may_open,
             alloc: self.alloc,
         })
     }

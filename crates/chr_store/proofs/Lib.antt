@@ -1,6 +1,8 @@
 pub mod Ascending
 pub mod SlotRows
-pub mod SameLook
+pub mod Places
+pub mod SameKey
+pub mod Looked
 pub mod FiredRows
 pub mod Listed
 pub mod Stamped

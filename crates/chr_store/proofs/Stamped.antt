@@ -2,7 +2,6 @@
 use Rattle.std.proofs.Common.{◌≡◌, ◌∙◌, ℕ, ◌+◌, ◌<◌, ◌≤◌, ◌==◌, Bool, true, false, cond, not, ◌&&◌, ◌||◌, List, [], ◌∷◌, ◌++◌, Option, Some, None, take, length, get_or, refl, arith, nat_lt}
 use Rattle.std.proofs.lemmas.List.Elements.{All-filter, All-head, All-push, All-tail}
 use Rattle.std.proofs.lemmas.List.Folds.{list_any_more}
-use Rattle.indexmap.specs.IndexMap.{IndexMap}
 use Rattle.chr_semantics.specs.Match.{Row}
 use Rattle.chr_semantics.specs.Program.{Atom}
 use Rattle.chr_semantics.specs.Search.{atom_of}
@@ -44,26 +43,26 @@ last_more rows ids i d n last call old_last new inside less l e =
     e ∙ (rw (l, list_any_more (λ (j : Id). has_symbol n (atom_of rows j.0)) ids i d inside) (last_once (has_symbol_among rows (take i ids) n) (has_symbol n (atom_of rows (get_or ids i d).0)) last call less))
 
 -- the symbol of a constraint that is there has a stamp
-stamped_test : {S : Type 0} (stamps : IndexMap ℕ Stamp S) (rows : List Row) (r : Row) (i : ℕ) (a : Atom) (b : Bool) → has_stamp stamps r.1.sym ≡ true → (atom_of rows i ≡ Some a → has_stamp stamps a.sym ≡ true) → cond b (Some r.1) (atom_of rows i) ≡ Some a → has_stamp stamps a.sym ≡ true
+stamped_test : (stamps : List Stamp) (rows : List Row) (r : Row) (i : ℕ) (a : Atom) (b : Bool) → has_stamp stamps r.1.sym ≡ true → (atom_of rows i ≡ Some a → has_stamp stamps a.sym ≡ true) → cond b (Some r.1) (atom_of rows i) ≡ Some a → has_stamp stamps a.sym ≡ true
 stamped_test stamps rows r i a true h rest e = let same : r.1 ≡ a = cc in rw (← same) h
 stamped_test stamps rows r i a false h rest e = rest e
 
 none_some : (a : Atom) → ◌≡◌ {A = Option Atom} None (Some a) → ⊥
 none_some a e = cc
 
-pub stamped_at : {S : Type 0} (stamps : IndexMap ℕ Stamp S) (rows : List Row) (i : ℕ) (a : Atom) → AreStamped stamps rows → atom_of rows i ≡ Some a → has_stamp stamps a.sym ≡ true
+pub stamped_at : (stamps : List Stamp) (rows : List Row) (i : ℕ) (a : Atom) → AreStamped stamps rows → atom_of rows i ≡ Some a → has_stamp stamps a.sym ≡ true
 stamped_at stamps [] i a h e = absurd (none_some a e)
 stamped_at stamps (r ∷ rows) i a h e =
     stamped_test stamps rows r i a (r.0 == i) (All-head (λ (r : Row). has_stamp stamps r.1.sym ≡ true) r rows h) (stamped_at stamps rows i a (All-tail (λ (r : Row). has_stamp stamps r.1.sym ≡ true) r rows h)) e
 
 -- each symbol that has a stamp keeps one
-pub stamped_kept : {S : Type 0} (old new : IndexMap ℕ Stamp S) (rows : List Row) → AreStamped old rows → ((n : ℕ) → has_stamp old n ≡ true → has_stamp new n ≡ true) → AreStamped new rows
+pub stamped_kept : (old new : List Stamp) (rows : List Row) → AreStamped old rows → ((n : ℕ) → has_stamp old n ≡ true → has_stamp new n ≡ true) → AreStamped new rows
 stamped_kept old new rows h keep = λ k d inside. keep _ (h k d inside)
 
-pub stamped_without : {S : Type 0} (old new : IndexMap ℕ Stamp S) (rows : List Row) (i : ℕ) → AreStamped old rows → ((n : ℕ) → has_stamp old n ≡ true → has_stamp new n ≡ true) → AreStamped new (rows_without i rows)
+pub stamped_without : (old new : List Stamp) (rows : List Row) (i : ℕ) → AreStamped old rows → ((n : ℕ) → has_stamp old n ≡ true → has_stamp new n ≡ true) → AreStamped new (rows_without i rows)
 stamped_without old new rows i h keep = All-filter (λ (q : Row). not (q.0 == i)) (λ (q : Row). has_stamp new q.1.sym ≡ true) rows (stamped_kept old new rows h keep)
 
-pub stamped_put : {S : Type 0} (old new : IndexMap ℕ Stamp S) (rows : List Row) (r : Row) → AreStamped old rows → ((n : ℕ) → has_stamp old n ≡ true → has_stamp new n ≡ true) → has_stamp new r.1.sym ≡ true → AreStamped new (rows ++ r ∷ [])
+pub stamped_put : (old new : List Stamp) (rows : List Row) (r : Row) → AreStamped old rows → ((n : ℕ) → has_stamp old n ≡ true → has_stamp new n ≡ true) → has_stamp new r.1.sym ≡ true → AreStamped new (rows ++ r ∷ [])
 stamped_put old new rows r h keep has = All-push (λ (q : Row). has_stamp new q.1.sym ≡ true) rows r (stamped_kept old new rows h keep) has
 
 -- a stamp that is raised for a later call than all before

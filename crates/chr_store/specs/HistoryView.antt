@@ -16,4 +16,4 @@ firings_view fs = map fired_view fs
 
 -- the entries in order, and the stamps of the rules
 abbrev pub entries_view : {A : Type 0} → History A → semantics.Entries
-entries_view h = record { list = firings_view h.entries.keys; stamps = count_at h.stamps.stamps }
+entries_view h = record { list = firings_view h.entries.keys; stamps = count_at h.stamps.stamps.items }

@@ -19,7 +19,7 @@ type FoldState = BuildHasherDefault<FoldHasher>;
 pub struct History<A: Allocator = Global> {
     entries: IndexSet<Fired<A>, FoldState, A>,
     stamps: Stamps<A>,
-    ghost up_to: { AreUpTo stamps.stamps (length entries.keys) },
+    ghost up_to: { AreUpTo stamps.stamps.items (length entries.keys) },
 }
 
 impl<A: Allocator + Copy> History<A> {

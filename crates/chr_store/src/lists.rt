@@ -1,8 +1,10 @@
 //! The identities of the store's constraints, by symbol, by key, and those with variables.
-ghost use Rattle.std.specs.Prelude.{◌≡◌, ◌<◌, ◌≤◌, ◌++◌, ◌∷◌, ◌==◌, [], All, cond, false, filter, not, OnOk};
+ghost use Rattle.std.specs.Prelude.{◌≡◌, ◌<◌, ◌++◌, ◌∷◌, ◌==◌, [], All, Option, Some, cond, filter, not, vec_len, OnOk};
 ghost use Rattle.std.specs.List.Sorted.{IsStrictlyIncreasing};
 ghost use Rattle.chr_term.specs.TermView.{atom_view};
-ghost use Rattle.chr_store.specs.Looks.{AreLooksOf, HasRoomAt, ids_under, is_at, same_look, spare_under};
+ghost use Rattle.chr_semantics.specs.Keys.{same_keys};
+ghost use Rattle.chr_store.specs.KeyView.{keys_view};
+ghost use Rattle.chr_store.specs.Looks.{AreLooksOf, HasRoomAt, is_at};
 ghost use Rattle.chr_store.specs.Numbers.{numbers};
 
 use crate::id::Id;
@@ -16,7 +18,7 @@ use std::hash::{BuildHasherDefault, FoldHasher};
 type FoldState = BuildHasherDefault<FoldHasher>;
 
 /// What a list has the identities of.
-#[derive(Clone, Copy, PartialEq, Eq, Hash, Drop)]
+#[derive(Clone, Copy, Drop)]
 pub(crate) enum Look {
     /// The constraints of a symbol.
     Symbol(Sym),
@@ -47,129 +49,208 @@ impl Looks {
     }
 }
 
+/// The lists of a symbol's constraints, each ascending.
+#[derive(Drop)]
+struct OfSymbol<A: Allocator> {
+    all: Ids<A>,
+    /// Those whose first argument has no key.
+    keyless: Ids<A>,
+    /// Those whose first argument has a key, by that key.
+    keyed: IndexMap<Key, Ids<A>, FoldState, A>,
+}
+
+impl<A: Allocator + Copy> OfSymbol<A> {
+    ghost use Rattle.chr_store.specs.Looks.{ids_keyed, spare_keyed};
+
+    /// No list has an identity.
+    fn new(alloc: A) -> OfSymbol<A>
+        ensures all { result.all.ids ≡ [] }
+        ensures keyed { (key : Option Key) → ids_keyed result key ≡ [] }
+    {
+        OfSymbol {
+            all: Ids::new(alloc),
+            keyless: Ids::new(alloc),
+            keyed: IndexMap::new(alloc),
+        }
+    }
+
+    /// Makes room for one more constraint, and changes nothing else.
+    fn room(&mut self, key: Option<Key>, alloc: A) -> Result<(), Memory>
+        ensures all { self.new.all.ids ≡ self.old.all.ids }
+        ensures keyed { (other : Option Key) → ids_keyed self.new other ≡ ids_keyed self.old other }
+        ensures room_in_all { OnOk result (0 < self.new.all.spare) }
+        ensures room { OnOk result (0 < spare_keyed self.new key) }
+    {
+        self.all.room()?;
+        match key {
+            None => self.keyless.room(),
+            Some(key) => self.keyed.entry(key)?.or_insert(Ids::new(alloc)).room(),
+        }
+    }
+}
+
+impl<A: Allocator> OfSymbol<A> {
+    ghost use Rattle.chr_store.specs.Looks.{ids_keyed, spare_keyed};
+
+    /// Those whose first argument has that key, or has none.
+    fn of(&self, key: Option<Key>) -> &[Id]
+        ensures ids { numbers result.now ≡ ids_keyed self.now key }
+        ensures ascending { IsStrictlyIncreasing (ids_keyed self.now key) }
+    {
+        match key {
+            None => self.keyless.as_slice(),
+            Some(key) => match self.keyed.get(&key) {
+                Some(ids) => ids.as_slice(),
+                None => &[],
+            },
+        }
+    }
+
+    /// Enters an identity that is greater than all, with room for it.
+    fn put(&mut self, key: Option<Key>, id: Id)
+        requires room_in_all { 0 < self.old.all.spare }
+        requires room { 0 < spare_keyed self.old key }
+        requires greatest_of_all { All (λ i. i < id.0) self.old.all.ids }
+        requires greatest { All (λ i. i < id.0) (ids_keyed self.old key) }
+        ensures all { self.new.all.ids ≡ self.old.all.ids ++ id.0 ∷ [] }
+        ensures keyed { (other : Option Key) → ids_keyed self.new other
+            ≡ ids_keyed self.old other ++ cond (same_keys (keys_view other) (keys_view key)) (id.0 ∷ []) [] }
+    {
+        self.all.push_reserved(id);
+        match key {
+            None => self.keyless.push_reserved(id),
+            Some(key) => {
+                if let Some(ids) = self.keyed.get_mut(&key) {
+                    ids.push_reserved(id);
+                }
+            }
+        }
+    }
+
+    /// Takes an identity out of its lists.
+    fn take_out(&mut self, key: Option<Key>, id: Id)
+        ensures all { self.new.all.ids ≡ filter (λ i. not (i == id.0)) self.old.all.ids }
+        ensures keyed { (other : Option Key) → ids_keyed self.new other
+            ≡ cond (same_keys (keys_view other) (keys_view key)) (filter (λ i. not (i == id.0))
+            (ids_keyed self.old other)) (ids_keyed self.old other) }
+    {
+        self.all.take_out(id);
+        match key {
+            None => self.keyless.take_out(id),
+            Some(key) => self.take_keyed(key, id),
+        }
+    }
+
+    /// Takes an identity out of the list of a key. A list that is then empty is let go: only keys are so many that it matters.
+    fn take_keyed(&mut self, key: Key, id: Id)
+        ensures all { self.new.all.ids ≡ self.old.all.ids }
+        ensures keyed { (other : Option Key) → ids_keyed self.new other
+            ≡ cond (same_keys (keys_view other) (keys_view (Some key))) (filter (λ i. not (i == id.0))
+            (ids_keyed self.old other)) (ids_keyed self.old other) }
+    {
+        if let Some(ids) = self.keyed.get_mut(&key) {
+            ids.take_out(id);
+            if ids.as_slice().is_empty() {
+                let _ = self.keyed.swap_remove(&key);
+            }
+        }
+    }
+}
+
 /// The lists, each ascending.
 #[derive(Drop)]
 pub(crate) struct Lists<A: Allocator> {
-    lists: IndexMap<Look, Ids<A>, FoldState, A>,
+    /// By the number of the symbol. One past the end has no constraint.
+    by_symbol: Vec<OfSymbol<A>, A>,
+    open: Ids<A>,
     alloc: A,
 }
 
 impl<A: Allocator + Copy> Lists<A> {
+    ghost use Rattle.chr_store.specs.Looks.{ids_under, spare_under};
+
     /// No list has an identity.
     pub(crate) fn new(alloc: A) -> Lists<A>
-        ensures { (look : Look) → ids_under result.lists look ≡ [] }
+        ensures { (look : Look) → ids_under result look ≡ [] }
     {
         Lists {
-            lists: IndexMap::new(alloc),
+            by_symbol: Vec::new(alloc),
+            open: Ids::new(alloc),
             alloc,
         }
     }
 
     /// Makes room for one more constraint, and changes nothing else.
     pub(crate) fn room(&mut self, at: Looks) -> Result<(), Memory>
-        ensures same { (look : Look) →
-            ids_under self.new.lists look ≡ ids_under self.old.lists look }
-        ensures room { OnOk result (HasRoomAt (spare_under self.new.lists) at) }
+        ensures same { (look : Look) → ids_under self.new look ≡ ids_under self.old look }
+        ensures room { OnOk result (HasRoomAt (spare_under self.new) at) }
     {
-        self.room_in(Look::Symbol(at.sym))?;
-        self.room_in(Look::Keyed(at.sym, at.key))?;
+        self.room_for(at.sym)?;
+        self.by_symbol[at.sym.0 as usize].room(at.key, self.alloc)?;
         if at.has_variables {
-            self.room_in(Look::Open)?;
+            return self.open.room();
         }
         Ok(())
     }
 
-    /// Makes room for one more identity in a list.
-    fn room_in(&mut self, look: Look) -> Result<(), Memory>
-        ensures same { (other : Look) →
-            ids_under self.new.lists other ≡ ids_under self.old.lists other }
-        ensures no_less { (other : Look) →
-            spare_under self.old.lists other ≤ spare_under self.new.lists other }
-        ensures room { OnOk result (0 < spare_under self.new.lists look) }
+    /// Makes the lists of a symbol, where it has none, and changes nothing else.
+    fn room_for(&mut self, sym: Sym) -> Result<(), Memory>
+        ensures same { (look : Look) → ids_under self.new look ≡ ids_under self.old look }
+        ensures there { OnOk result (sym.0 < vec_len self.new.by_symbol) }
     {
-        if let Some(ids) = self.lists.get_mut(&look) {
-            return ids.room();
+        let place = sym.0 as usize;
+        while self.by_symbol.len() <= place {
+            self.by_symbol.push(OfSymbol::new(self.alloc))?;
         }
-        let mut ids = Ids::new(self.alloc);
-        ids.room()?;
-        self.lists.insert(look, ids)?;
         Ok(())
     }
 }
 
 impl<A: Allocator> Lists<A> {
+    ghost use Rattle.chr_store.specs.Looks.{ids_under, spare_under};
+
     /// The identities in a list, ascending.
     pub(crate) fn of(&self, look: Look) -> &[Id]
-        ensures ids { numbers result.now ≡ ids_under self.now.lists look }
-        ensures ascending { IsStrictlyIncreasing (ids_under self.now.lists look) }
+        ensures ids { numbers result.now ≡ ids_under self.now look }
+        ensures ascending { IsStrictlyIncreasing (ids_under self.now look) }
     {
-        match self.lists.get(&look) {
-            Some(ids) => ids.as_slice(),
-            None => &[],
+        match look {
+            Look::Open => self.open.as_slice(),
+            Look::Symbol(sym) => match self.by_symbol.get(sym.0 as usize) {
+                Some(lists) => lists.all.as_slice(),
+                None => &[],
+            },
+            Look::Keyed(sym, key) => match self.by_symbol.get(sym.0 as usize) {
+                Some(lists) => lists.of(key),
+                None => &[],
+            },
         }
     }
 
     /// Enters an identity that is greater than all, with room for it.
     pub(crate) fn put_reserved(&mut self, at: Looks, id: Id)
-        requires room { HasRoomAt (spare_under self.old.lists) at }
-        requires greatest { (look : Look) → All (λ i. i < id.0) (ids_under self.old.lists look) }
-        ensures { (look : Look) → ids_under self.new.lists look
-            ≡ ids_under self.old.lists look ++ cond (is_at at look) (id.0 ∷ []) [] }
+        requires room { HasRoomAt (spare_under self.old) at }
+        requires greatest { (look : Look) → All (λ i. i < id.0) (ids_under self.old look) }
+        ensures { (look : Look) → ids_under self.new look
+            ≡ ids_under self.old look ++ cond (is_at at look) (id.0 ∷ []) [] }
     {
-        self.put_in(Look::Symbol(at.sym), id);
-        self.put_in(Look::Keyed(at.sym, at.key), id);
+        self.by_symbol[at.sym.0 as usize].put(at.key, id);
         if at.has_variables {
-            self.put_in(Look::Open, id);
-        }
-    }
-
-    fn put_in(&mut self, look: Look, id: Id)
-        requires room { 0 < spare_under self.old.lists look }
-        requires greatest { All (λ i. i < id.0) (ids_under self.old.lists look) }
-        ensures ids { (other : Look) → ids_under self.new.lists other
-            ≡ ids_under self.old.lists other ++ cond (same_look look other) (id.0 ∷ []) [] }
-        ensures others { (other : Look) → same_look look other ≡ false →
-            spare_under self.new.lists other ≡ spare_under self.old.lists other }
-    {
-        if let Some(ids) = self.lists.get_mut(&look) {
-            ids.push_reserved(id);
+            self.open.push_reserved(id);
         }
     }
 
     /// Takes an identity out of its lists.
     pub(crate) fn take_out(&mut self, at: Looks, id: Id)
-        ensures { (look : Look) → ids_under self.new.lists look
+        ensures { (look : Look) → ids_under self.new look
             ≡ cond (is_at at look) (filter (λ i. not (i == id.0))
-            (ids_under self.old.lists look)) (ids_under self.old.lists look) }
+            (ids_under self.old look)) (ids_under self.old look) }
     {
-        self.take_from(Look::Symbol(at.sym), id);
-        self.take_from(Look::Keyed(at.sym, at.key), id);
         if at.has_variables {
-            self.take_from(Look::Open, id);
+            self.open.take_out(id);
         }
-    }
-
-    fn take_from(&mut self, look: Look, id: Id)
-        ensures { (other : Look) → ids_under self.new.lists other
-            ≡ cond (same_look look other) (filter (λ i. not (i == id.0))
-            (ids_under self.old.lists other)) (ids_under self.old.lists other) }
-    {
-        match self.lists.get_mut(&look) {
-            Some(ids) => ids.take_out(id),
-            None => return,
-        }
-        self.let_go(look);
-    }
-
-    /// Lets an empty list go. Only keys are so many that it matters.
-    fn let_go(&mut self, look: Look)
-        ensures { (other : Look) →
-            ids_under self.new.lists other ≡ ids_under self.old.lists other }
-    {
-        if let Look::Keyed(_, Some(_)) = look
-            && self.of(look).is_empty()
-        {
-            let _ = self.lists.swap_remove(&look);
+        if let Some(lists) = self.by_symbol.get_mut(at.sym.0 as usize) {
+            lists.take_out(at.key, id);
         }
     }
 }

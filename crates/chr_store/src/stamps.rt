@@ -3,11 +3,7 @@ ghost use Rattle.std.specs.Prelude.{◌≡◌, ◌+◌, ◌==◌, ◌&&◌, ℕ,
 ghost use Rattle.chr_store.specs.Counts.{AreCounted, AreUpTo, count_at, has_stamp, last_at};
 
 use chr_term::Memory;
-use indexmap::IndexMap;
-use std::alloc::Allocator;
-use std::hash::{BuildHasherDefault, FoldHasher};
-
-type FoldState = BuildHasherDefault<FoldHasher>;
+use std::alloc::{AllocError, Allocator};
 
 /// How many calls raised a stamp, and the number of the last of them, from 1.
 #[derive(Clone, Copy, Drop)]
@@ -16,21 +12,21 @@ pub(crate) struct Stamp {
     last: u64,
 }
 
-/// The stamps of numbered things. One that no call has raised is 0.
+/// The stamps of numbered things, by number. One that no call has raised is 0.
 #[derive(Drop)]
 pub(crate) struct Stamps<A: Allocator> {
-    stamps: IndexMap<u64, Stamp, FoldState, A>,
-    ghost counted: { AreCounted stamps },
+    stamps: Vec<Stamp, A>,
+    ghost counted: { AreCounted stamps.items },
 }
 
 impl<A: Allocator + Copy> Stamps<A> {
     /// All are 0.
     pub(crate) fn new(alloc: A) -> Stamps<A>
-        ensures counts { (n : ℕ) → count_at result.stamps n ≡ 0 }
-        ensures up_to { AreUpTo result.stamps 0 }
+        ensures counts { (n : ℕ) → count_at result.stamps.items n ≡ 0 }
+        ensures up_to { AreUpTo result.stamps.items 0 }
     {
         Stamps {
-            stamps: IndexMap::new(alloc),
+            stamps: Vec::new(alloc),
         }
     }
 }
@@ -38,9 +34,9 @@ impl<A: Allocator + Copy> Stamps<A> {
 impl<A: Allocator> Stamps<A> {
     /// The stamp of a number.
     pub(crate) fn of(&self, number: u64) -> u64
-        ensures { result ≡ count_at self.now.stamps number }
+        ensures { result ≡ count_at self.now.stamps.items number }
     {
-        match self.stamps.get(&number) {
+        match self.stamps.get(number as usize) {
             Some(stamp) => stamp.count,
             None => 0,
         }
@@ -48,27 +44,31 @@ impl<A: Allocator> Stamps<A> {
 
     /// Makes room for the stamp of a number, and changes nothing else.
     pub(crate) fn room(&mut self, number: u64) -> Result<(), Memory>
-        ensures counts { (n : ℕ) → count_at self.new.stamps n ≡ count_at self.old.stamps n }
-        ensures lasts { (n : ℕ) → last_at self.new.stamps n ≡ last_at self.old.stamps n }
-        ensures kept { (n : ℕ) → has_stamp self.old.stamps n ≡ true → has_stamp self.new.stamps n ≡ true }
-        ensures room { OnOk result (has_stamp self.new.stamps number ≡ true) }
+        ensures counts { (n : ℕ) → count_at self.new.stamps.items n ≡ count_at self.old.stamps.items n }
+        ensures lasts { (n : ℕ) → last_at self.new.stamps.items n ≡ last_at self.old.stamps.items n }
+        ensures kept { (n : ℕ) → has_stamp self.old.stamps.items n ≡ true → has_stamp self.new.stamps.items n ≡ true }
+        ensures room { OnOk result (has_stamp self.new.stamps.items number ≡ true) }
     {
-        if !self.stamps.contains_key(&number) {
-            self.stamps.insert(number, Stamp { count: 0, last: 0 })?;
+        let place = number as usize;
+        if place < self.stamps.len() {
+            return Ok(());
         }
-        Ok(())
+        match place.checked_add(1) {
+            Some(len) => self.stamps.resize(len, Stamp { count: 0, last: 0 }),
+            None => Err(AllocError),
+        }
     }
 
     /// Raises the stamp of a number for a call, once however often it is asked. The call is the last one so far.
     pub(crate) fn raise(&mut self, number: u64, call: u64)
-        requires room { has_stamp self.old.stamps number ≡ true }
-        ensures counts { (n : ℕ) → count_at self.new.stamps n ≡ count_at self.old.stamps n
-            + cond (number == n && nat_lt (last_at self.old.stamps n) call) 1 0 }
-        ensures lasts { (n : ℕ) → last_at self.new.stamps n
-            ≡ cond (number == n && nat_lt (last_at self.old.stamps n) call) call (last_at self.old.stamps n) }
-        ensures kept { (n : ℕ) → has_stamp self.new.stamps n ≡ has_stamp self.old.stamps n }
+        requires room { has_stamp self.old.stamps.items number ≡ true }
+        ensures counts { (n : ℕ) → count_at self.new.stamps.items n ≡ count_at self.old.stamps.items n
+            + cond (number == n && nat_lt (last_at self.old.stamps.items n) call) 1 0 }
+        ensures lasts { (n : ℕ) → last_at self.new.stamps.items n
+            ≡ cond (number == n && nat_lt (last_at self.old.stamps.items n) call) call (last_at self.old.stamps.items n) }
+        ensures kept { (n : ℕ) → has_stamp self.new.stamps.items n ≡ has_stamp self.old.stamps.items n }
     {
-        if let Some(stamp) = self.stamps.get_mut(&number) {
+        if let Some(stamp) = self.stamps.get_mut(number as usize) {
             if stamp.last < call {
                 stamp.count += 1;
                 stamp.last = call;

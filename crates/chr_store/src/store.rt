@@ -34,9 +34,9 @@ pub struct Store<A: Allocator = Global> {
     stamps: Stamps<A>,
     changes: u64,
     alloc: A,
-    ghost listed: { AreListed (ids_under lists.lists) (rows_in slots) },
-    ghost stamped: { AreStamped stamps.stamps (rows_in slots) },
-    ghost up_to: { AreUpTo stamps.stamps changes },
+    ghost listed: { AreListed (ids_under lists) (rows_in slots) },
+    ghost stamped: { AreStamped stamps.stamps.items (rows_in slots) },
+    ghost up_to: { AreUpTo stamps.stamps.items changes },
     ghost given: { next_in slots ≤ changes + 1 },
     ghost few: { changes ≤ MAX_CHANGES },
 }
@@ -194,14 +194,14 @@ fn make_room<A: Allocator + Copy>(
 ) -> Result<(), Memory>
     ensures slots { slots.new.items.items ≡ slots.old.items.items }
     ensures lists { (look : Look) →
-        ids_under lists.new.lists look ≡ ids_under lists.old.lists look }
-    ensures counts { (n : ℕ) → count_at stamps.new.stamps n ≡ count_at stamps.old.stamps n }
-    ensures lasts { (n : ℕ) → last_at stamps.new.stamps n ≡ last_at stamps.old.stamps n }
-    ensures kept { (n : ℕ) → has_stamp stamps.old.stamps n ≡ true →
-        has_stamp stamps.new.stamps n ≡ true }
+        ids_under lists.new look ≡ ids_under lists.old look }
+    ensures counts { (n : ℕ) → count_at stamps.new.stamps.items n ≡ count_at stamps.old.stamps.items n }
+    ensures lasts { (n : ℕ) → last_at stamps.new.stamps.items n ≡ last_at stamps.old.stamps.items n }
+    ensures kept { (n : ℕ) → has_stamp stamps.old.stamps.items n ≡ true →
+        has_stamp stamps.new.stamps.items n ≡ true }
     ensures slot { OnOk result (vec_len slots.new.items < vec_capacity slots.new.items) }
-    ensures places { OnOk result (HasRoomAt (spare_under lists.new.lists) at) }
-    ensures stamp { OnOk result (has_stamp stamps.new.stamps at.sym.0 ≡ true) }
+    ensures places { OnOk result (HasRoomAt (spare_under lists.new) at) }
+    ensures stamp { OnOk result (has_stamp stamps.new.stamps.items at.sym.0 ≡ true) }
 {
     slots.room()?;
     lists.room(at)?;

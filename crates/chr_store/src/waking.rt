@@ -45,14 +45,14 @@ pub(crate) fn raise_all<A: Allocator>(
     ids: &[Id],
     call: u64,
 )
-    requires earlier { (n : ℕ) → last_at stamps.old.stamps n < call }
-    requires stamped { AreStamped stamps.old.stamps (rows_in slots.now) }
-    ensures counts { (n : ℕ) → count_at stamps.new.stamps n ≡ count_at stamps.old.stamps n
+    requires earlier { (n : ℕ) → last_at stamps.old.stamps.items n < call }
+    requires stamped { AreStamped stamps.old.stamps.items (rows_in slots.now) }
+    ensures counts { (n : ℕ) → count_at stamps.new.stamps.items n ≡ count_at stamps.old.stamps.items n
         + cond (has_symbol_among (rows_in slots.now) ids.now n) 1 0 }
-    ensures lasts { (n : ℕ) → last_at stamps.new.stamps n
+    ensures lasts { (n : ℕ) → last_at stamps.new.stamps.items n
         ≡ cond (has_symbol_among (rows_in slots.now) ids.now n) call
-        (last_at stamps.old.stamps n) }
-    ensures kept { (n : ℕ) → has_stamp stamps.new.stamps n ≡ has_stamp stamps.old.stamps n }
+        (last_at stamps.old.stamps.items n) }
+    ensures kept { (n : ℕ) → has_stamp stamps.new.stamps.items n ≡ has_stamp stamps.old.stamps.items n }
 {
     for id in ids {
         raise_one(slots, stamps, *id, call);
@@ -61,14 +61,14 @@ pub(crate) fn raise_all<A: Allocator>(
 
 /// Raises the stamp of a constraint's symbol for a call, where the constraint is there and the call has not raised it yet.
 fn raise_one<A: Allocator>(slots: &Slots<A>, stamps: &mut Stamps<A>, id: Id, call: u64)
-    requires { AreStamped stamps.old.stamps (rows_in slots.now) }
-    ensures counts { (n : ℕ) → count_at stamps.new.stamps n ≡ count_at stamps.old.stamps n
+    requires { AreStamped stamps.old.stamps.items (rows_in slots.now) }
+    ensures counts { (n : ℕ) → count_at stamps.new.stamps.items n ≡ count_at stamps.old.stamps.items n
         + cond (has_symbol n (atom_of (rows_in slots.now) id.0)
-        && nat_lt (last_at stamps.old.stamps n) call) 1 0 }
-    ensures lasts { (n : ℕ) → last_at stamps.new.stamps n
+        && nat_lt (last_at stamps.old.stamps.items n) call) 1 0 }
+    ensures lasts { (n : ℕ) → last_at stamps.new.stamps.items n
         ≡ cond (has_symbol n (atom_of (rows_in slots.now) id.0)
-        && nat_lt (last_at stamps.old.stamps n) call) call (last_at stamps.old.stamps n) }
-    ensures kept { (n : ℕ) → has_stamp stamps.new.stamps n ≡ has_stamp stamps.old.stamps n }
+        && nat_lt (last_at stamps.old.stamps.items n) call) call (last_at stamps.old.stamps.items n) }
+    ensures kept { (n : ℕ) → has_stamp stamps.new.stamps.items n ≡ has_stamp stamps.old.stamps.items n }
 {
     if let Some(row) = slots.row(id) {
         stamps.raise(u64::from(row.sym.0), call);

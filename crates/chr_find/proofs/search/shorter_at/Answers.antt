@@ -1,8 +1,5 @@
 use Rattle.chr_term.specs.TermView.{atom_view}
-use Rattle.chr_find.proofs.EnoughRows.{list_enough}
 use Rattle.chr_find.proofs.search.shorter_at.Goals as goal
 
-pub returns-in-Some-root_under : goal.returns-in-Some-root_under
-returns-in-Some-root_under g c ps m planned agrees best =
-    c.shorter.ensures ps (atom_view c.args.sym c.args.args.now) m best
-    (list_enough ps c.args.sym c.args.args.now c.args.position c.in-Some.pattern.now c.root_under.result c.in-Some-root_under.root m planned c.in-Some.ensures.lookup.3.0 c.in-Some.ensures.lookup.1 c.in-Some-root_under.is (c.root_under.ensures m agrees))
+pub returns-in-Some : goal.returns-in-Some
+returns-in-Some g c ps m planned agrees best = c.shorter.ensures ps (atom_view c.args.sym c.args.args.now) m best (c.in-Some.ensures ps m planned agrees)

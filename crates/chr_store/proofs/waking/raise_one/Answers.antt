@@ -8,5 +8,5 @@ use Rattle.chr_store.proofs.waking.raise_one.Goals as goal
 pub raise-requires : goal.raise-requires
 raise-requires g c =
     let at = sym c.row.ensures ∙ ap (option_map (λ r. row_atom r.now)) c.in-Some.is in
-    let has = stamped_at c.args.stamps.now.stamps _ c.args.id.0 (row_atom c.in-Some.row.now) c.requires at in
-    record { room = ap (has_stamp c.args.stamps.now.stamps) c.from.ensures ∙ has }
+    let has = stamped_at c.args.stamps.now.stamps.items _ c.args.id.0 (row_atom c.in-Some.row.now) c.requires at in
+    record { room = ap (has_stamp c.args.stamps.now.stamps.items) c.from.ensures ∙ has }

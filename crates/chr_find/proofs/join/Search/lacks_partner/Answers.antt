@@ -1,4 +1,4 @@
-use Rattle.std.proofs.Common.{◌≡◌, ◌<◌, arith, length}
+use Rattle.std.proofs.Common.{◌<◌, arith, length}
 use Rattle.std.proofs.lemmas.Bool.{ne_eqb}
 use Rattle.chr_rules.specs.RuleView.{rule_view}
 use Rattle.chr_find.proofs.RuleHeads.{heads_length}

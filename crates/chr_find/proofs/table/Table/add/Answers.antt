@@ -4,6 +4,7 @@ use Rattle.chr_store.specs.declared.row.Row.{Row}
 use Rattle.chr_find.specs.NotedView.{noted_atom}
 use Rattle.chr_find.specs.TableView.{atoms_with}
 use Rattle.chr_find.specs.declared.lists.Change.{Change}
+use Rattle.chr_find.proofs.GroundRows.{ground_added, ground_alike}
 use Rattle.chr_find.proofs.KeyedTables.{listed_alike}
 use Rattle.chr_find.proofs.TableFired.{fired_same}
 use Rattle.chr_find.proofs.TableRows.{atoms_changed, shown_changed}
@@ -21,6 +22,10 @@ invariant_of-self g c =
     record {
       shown = shown_changed c.note.new.self t.noted change c.note.ensures.rows t.shown was c.note.ensures.plan;
       listed = listed_alike (atoms_with (noted_atom t.noted) id.0 (Some (row_atom c.value.result.now))) (noted_atom c.note.new.self) c.enter.new.self same (c.enter.ensures.lists (noted_atom t.noted) t.listed was);
+      ground = λ none.
+          ground_alike (atoms_with (noted_atom t.noted) id.0 (Some (row_atom c.value-2.result.now))) (noted_atom c.note.new.self)
+          (λ i. atoms_changed c.note.new.self t.noted change c.note.ensures.rows t.shown was i ∙ ap (λ (r : Row g.row.A.Denot). atoms_with (noted_atom t.noted) id.0 (Some (row_atom r)) i) (sym c.value-2.ensures))
+          (ground_added (noted_atom t.noted) id.0 (row_atom c.value-2.result.now) t.may_open c.is_open.result t.ground c.is_open.ensures none);
     }
 
 pub returns-clause-atoms : goal.returns-clause-atoms

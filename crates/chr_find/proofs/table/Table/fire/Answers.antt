@@ -3,6 +3,7 @@ use Rattle.chr_find.specs.Firings.{same_firing}
 use Rattle.chr_find.specs.NotedView.{fired_in}
 use Rattle.chr_find.specs.declared.firings.Firing.{Firing}
 use Rattle.chr_find.specs.NotedView.{noted_atom}
+use Rattle.chr_find.proofs.GroundRows.{ground_alike}
 use Rattle.chr_find.proofs.KeyedTables.{listed_alike, room_less}
 use Rattle.chr_find.proofs.TableFired.{fired_more}
 use Rattle.chr_find.proofs.TableRows.{atoms_same, shown_same}
@@ -14,6 +15,7 @@ invariant_of-self g c =
     record {
       shown = shown_same c.note.new.self t.noted c.note.ensures.rows c.note.ensures.plan t.shown;
       listed = listed_alike (noted_atom t.noted) (noted_atom c.note.new.self) t.keyed (atoms_same c.note.new.self t.noted c.note.ensures.rows) t.listed;
+      ground = λ none. ground_alike (noted_atom t.noted) (noted_atom c.note.new.self) (atoms_same c.note.new.self t.noted c.note.ensures.rows) (t.ground none);
     }
 
 pub returns-clause-same : goal.returns-clause-same

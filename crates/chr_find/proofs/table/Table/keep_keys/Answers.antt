@@ -34,4 +34,5 @@ invariant_of-self g c =
     record {
       shown = t.shown;
       listed = listed_alike (atom_of (standing_rows l)) (noted_atom t.noted) c.in_ok-self.field-0 (λ i. sym (all_looked t c.requires up i) ∙ ap (λ (rows : List semantics.Row). atom_of rows i) (sym all)) c.in_ok-self.ensures.lists;
+      ground = t.ground;
     }

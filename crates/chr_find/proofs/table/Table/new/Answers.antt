@@ -3,12 +3,13 @@ use Rattle.chr_store.specs.declared.row.Row.{Row}
 use Rattle.chr_find.specs.NotedView.{noted_atom}
 use Rattle.chr_find.specs.Places.{held}
 use Rattle.chr_find.specs.declared.list.Place.{Place}
+use Rattle.chr_find.proofs.GroundRows.{ground_nowhere}
 use Rattle.chr_find.proofs.TableFired.{fired_none}
 use Rattle.chr_find.proofs.TableRows.{atoms_none, shown_none}
 use Rattle.chr_find.proofs.table.Table.new.Goals as goal
 
 pub invariant_of-result : goal.invariant_of-result
-invariant_of-result g c = record { shown = shown_none c.new-3.result (λ q. c.new-3.ensures.rows q ∙ ap (λ (es : List (Place × Row g.row.A.Denot)). held es q) c.new.ensures); listed = c.off.ensures.lists (noted_atom c.new-3.result) }
+invariant_of-result g c = record { shown = shown_none c.new-3.result (λ q. c.new-3.ensures.rows q ∙ ap (λ (es : List (Place × Row g.row.A.Denot)). held es q) c.new.ensures); listed = c.off.ensures.lists (noted_atom c.new-3.result); ground = λ none. ground_nowhere (noted_atom c.new-3.result) (atoms_none c.new-3.result (λ q. c.new-3.ensures.rows q ∙ ap (λ (es : List (Place × Row g.row.A.Denot)). held es q) c.new.ensures)) }
 
 pub returns-clause-atoms : goal.returns-clause-atoms
 returns-clause-atoms g c = atoms_none c.new-3.result (λ q. c.new-3.ensures.rows q ∙ ap (λ (es : List (Place × Row g.row.A.Denot)). held es q) c.new.ensures)

@@ -1,4 +1,4 @@
-use Rattle.std.proofs.Common.{◌≡◌, ◌+◌, [], arith, length, subst, take, ℕ}
+use Rattle.std.proofs.Common.{◌≡◌, [], arith, length, subst, take, ℕ}
 use Rattle.chr_semantics.specs.Join.{own_joined}
 use Rattle.chr_find.specs.Finding.{heads_of, rule_of}
 use Rattle.chr_find.specs.Finds.{Finds}

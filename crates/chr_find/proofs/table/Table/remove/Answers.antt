@@ -4,6 +4,7 @@ use Rattle.chr_store.specs.declared.row.Row.{Row}
 use Rattle.chr_find.specs.NotedView.{noted_atom}
 use Rattle.chr_find.specs.TableView.{atoms_with}
 use Rattle.chr_find.specs.declared.lists.Change.{Change}
+use Rattle.chr_find.proofs.GroundRows.{ground_alike, ground_without}
 use Rattle.chr_find.proofs.KeyedTables.{listed_alike}
 use Rattle.chr_find.proofs.TableFired.{fired_without}
 use Rattle.chr_find.proofs.TableRows.{atoms_changed, shown_changed}
@@ -19,6 +20,7 @@ invariant_of-self g c =
       shown = shown_changed c.note.new.self t.noted change c.note.ensures.rows t.shown was c.note.ensures.plan;
       listed = listed_alike (atoms_with (noted_atom t.noted) id.0 None) (noted_atom c.note.new.self) c.leave.new.self (atoms_changed c.note.new.self t.noted change c.note.ensures.rows t.shown was)
           (c.leave.ensures.lists (noted_atom t.noted) t.listed (was ∙ ap (λ (r : Row g.row.A.Denot). Some (row_atom r)) (sym c.value.ensures)));
+      ground = λ none. ground_alike (atoms_with (noted_atom t.noted) id.0 None) (noted_atom c.note.new.self) (atoms_changed c.note.new.self t.noted change c.note.ensures.rows t.shown was) (ground_without (noted_atom t.noted) id.0 (t.ground none));
     }
 
 pub returns-clause-atoms : goal.returns-clause-atoms

@@ -3,6 +3,7 @@ use Rattle.chr_store.specs.Rows.{row_atom}
 use Rattle.chr_store.specs.declared.row.Row.{Row}
 use Rattle.chr_find.specs.NotedView.{noted_atom}
 use Rattle.chr_find.specs.TableView.{atoms_with}
+use Rattle.chr_find.proofs.GroundRows.{ground_added, ground_alike}
 use Rattle.chr_find.proofs.KeyedTables.{listed_alike}
 use Rattle.chr_find.proofs.TableFired.{fired_same}
 use Rattle.chr_find.proofs.TableRows.{atoms_replaced, shown_replaced}
@@ -20,6 +21,10 @@ invariant_of-self g c =
       shown = shown_replaced c.note.new.self t.noted r.id r.old r.new c.note.ensures.rows t.shown was c.note.ensures.plan;
       listed = listed_alike (atoms_with (noted_atom t.noted) r.id.0 (Some (row_atom c.value-2.result.now))) (noted_atom c.note.new.self) c.replace.new.self same
           (c.replace.ensures.lists (noted_atom t.noted) t.listed (was ∙ ap (λ (x : Row g.row.A.Denot). Some (row_atom x)) (sym c.value.ensures)));
+      ground = λ none.
+          ground_alike (atoms_with (noted_atom t.noted) r.id.0 (Some (row_atom c.value-3.result.now))) (noted_atom c.note.new.self)
+          (λ i. atoms_replaced c.note.new.self t.noted r.id r.old r.new c.note.ensures.rows t.shown was i ∙ ap (λ (x : Row g.row.A.Denot). atoms_with (noted_atom t.noted) r.id.0 (Some (row_atom x)) i) (sym c.value-3.ensures))
+          (ground_added (noted_atom t.noted) r.id.0 (row_atom c.value-3.result.now) t.may_open c.is_open.result t.ground c.is_open.ensures none);
     }
 
 pub returns-clause-atoms : goal.returns-clause-atoms

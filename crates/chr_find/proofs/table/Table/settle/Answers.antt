@@ -1,11 +1,12 @@
 use Rattle.chr_find.specs.NotedView.{noted_atom}
+use Rattle.chr_find.proofs.GroundRows.{ground_alike}
 use Rattle.chr_find.proofs.KeyedTables.{listed_alike}
 use Rattle.chr_find.proofs.TableFired.{fired_same}
 use Rattle.chr_find.proofs.TableRows.{atoms_same, shown_same}
 use Rattle.chr_find.proofs.table.Table.settle.Goals as goal
 
 pub invariant_of-self : goal.invariant_of-self
-invariant_of-self g c = let t = c.args.self.now in record { shown = t.shown; listed = c.settle.ensures.lists (noted_atom t.noted) t.listed }
+invariant_of-self g c = let t = c.args.self.now in record { shown = t.shown; listed = c.settle.ensures.lists (noted_atom t.noted) t.listed; ground = t.ground }
 
 pub invariant_of-self-2 : goal.invariant_of-self-2
 invariant_of-self-2 g c =
@@ -13,6 +14,7 @@ invariant_of-self-2 g c =
     record {
       shown = shown_same c.settle-2.new.self t.noted c.settle-2.ensures.rows c.settle-2.ensures.plan t.shown;
       listed = listed_alike (noted_atom t.noted) (noted_atom c.settle-2.new.self) c.settle.new.self (atoms_same c.settle-2.new.self t.noted c.settle-2.ensures.rows) (c.settle.ensures.lists (noted_atom t.noted) t.listed);
+      ground = λ none. ground_alike (noted_atom t.noted) (noted_atom c.settle-2.new.self) (atoms_same c.settle-2.new.self t.noted c.settle-2.ensures.rows) (t.ground none);
     }
 
 pub returns-clause-same : goal.returns-clause-same

@@ -11,7 +11,7 @@ pub returns-else-is_new-clause-is_new : goal.returns-else-is_new-clause-is_new
 returns-else-is_new-clause-is_new g c = c.in_ok-is_new.ensures.added ∙ ap not (fired_among c.args.fired c.args.self.now.entries.keys)
 
 pub returns-then-is_new-clause-ok : goal.returns-then-is_new-clause-ok
-returns-then-is_new-clause-ok g c = entered_as c.args.fired c.args.self.now.entries.keys c.insert_full.new.self.keys (count_at c.args.self.now.stamps.stamps) (count_at c.raise.new.self.stamps) _ c.in_ok-is_new.ensures.added c.in_ok-is_new.ensures.keys (λ n. rw c.if-is_new.true (count_raised c.args.fired.rule n (count_at c.args.self.now.stamps.stamps n) (count_at c.room.new.self.stamps n) (last_at c.room.new.self.stamps n) c.len.result (count_at c.raise.new.self.stamps n) (c.room.ensures.counts n) (omega (arith, c.room.ensures.lasts n, c.args.self.now.up_to n, c.len.ensures, rw c.if-is_new.true at c.in_ok-is_new.ensures.len)) (c.raise.ensures.counts n)))
+returns-then-is_new-clause-ok g c = entered_as c.args.fired c.args.self.now.entries.keys c.insert_full.new.self.keys (count_at c.args.self.now.stamps.stamps.items) (count_at c.raise.new.self.stamps.items) _ c.in_ok-is_new.ensures.added c.in_ok-is_new.ensures.keys (λ n. rw c.if-is_new.true (count_raised c.args.fired.rule n (count_at c.args.self.now.stamps.stamps.items n) (count_at c.room.new.self.stamps.items n) (last_at c.room.new.self.stamps.items n) c.len.result (count_at c.raise.new.self.stamps.items n) (c.room.ensures.counts n) (omega (arith, c.room.ensures.lasts n, c.args.self.now.up_to n, c.len.ensures, rw c.if-is_new.true at c.in_ok-is_new.ensures.len)) (c.raise.ensures.counts n)))
 
 pub returns-else-is_new-clause-ok : goal.returns-else-is_new-clause-ok
-returns-else-is_new-clause-ok g c = entered_as c.args.fired c.args.self.now.entries.keys c.insert_full.new.self.keys (count_at c.args.self.now.stamps.stamps) (count_at c.room.new.self.stamps) _ c.in_ok-is_new.ensures.added c.in_ok-is_new.ensures.keys (λ n. rw c.if-is_new.false (c.room.ensures.counts n ∙ omega arith))
+returns-else-is_new-clause-ok g c = entered_as c.args.fired c.args.self.now.entries.keys c.insert_full.new.self.keys (count_at c.args.self.now.stamps.stamps.items) (count_at c.room.new.self.stamps.items) _ c.in_ok-is_new.ensures.added c.in_ok-is_new.ensures.keys (λ n. rw c.if-is_new.false (c.room.ensures.counts n ∙ omega arith))

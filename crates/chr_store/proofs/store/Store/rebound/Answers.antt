@@ -17,7 +17,7 @@ rebound_some s (i ∷ is) h = refl
 
 pub returns : goal.returns
 returns g c =
-    let counts : (n : ℕ) → count_at c.raise_all.new.stamps.stamps n ≡ count_at c.args.self.now.stamps.stamps n + cond (list_any (is_row_among n c.args.ids.now) (rows_in c.args.self.now.slots)) 1 0 =
-    λ n. c.raise_all.ensures.counts n ∙ ap (λ (b : Bool). count_at c.args.self.now.stamps.stamps n + cond b 1 0) (symbols_among n 1 (1 + length c.args.self.now.slots.items.items) (rows_in c.args.self.now.slots) c.args.ids.now (Ascends-rows 1 c.args.self.now.slots.items.items)) in
+    let counts : (n : ℕ) → count_at c.raise_all.new.stamps.stamps.items n ≡ count_at c.args.self.now.stamps.stamps.items n + cond (list_any (is_row_among n c.args.ids.now) (rows_in c.args.self.now.slots)) 1 0 =
+    λ n. c.raise_all.ensures.counts n ∙ ap (λ (b : Bool). count_at c.args.self.now.stamps.stamps.items n + cond b 1 0) (symbols_among n 1 (1 + length c.args.self.now.slots.items.items) (rows_in c.args.self.now.slots) c.args.ids.now (Ascends-rows 1 c.args.self.now.slots.items.items)) in
     let old : Store = store_view c.args.self.now in
     (λ i. record { rows = old.rows; next_id = old.next_id; stamps = fun_ext counts i; changes = old.changes + 1 }) ∙ rebound_some old c.args.ids.now c.if-ids-eq0.false

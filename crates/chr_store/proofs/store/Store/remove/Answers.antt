@@ -17,17 +17,17 @@ use Rattle.chr_store.proofs.store.Store.remove.Goals as goal
 pub raise-requires : goal.raise-requires
 raise-requires g c =
     let at : atom_of (rows_in c.args.self.now.slots) c.args.id.0 ≡ Some (row_atom c.in-Some.row) = sym c.take.ensures.row ∙ ap (option_map row_atom) c.in-Some.is in
-    record { room = ap (has_stamp c.args.self.now.stamps.stamps) c.from.ensures ∙ stamped_at c.args.self.now.stamps.stamps (rows_in c.args.self.now.slots) c.args.id.0 (row_atom c.in-Some.row) c.args.self.now.stamped at }
+    record { room = ap (has_stamp c.args.self.now.stamps.stamps.items) c.from.ensures ∙ stamped_at c.args.self.now.stamps.stamps.items (rows_in c.args.self.now.slots) c.args.id.0 (row_atom c.in-Some.row) c.args.self.now.stamped at }
 
 pub invariant_of-self-2 : goal.invariant_of-self-2
 invariant_of-self-2 g c =
     let at : atom_of (rows_in c.args.self.now.slots) c.args.id.0 ≡ Some (row_atom c.in-Some.row) = sym c.take.ensures.row ∙ ap (option_map row_atom) c.in-Some.is in
     let looks : AreLooksOf (row_atom c.in-Some.row) c.of.result = subst (λ l. AreLooksOf (atom_view c.in-Some.row.sym l) c.of.result) c.as_slice.ensures.value c.of.ensures in
-    let less : (n : ℕ) → last_at c.args.self.now.stamps.stamps n < c.args.self.now.changes + 1 = λ n. omega (arith, c.args.self.now.up_to n) in
+    let less : (n : ℕ) → last_at c.args.self.now.stamps.stamps.items n < c.args.self.now.changes + 1 = λ n. omega (arith, c.args.self.now.up_to n) in
     record {
-      listed = rw c.take.ensures.rows (AreListed-taken (rows_in c.args.self.now.slots) c.args.id.0 (row_atom c.in-Some.row) c.of.result 1 (1 + length c.args.self.now.slots.items.items) (ids_under c.args.self.now.lists.lists) (ids_under c.take_out.new.self.lists) looks (Ascends-rows 1 c.args.self.now.slots.items.items) at c.args.self.now.listed c.take_out.ensures);
-      stamped = rw c.take.ensures.rows (stamped_without c.args.self.now.stamps.stamps c.raise.new.self.stamps (rows_in c.args.self.now.slots) c.args.id.0 c.args.self.now.stamped (λ n has. c.raise.ensures.kept n ∙ has));
-      up_to = λ n. last_raised (c.in-Some.row.sym.0 == n && nat_lt (last_at c.args.self.now.stamps.stamps n) (c.args.self.now.changes + 1)) (last_at c.args.self.now.stamps.stamps n) (c.args.self.now.changes + 1) (last_at c.raise.new.self.stamps n) (less n) (rw c.from.ensures at (c.raise.ensures.lasts n));
+      listed = rw c.take.ensures.rows (AreListed-taken (rows_in c.args.self.now.slots) c.args.id.0 (row_atom c.in-Some.row) c.of.result 1 (1 + length c.args.self.now.slots.items.items) (ids_under c.args.self.now.lists) (ids_under c.take_out.new.self) looks (Ascends-rows 1 c.args.self.now.slots.items.items) at c.args.self.now.listed c.take_out.ensures);
+      stamped = rw c.take.ensures.rows (stamped_without c.args.self.now.stamps.stamps.items c.raise.new.self.stamps.items (rows_in c.args.self.now.slots) c.args.id.0 c.args.self.now.stamped (λ n has. c.raise.ensures.kept n ∙ has));
+      up_to = λ n. last_raised (c.in-Some.row.sym.0 == n && nat_lt (last_at c.args.self.now.stamps.stamps.items n) (c.args.self.now.changes + 1)) (last_at c.args.self.now.stamps.stamps.items n) (c.args.self.now.changes + 1) (last_at c.raise.new.self.stamps.items n) (less n) (rw c.from.ensures at (c.raise.ensures.lasts n));
       given = omega (arith, c.take.ensures.next, c.args.self.now.given);
       few = omega arith;
     }
@@ -35,9 +35,9 @@ invariant_of-self-2 g c =
 pub returns : goal.returns
 returns g c =
     let at : atom_of (rows_in c.args.self.now.slots) c.args.id.0 ≡ Some (row_atom c.in-Some.row) = sym c.take.ensures.row ∙ ap (option_map row_atom) c.in-Some.is in
-    let less : (n : ℕ) → last_at c.args.self.now.stamps.stamps n < c.args.self.now.changes + 1 = λ n. omega (arith, c.args.self.now.up_to n) in
-    let counts : (n : ℕ) → count_at c.raise.new.self.stamps n ≡ count_at c.args.self.now.stamps.stamps n + cond (c.in-Some.row.sym.0 == n) 1 0 =
-    λ n. count_raised c.in-Some.row.sym.0 n (count_at c.args.self.now.stamps.stamps n) (count_at c.args.self.now.stamps.stamps n) (last_at c.args.self.now.stamps.stamps n) (c.args.self.now.changes + 1) (count_at c.raise.new.self.stamps n) refl (less n) (rw c.from.ensures at (c.raise.ensures.counts n)) in
+    let less : (n : ℕ) → last_at c.args.self.now.stamps.stamps.items n < c.args.self.now.changes + 1 = λ n. omega (arith, c.args.self.now.up_to n) in
+    let counts : (n : ℕ) → count_at c.raise.new.self.stamps.items n ≡ count_at c.args.self.now.stamps.stamps.items n + cond (c.in-Some.row.sym.0 == n) 1 0 =
+    λ n. count_raised c.in-Some.row.sym.0 n (count_at c.args.self.now.stamps.stamps.items n) (count_at c.args.self.now.stamps.stamps.items n) (last_at c.args.self.now.stamps.stamps.items n) (c.args.self.now.changes + 1) (count_at c.raise.new.self.stamps.items n) refl (less n) (rw c.from.ensures at (c.raise.ensures.counts n)) in
     let old : Store = store_view c.args.self.now in
     record {
       store = (λ i. record { rows = c.take.ensures.rows i; next_id = c.take.ensures.next i; stamps = fun_ext counts i; changes = c.args.self.now.changes + 1 }) ∙ ap (removed_as old c.args.id.0) (sym at);
