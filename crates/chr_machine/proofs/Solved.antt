@@ -5,11 +5,12 @@ use Rattle.chr_semantics.specs.Changes.{Store, rebound, woken}
 use Rattle.chr_semantics.specs.Mgu.{mgu}
 use Rattle.chr_semantics.specs.Guard.{comparison_holds}
 use Rattle.chr_semantics.specs.Program.{Comparison, Goal, constraint, tell, evaluate, compare, fail}
+use Rattle.std.specs.Prelude.{IfOk, OnOk}
 use Rattle.chr_semantics.specs.State.{Element, State, Status, failed, goal, status_at, with_stack}
-use Rattle.chr_semantics.specs.Step.{bind_step, compare_step, solve, with_status, woken_elements}
-use Rattle.chr_semantics.specs.Subst.{Subst, apply}
+use Rattle.chr_semantics.specs.Step.{bind_step, compare_step, goal_instance, solve, with_status, woken_elements}
+use Rattle.chr_semantics.specs.Subst.{Subst, apply, value_at}
 use Rattle.chr_semantics.specs.Text.{line_text}
-use Rattle.chr_semantics.specs.Trace.{solve_line, solves}
+use Rattle.chr_semantics.specs.Trace.{fails, solve_line, solves}
 use Rattle.chr_semantics.specs.Tree.{Tree}
 use Rattle.chr_rules.specs.ProgramView.{names_of, rules_of}
 use Rattle.chr_semantics.specs.Value.{Fault, value}
@@ -17,10 +18,13 @@ use Rattle.chr_trace.specs.State.{elem_view, stack_view, status_view}
 use Rattle.chr_trace.specs.Texts.{texts}
 use Rattle.chr_trace.specs.declared.state.Elem.{Elem}
 use Rattle.chr_trace.specs.declared.state.Status as declared
+use Rattle.chr_trace.specs.declared.state.Status.TheVariants.{Failed}
 use Rattle.chr_base.specs.BaseView.{BaseModel}
 use Rattle.chr_resume.specs.ResumingView.{base_in, program_in}
 use Rattle.chr_machine.specs.Model.{Model, model_of, state_in, topped}
-use Rattle.chr_machine.specs.Solving.{IsBuiltIn, Logged, Reaches, line_of, shown, with_goal}
+use Rattle.chr_machine.specs.Solving.{IsBuiltIn, Logged, Reaches, Tells, line_of, shown, with_goal}
+use Rattle.chr_machine.specs.declared.solving.Solved.{Solved}
+use Rattle.chr_machine.specs.declared.solving.Solved.TheVariants.{Ends}
 use Rattle.chr_machine.specs.Step.{Counts, IsAfter, IsSameBelow, Kept, Makes, SameRun}
 use Rattle.chr_machine.specs.declared.state.Execution.{Execution}
 use Rattle.chr_machine.proofs.Constraints.{after_later}
@@ -121,6 +125,20 @@ module _ (m n : Model) (g : Goal) where
     -- nothing makes them equal
     pub told_clash : mgu m.base.subst t u ≡ None → told ≡ with_status (with_goal g m) failed
     told_clash is = ap (λ (o : Option Subst). bind_step (with_goal g m) m.stack o) is
+
+-- telling fails, after nothing that shows has changed
+module _ {A : Type 0} (old mid new : Execution A) (g : Goal) (t u : Tree) (kept : Kept old mid) (clash : mgu (base_in old.base).subst t u ≡ None) where
+  line_failed : line_text (names_of (program_in mid.base)) mid.var_names (mid.steps + 1) (fails (shown (model_of mid) g)) ≡ line_of (model_of old) g (told (model_of old) (model_of new) g t u)
+  line_failed =
+      let m = model_of old in
+      (λ k. line_text (names_of (kept.program k)) (kept.var_names k) (kept.steps k + 1) (fails (goal_instance (value_at (kept.base k).subst) g)))
+      ∙ ap (λ (s : State). line_text m.names m.var_names (m.steps + 1) (solve_line (shown m g) s.status)) (sym (told_clash m (model_of new) g t u clash))
+
+  pub clash_fails : {E : Type 0} (r : Result Solved E) → IfOk r (λ s. s ≡ Ends Failed) → OnOk r (Logged (line_text (names_of (program_in mid.base)) mid.var_names (mid.steps + 1) (fails (shown (model_of mid) g))) mid new) → IfOk r (λ s. Tells g old new s t u)
+  clash_fails (Err e) ends logged = ends
+  clash_fails (Ok s) ends logged =
+      subst (λ (x : Solved). Tells g old new x t u) (sym ends)
+      (told_clash (model_of old) (model_of new) g t u clash, subst (λ (l : List ℕ). Logged l old new) line_failed (logged_after _ old mid new kept logged))
 
 -- a comparison that holds
 pub passed : (m n : Model) (g : Goal) → IsAfter m n (solved_stack m n g) (status_at (solved_stack m n g)) m.base (solved_line m n g) → Reaches g (with_stack (with_goal g m) (solved_stack m n g)) m n

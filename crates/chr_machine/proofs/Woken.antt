@@ -1,7 +1,10 @@
 -- The elements of constraints that wake.
-use Rattle.std.proofs.Common.{◌≡◌, ◌∙◌, ◌+◌, ◌≤◌, ◌<◌, ◌++◌, ℕ, Bool, true, false, cond, List, [], ◌∷◌, Some, ap, arith, map, refl}
+use Rattle.std.proofs.Common.{◌≡◌, ◌∙◌, ◌+◌, ◌≤◌, ◌<◌, ◌++◌, ℕ, Bool, true, false, cond, List, [], ◌∷◌, Some, ap, arith, get_or, length, map, refl, suc, sym, take}
 use Rattle.std.specs.Prelude.{All, filter, flat_map}
 use Rattle.std.proofs.lemmas.Bool.{eq-eqb, ne_eqb}
+use Rattle.std.proofs.lemmas.Grind.{flat_map-append}
+use Rattle.std.proofs.lemmas.List.{append-nil}
+use Rattle.std.proofs.Math.Seq.{take-suc}
 use Rattle.std.proofs.lemmas.List.Elements.{All-cons, All-head, All-nil, All-tail}
 use Rattle.chr_semantics.specs.Footprint.{Ascends}
 use Rattle.chr_semantics.specs.Match.{Row}
@@ -56,3 +59,14 @@ of_numbers rows (i ∷ ids) = ap (λ es. element_at rows i.0 ++ es) (of_numbers 
 -- those of the rows that pass a test
 pub found_all : (p : Row → Bool) (rows : List Row) (hi : ℕ) (ids : List Id) → Ascends 0 rows hi → numbers ids ≡ ids_of (filter p rows) → elements_at rows ids ≡ map (λ (r : Row). known r.0 r.1) (filter p rows)
 found_all p rows hi ids h same = of_numbers rows ids ∙ (ap (elements_of rows) same ∙ found_from p rows rows (all_looked rows 0 hi h))
+
+-- the elements of one identity more
+one_more : (rows : List Row) (ids : List Id) (k : ℕ) (d : Id) → k < length ids → elements_at rows (take (k + 1) ids) ≡ elements_at rows (take k ids) ++ element_at rows (get_or ids k d).0
+one_more rows ids k d lt =
+    let f = λ (i : Id). element_at rows i.0 in
+    let next : k + 1 ≡ suc k = omega arith in
+    ap (λ (n : ℕ). elements_at rows (take n ids)) next
+    ∙ (ap (elements_at rows) (take-suc ids k d lt) ∙ (flat_map-append f (take k ids) (get_or ids k d ∷ []) ∙ ap (λ es. elements_at rows (take k ids) ++ es) (append-nil (element_at rows (get_or ids k d).0))))
+
+pub elements_more : (rows : List Row) (ids : List Id) (k : ℕ) (d : Id) (old new : List Element) → k < length ids → old ≡ elements_at rows (take k ids) → new ≡ old ++ element_at rows (get_or ids k d).0 → new ≡ elements_at rows (take (k + 1) ids)
+elements_more rows ids k d old new lt are more = more ∙ (ap (λ es. es ++ element_at rows (get_or ids k d).0) are ∙ sym (one_more rows ids k d lt))

@@ -1,4 +1,5 @@
 use Rattle.std.proofs.Common.{◌≡◌, ◌∙◌, ℕ, List, ap, inl, inr, subst}
+use Rattle.std.proofs.lemmas.Result.{on_err_weaker}
 use Rattle.chr_bind.specs.declared.bindings.Unified.{Unified}
 use Rattle.chr_semantics.specs.Changes.{rebound}
 use Rattle.chr_rules.specs.RuleView.{goal_view}
@@ -8,7 +9,8 @@ use Rattle.chr_base.specs.BaseView.{BaseModel}
 use Rattle.chr_resume.specs.ResumingView.{base_in}
 use Rattle.chr_base.specs.Told.{IsTold}
 use Rattle.chr_machine.specs.Model.{model_of}
-use Rattle.chr_machine.proofs.Solved.{after_woken, told_bound, told_same}
+use Rattle.chr_machine.specs.Step.{Kept}
+use Rattle.chr_machine.proofs.Solved.{after_woken, clash_fails, told_bound, told_same}
 use Rattle.chr_machine.proofs.state.Execution.tell.Goals as goal
 
 pub returns-in-Same-clause-ok : goal.returns-in-Same-clause-ok
@@ -34,3 +36,45 @@ returns-in-Same-clause-ok g c =
       ],
       c.wake.ensures.ready,
     )
+
+pub returns-in-Clash-clause-ok : goal.returns-in-Clash-clause-ok
+returns-in-Clash-clause-ok g c =
+    let old = c.args.self.now in
+    let t = view c.args.left.now in
+    let u = view c.args.right.now in
+    let after = base_in c.tell.new.self in
+    let kept = c.in_ok-waking.ensures.kept in
+    let ids = numbers c.as_slice.result.now in
+    let told = subst (λ (v : Unified). IsTold t u ids v (base_in old.base) after) c.in-Clash.is (subst (λ (b : BaseModel). IsTold t u ids c.in_ok-tell.field-0 b after) kept.base c.in_ok-tell.ensures.told) in
+    let mid = record c.prepare.new.self { base = c.tell.new.self } in
+    let same : Kept old mid = record {
+      stack = kept.stack;
+      room = kept.room;
+      status = kept.status;
+      base = told.1;
+      lines = kept.lines;
+      steps = kept.steps;
+      program = c.tell.ensures.program ∙ kept.program;
+      var_names = kept.var_names;
+    } in
+    clash_fails old mid c.fail.new.self (goal_view c.args.goal.now) t u same told.0 c.fail.result c.fail.ensures.ends c.fail.ensures.ok
+
+pub returns-in-Clash-clause-err : goal.returns-in-Clash-clause-err
+returns-in-Clash-clause-err g c =
+    let old = c.args.self.now in
+    let t = view c.args.left.now in
+    let u = view c.args.right.now in
+    let after = base_in c.tell.new.self in
+    let kept = c.in_ok-waking.ensures.kept in
+    let ids = numbers c.as_slice.result.now in
+    let told = subst (λ (v : Unified). IsTold t u ids v (base_in old.base) after) c.in-Clash.is (subst (λ (b : BaseModel). IsTold t u ids c.in_ok-tell.field-0 b after) kept.base c.in_ok-tell.ensures.told) in
+    on_err_weaker c.fail.result (λ (k : Kept _ c.fail.new.self). record {
+      stack = k.stack ∙ kept.stack;
+      room = λ h. k.room (kept.room h);
+      status = k.status ∙ kept.status;
+      base = k.base ∙ told.1;
+      lines = k.lines ∙ kept.lines;
+      steps = k.steps ∙ kept.steps;
+      program = k.program ∙ (c.tell.ensures.program ∙ kept.program);
+      var_names = k.var_names ∙ kept.var_names;
+    }) c.fail.ensures.err
