@@ -109,6 +109,7 @@ impl<'p, A: Allocator + Copy> Execution<'p, A> {
         ensures room { OnErr result (vec_len self.new.stack < vec_capacity self.new.stack) }
     {
         let waking = self.prepare(goal)?;
+        self.shown.is_right = false;
         match self.base.tell(left, right, waking.ids.as_slice())? {
             Unified::Clash => self.fail(goal),
             Unified::Same | Unified::Bound => {

@@ -159,12 +159,18 @@ fn line_of<A: Allocator + Copy>(
     };
     let (sym, args) = (*sym, args.as_slice());
     match kind {
-        Kind::Activate => scribe.activates(1, sym, args, Id(1)),
-        Kind::Reactivate => scribe.reactivates(2, sym, args, Id(20)),
-        Kind::Drop => scribe.drops(10, sym, args, Id(1), 4),
-        Kind::Default => scribe.defaults(4, sym, args, Id(1), 2),
-        Kind::Propagate => scribe.fires(5, sym, args, Id(3), 1, true, "r", &[3, 1, 20]),
-        Kind::Simplify => scribe.fires(6, sym, args, Id(3), 2, false, "#2", &[3]),
+        Kind::Activate => scribe.activates(1, scribe.known(sym, args, Id(1))?.as_slice()),
+        Kind::Reactivate => scribe.reactivates(2, scribe.known(sym, args, Id(20))?.as_slice()),
+        Kind::Drop => scribe.drops(10, scribe.known(sym, args, Id(1))?.as_slice(), 4),
+        Kind::Default => scribe.defaults(4, scribe.known(sym, args, Id(1))?.as_slice(), 2),
+        Kind::Propagate => {
+            let known = scribe.known(sym, args, Id(3))?;
+            scribe.fires(5, known.as_slice(), 1, true, "r", &[3, 1, 20])
+        }
+        Kind::Simplify => {
+            let known = scribe.known(sym, args, Id(3))?;
+            scribe.fires(6, known.as_slice(), 2, false, "#2", &[3])
+        }
         Kind::Solve => scribe.solves(7, scene.goal(rt, EQUATION)),
         Kind::Fail => scribe.fails(1_000_000, scene.goal(rt, BELOW)),
         Kind::Fault => scribe.faults(3, scene.goal(rt, VALUE), Fault::ZeroDivisor),
