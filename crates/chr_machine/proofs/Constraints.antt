@@ -1,5 +1,5 @@
 -- The transitions of constraints.
-use Rattle.std.proofs.Common.{◌≡◌, ◌+◌, ◌++◌, ◌∷◌, [], ℕ, List, ap, arith, refl, subst, sym}
+use Rattle.std.proofs.Common.{◌≡◌, ◌∙◌, ◌+◌, ◌++◌, ◌∷◌, [], ℕ, List, ap, arith, refl, subst, sym}
 use Rattle.chr_semantics.specs.Calls.{found_calls, found_entry}
 use Rattle.chr_semantics.specs.Changes.{added}
 use Rattle.chr_semantics.specs.Program.{Atom, constraint}
@@ -8,9 +8,14 @@ use Rattle.chr_semantics.specs.State.{Element, Status, active, goal, known, reso
 use Rattle.chr_semantics.specs.Step.{search_at, search_step}
 use Rattle.chr_semantics.specs.Text.{line_text}
 use Rattle.chr_semantics.specs.Trace.{Line, activates, defaults, drops, reactivates, search_line}
+use Rattle.chr_rules.specs.ProgramView.{names_of, rules_of}
+use Rattle.chr_trace.specs.State.{stack_view, status_view}
+use Rattle.chr_trace.specs.Texts.{texts}
 use Rattle.chr_base.specs.BaseView.{BaseModel}
-use Rattle.chr_machine.specs.Model.{Model, state_in, topped}
-use Rattle.chr_machine.specs.Step.{IsAfter, Makes}
+use Rattle.chr_resume.specs.ResumingView.{base_in, program_in}
+use Rattle.chr_machine.specs.Model.{Model, model_of, state_in, topped}
+use Rattle.chr_machine.specs.Step.{IsAfter, IsSameBelow, Kept, Makes}
+use Rattle.chr_machine.specs.declared.state.Execution.{Execution}
 
 -- the model that a transition leads to
 abbrev pub later : Model → List Element → Status → BaseModel → List ℕ → Model
@@ -28,6 +33,22 @@ after_later m n es w b l h =
       steps = h.steps k;
       lines = h.lines k;
     }
+
+-- the same where the text of the line is ready, and after the line elements are put on the stack
+pub after_kept : {A : Type 0} (old ready logged new : Execution A) (es : List Element) (w : Status) (l : List ℕ) → Kept old ready → logged.base ≡ ready.base → texts logged.lines.items ≡ texts ready.lines.items ++ l ∷ [] → logged.steps ≡ ready.steps + 1
+    → program_in logged.base ≡ program_in ready.base → logged.var_names ≡ ready.var_names → IsSameBelow logged new → stack_view new.stack.items ≡ es → status_view new.status ≡ w → IsAfter (model_of old) (model_of new) es w (base_in old.base) l
+after_kept old ready logged new es w l kept base lines steps program vars below stack status = record {
+  stack = stack;
+  status = status;
+  base = ap base_in (below.base ∙ base) ∙ kept.base;
+  lines = ap (λ ls. texts ls.items) below.lines ∙ (lines ∙ ap (λ ls. texts ls ++ l ∷ []) kept.lines);
+  steps = below.steps ∙ (steps ∙ ap (λ n. n + 1) kept.steps);
+  same = record {
+    names = ap names_of (below.program ∙ (program ∙ kept.program));
+    rules = ap rules_of (below.program ∙ (program ∙ kept.program));
+    var_names = below.var_names ∙ (vars ∙ kept.var_names);
+  };
+}
 
 abbrev pub line_in : Model → Line → List ℕ
 line_in m l = line_text m.names m.var_names (m.steps + 1) l

@@ -21,9 +21,10 @@ use Rattle.chr_base.specs.BaseView.{BaseModel}
 use Rattle.chr_resume.specs.ResumingView.{base_in}
 use Rattle.chr_machine.specs.Firing.{FiresBelow, IsFiring, fired_base}
 use Rattle.chr_machine.specs.Model.{Model, model_of, state_in, topped}
-use Rattle.chr_machine.specs.Step.{IsAfter, IsSameBelow, Makes}
+use Rattle.chr_machine.specs.Step.{IsAfter, IsSameBelow, Kept, Makes}
 use Rattle.chr_machine.specs.declared.state.Execution.{Execution}
 use Rattle.chr_machine.proofs.Constraints.{after_later, line_in}
+use Rattle.chr_machine.proofs.Models.{kept_model}
 
 -- removals give no identity, and each counts once at most
 removed_counts : (m : Store) (i : ℕ) (o : Option Atom) → ((removed_as m i o).next_id ≡ m.next_id) × ((removed_as m i o).changes ≤ m.changes + 1)
@@ -82,6 +83,10 @@ module _ (m : Model) (i j : ℕ) (a : Atom) (r : ℕ) (rule : Rule) (place : ℕ
           counts = record { steps = refl; given = omega (arith, counts.0); changed = omega (arith, counts.1, length-drop rule.kept (ids_of t), few) };
           same = record { names = refl; rules = refl; var_names = refl };
         })
+
+-- nothing that shows has changed
+pub kept_firing : {A : Type 0} (old new : Execution A) (s : Active A) (number : ℕ) (a : Atom) (ids : List ℕ) → Kept old new → IsFiring (model_of old) s number a ids → IsFiring (model_of new) s number a ids
+kept_firing old new s number a ids h = subst (λ (m : Model). IsFiring m s number a ids) (sym (kept_model old new h))
 
 -- what has fired below the stack, with the goals of the body on it
 module _ {A : Type 0} (old mid new : Execution A) (s : Active A) (number : ℕ) (a : Atom) (ids : List ℕ) (goals : List (Goal A)) (f : IsFiring (model_of old) s number a ids) (b : FiresBelow old s number a ids mid goals) where

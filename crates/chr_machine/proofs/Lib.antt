@@ -11,3 +11,4 @@ pub mod Tops
 pub mod OtherTasks
 pub mod Answered
 pub mod Starts
+pub mod ShownTexts

@@ -25,9 +25,10 @@ use Rattle.chr_machine.specs.Model.{Model, model_of, state_in, topped}
 use Rattle.chr_machine.specs.Solving.{IsBuiltIn, Logged, Reaches, Tells, line_of, shown, with_goal}
 use Rattle.chr_machine.specs.declared.solving.Solved.{Solved}
 use Rattle.chr_machine.specs.declared.solving.Solved.TheVariants.{Ends}
-use Rattle.chr_machine.specs.Step.{Counts, IsAfter, IsSameBelow, Kept, Makes, SameRun}
+use Rattle.chr_machine.specs.Step.{Counts, IsAfter, IsSameBelow, IsSameBeside, Kept, Makes, SameRun}
 use Rattle.chr_machine.specs.declared.state.Execution.{Execution}
 use Rattle.chr_machine.proofs.Constraints.{after_later}
+use Rattle.chr_machine.proofs.Models.{kept_beside, kept_twice}
 
 -- a line after nothing that shows has changed
 pub logged_after : {A : Type 0} (line : List ℕ) (old mid new : Execution A) → Kept old mid → Logged line mid new → Logged line old new
@@ -127,18 +128,24 @@ module _ (m n : Model) (g : Goal) where
     told_clash is = ap (λ (o : Option Subst). bind_step (with_goal g m) m.stack o) is
 
 -- telling fails, after nothing that shows has changed
-module _ {A : Type 0} (old mid new : Execution A) (g : Goal) (t u : Tree) (kept : Kept old mid) (clash : mgu (base_in old.base).subst t u ≡ None) where
+module _ {A : Type 0} (old ready mid new : Execution A) (g : Goal) (t u : Tree) (kept : Kept old ready) (beside : IsSameBeside ready mid) (clash : (mgu (base_in ready.base).subst t u ≡ None) × (base_in mid.base ≡ base_in ready.base)) where
+  none : mgu (base_in old.base).subst t u ≡ None
+  none = subst (λ (b : BaseModel). mgu b.subst t u ≡ None) kept.base clash.0
+
+  pub clash_kept : Kept old mid
+  clash_kept = kept_twice old ready mid kept (kept_beside ready mid beside clash.1)
+
   line_failed : line_text (names_of (program_in mid.base)) mid.var_names (mid.steps + 1) (fails (shown (model_of mid) g)) ≡ line_of (model_of old) g (told (model_of old) (model_of new) g t u)
   line_failed =
       let m = model_of old in
-      (λ k. line_text (names_of (kept.program k)) (kept.var_names k) (kept.steps k + 1) (fails (goal_instance (value_at (kept.base k).subst) g)))
-      ∙ ap (λ (s : State). line_text m.names m.var_names (m.steps + 1) (solve_line (shown m g) s.status)) (sym (told_clash m (model_of new) g t u clash))
+      (λ k. line_text (names_of (clash_kept.program k)) (clash_kept.var_names k) (clash_kept.steps k + 1) (fails (goal_instance (value_at (clash_kept.base k).subst) g)))
+      ∙ ap (λ (s : State). line_text m.names m.var_names (m.steps + 1) (solve_line (shown m g) s.status)) (sym (told_clash m (model_of new) g t u none))
 
   pub clash_fails : {E : Type 0} (r : Result Solved E) → IfOk r (λ s. s ≡ Ends Failed) → OnOk r (Logged (line_text (names_of (program_in mid.base)) mid.var_names (mid.steps + 1) (fails (shown (model_of mid) g))) mid new) → IfOk r (λ s. Tells g old new s t u)
   clash_fails (Err e) ends logged = ends
   clash_fails (Ok s) ends logged =
       subst (λ (x : Solved). Tells g old new x t u) (sym ends)
-      (told_clash (model_of old) (model_of new) g t u clash, subst (λ (l : List ℕ). Logged l old new) line_failed (logged_after _ old mid new kept logged))
+      (told_clash (model_of old) (model_of new) g t u none, subst (λ (l : List ℕ). Logged l old new) line_failed (logged_after _ old mid new clash_kept logged))
 
 -- a comparison that holds
 pub passed : (m n : Model) (g : Goal) → IsAfter m n (solved_stack m n g) (status_at (solved_stack m n g)) m.base (solved_line m n g) → Reaches g (with_stack (with_goal g m) (solved_stack m n g)) m n

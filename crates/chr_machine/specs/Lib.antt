@@ -1,3 +1,4 @@
+pub mod Shown
 pub mod Model
 pub mod Step
 pub mod Proper

@@ -84,3 +84,12 @@ pub record IsAfter (m n : Model) (es : List Element) (w : Status) (b : BaseModel
   pub lines : n.lines ≡ m.lines ++ l ∷ []
   pub steps : n.steps ≡ m.steps + 1
   pub same : SameRun m n
+
+-- nothing but the base has changed
+pub record IsSameBeside {A : Type 0} (old new : Execution A) : Type 0 where
+  pub stack : new.stack ≡ old.stack
+  pub status : new.status ≡ old.status
+  pub lines : new.lines ≡ old.lines
+  pub steps : new.steps ≡ old.steps
+  pub program : program_in new.base ≡ program_in old.base
+  pub var_names : new.var_names ≡ old.var_names

@@ -12,6 +12,7 @@ ghost use Rattle.chr_resume.specs.ResumingView.{IsFresh, base_in, program_in};
 ghost use Rattle.chr_machine.specs.Firing.{ComesTo, FindsIds, FiresBelow, IsAt, IsFiring};
 ghost use Rattle.chr_machine.specs.Model.{model_of, state_in, topped};
 ghost use Rattle.chr_machine.specs.Answering.{AnswersStep};
+ghost use Rattle.chr_machine.specs.Shown.{IsOf};
 ghost use Rattle.chr_machine.specs.Step.{IsProper, IsReady, IsSameBelow, Kept, Made};
 
 use crate::answer::Answer;
@@ -77,6 +78,7 @@ impl<'p, A: Allocator + Copy> Execution<'p, A> {
         requires fresh { IsFresh self.old.base }
         requires ascends { Ascends 0 (base_in self.old.base).store.rows
             (base_in self.old.base).store.next_id }
+        requires is_of { IsOf (base_in self.old.base).store.rows active.now.id.0 (atom_view sym args.now) }
         requires fires { IsFiring (model_of self.old) active.now number (atom_view sym args.now) ids.now }
         ensures ok { IfOk result (λ goals. FiresBelow self.old active.now number (atom_view sym args.now)
             ids.now self.new goals.items) }
@@ -87,11 +89,10 @@ impl<'p, A: Allocator + Copy> Execution<'p, A> {
     {
         let rule = active.rule;
         let keeps = active.place < rule.kept;
+        self.show(active.id, sym, args)?;
         let line = self.scribe().fires(
             self.steps + 1,
-            sym,
-            args,
-            active.id,
+            self.shown.text.as_slice(),
             number,
             keeps,
             rule.label.as_str(),

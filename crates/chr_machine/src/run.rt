@@ -14,10 +14,11 @@ ghost use Rattle.chr_machine.specs.Step.{IsCounted, IsProper, IsReady, IsSameBel
 
 use crate::answer::Answer;
 use crate::firing::put_goals;
-use crate::state::{Execution, Stepped};
+use crate::state::{Execution, Shown, Stepped};
 use chr_resume::Resuming;
 use chr_rules::{Goal, Program, Query};
 use chr_semantics::limits::MAX_TRANSITIONS;
+use chr_store::Id;
 use chr_term::Memory;
 use chr_trace::{Elem, Status};
 use std::alloc::{AllocError, Allocator};
@@ -47,6 +48,11 @@ impl<'p, A: Allocator + Copy> Execution<'p, A> {
             status: Status::Running,
             steps: 0,
             lines: Vec::new(alloc),
+            shown: Shown {
+                id: Id(0),
+                text: Vec::new(alloc),
+                is_right: false,
+            },
             alloc,
         };
         execution.load(goals)?;

@@ -4,6 +4,7 @@
 ghost use Rattle.chr_semantics.specs.declared.limits.TheConstants.{MAX_CHANGES, MAX_TRANSITIONS};
 ghost use Rattle.std.specs.Prelude.{◌≡◌, ◌<◌, ◌≤◌, ◌+◌, ◌∷◌, IfErr, IfOk, OnErr, OnOk, vec_capacity, vec_len};
 ghost use Rattle.chr_semantics.specs.Bounds.{IsBelow, IsGoalBelow};
+ghost use Rattle.chr_semantics.specs.Changes.{woken};
 ghost use Rattle.chr_semantics.specs.Footprint.{Ascends};
 ghost use Rattle.chr_semantics.specs.State.{goal as goal_element};
 ghost use Rattle.chr_semantics.specs.Subst.{apply};
@@ -14,17 +15,20 @@ ghost use Rattle.chr_semantics.specs.Value.{value as value_in};
 ghost use Rattle.chr_bind.specs.Comparison.{comparison_view};
 ghost use Rattle.chr_bind.specs.Values.{fault_view, value_view};
 ghost use Rattle.chr_rules.specs.RuleView.{builtin_view, goal_view};
+ghost use Rattle.chr_store.specs.Numbers.{numbers};
 ghost use Rattle.chr_term.specs.TermView.{view};
 ghost use Rattle.chr_trace.specs.State.{elem_view, stack_view, status_view};
+ghost use Rattle.chr_base.specs.Told.{IsTold};
 ghost use Rattle.chr_resume.specs.ResumingView.{base_in, program_in};
 ghost use Rattle.chr_machine.specs.Model.{model_of};
 ghost use Rattle.chr_machine.specs.Solving.{AreValues, Compares, Evaluates, IsBuiltIn, Logged, Passes, SolvesGoal, Tells, kind_view, shown};
-ghost use Rattle.chr_machine.specs.Step.{IsSameBelow, Kept, Made};
+ghost use Rattle.chr_machine.specs.Step.{IsSameBelow, IsSameBeside, Kept, Made};
 
 use crate::state::Execution;
 use crate::waking::put_elems;
 use chr_bind::{Comparison, Fault, Unified};
 use chr_rules::{Goal, Op};
+use chr_store::Id;
 use chr_term::{Memory, Term};
 use chr_trace::{Elem, Status};
 use std::alloc::Allocator;
@@ -94,6 +98,22 @@ impl<'p, A: Allocator + Copy> Execution<'p, A> {
         Ok(Solved::Ends(Status::Faulted(fault)))
     }
 
+    /// Tells below the stack that two terms are equal. The text that is kept may be another one then.
+    fn bind(&mut self, left: &Term<A>, right: &Term<A>, ids: &[Id]) -> Result<Unified, Memory>
+        requires changes { (base_in self.old.base).store.changes < MAX_CHANGES }
+        requires left { IsBelow (base_in self.old.base).next_var (view left.now) }
+        requires right { IsBelow (base_in self.old.base).next_var (view right.now) }
+        requires ids { numbers ids.now ≡ woken (base_in self.old.base).store (base_in self.old.base).subst }
+        ensures told { IfOk result
+            (λ unified. IsTold (view left.now) (view right.now) (numbers ids.now) unified
+            (base_in self.old.base) (base_in self.new.base)) }
+        ensures err { OnErr result (base_in self.new.base ≡ base_in self.old.base) }
+        ensures beside { IsSameBeside self.old self.new }
+    {
+        self.shown.is_right = false;
+        self.base.tell(left, right, ids)
+    }
+
     /// Tells that two terms are equal, for a goal that says so.
     fn tell(&mut self, goal: &Goal<A>, left: &Term<A>, right: &Term<A>) -> Result<Solved, Memory>
         requires few { self.old.steps < MAX_TRANSITIONS }
@@ -109,7 +129,7 @@ impl<'p, A: Allocator + Copy> Execution<'p, A> {
         ensures room { OnErr result (vec_len self.new.stack < vec_capacity self.new.stack) }
     {
         let waking = self.prepare(goal)?;
-        match self.base.tell(left, right, waking.ids.as_slice())? {
+        match self.bind(left, right, waking.ids.as_slice())? {
             Unified::Clash => self.fail(goal),
             Unified::Same | Unified::Bound => {
                 self.wake(waking.line, waking.elems);

@@ -1,5 +1,11 @@
 //! The parts of the state of a run.
+ghost use Rattle.std.specs.Prelude.{◌≡◌, true};
+ghost use Rattle.chr_rules.specs.ProgramView.{names_of};
+ghost use Rattle.chr_resume.specs.ResumingView.{base_in, program_in};
+ghost use Rattle.chr_machine.specs.Shown.{IsShownIn};
+
 use chr_resume::Resuming;
+use chr_store::Id;
 use chr_term::VarNames;
 use chr_trace::{Elem, Status};
 use std::alloc::Allocator;
@@ -12,6 +18,15 @@ pub enum Stepped {
     Spent,
 }
 
+/// The text of a constraint with its identity, which the next line about it can have again.
+#[derive(Drop)]
+pub struct Shown<A: Allocator> {
+    pub id: Id,
+    pub text: Vec<u8, A>,
+    /// Whether it is right, where the constraint lives: a binding may change it.
+    pub is_right: bool,
+}
+
 /// The execution state, with the trace. The top of the stack is its last element.
 #[derive(Drop)]
 pub struct Execution<'p, A: Allocator> {
@@ -21,5 +36,8 @@ pub struct Execution<'p, A: Allocator> {
     pub status: Status,
     pub steps: u64,
     pub lines: Vec<Vec<u8, A>, A>,
+    pub shown: Shown<A>,
     pub alloc: A,
+    ghost shows: { shown.is_right ≡ true → IsShownIn (names_of (program_in base)) var_names (base_in base)
+        shown.id.0 shown.text.items },
 }

@@ -2,23 +2,26 @@
 //!
 //! A transition makes all its growths first. Where one is refused, it gives the top back and has changed nothing.
 ghost use Rattle.chr_semantics.specs.declared.limits.TheConstants.{MAX_CHANGES, MAX_TRANSITIONS};
-ghost use Rattle.std.specs.Prelude.{◌≡◌, ◌<◌, ◌≤◌, ◌+◌, ◌++◌, ◌∷◌, ◌^◌, [], IfErr, OnErr, OnOk, vec_capacity, vec_len};
+ghost use Rattle.std.specs.Prelude.{◌≡◌, ◌<◌, ◌≤◌, ◌+◌, ◌++◌, ◌∷◌, ◌^◌, [], IfErr, OnErr, OnOk, is_some, true, vec_capacity, vec_len};
+ghost use Rattle.chr_semantics.specs.Footprint.{Ascends};
 ghost use Rattle.chr_semantics.specs.Program.{constraint};
-ghost use Rattle.chr_semantics.specs.Search.{no_firing, no_occurrence};
-ghost use Rattle.chr_semantics.specs.State.{active, goal, known, running, status_at};
+ghost use Rattle.chr_semantics.specs.Search.{atom_of, no_firing, no_occurrence};
+ghost use Rattle.chr_semantics.specs.State.{active, goal, known, resolved_atom, running, status_at};
 ghost use Rattle.chr_semantics.specs.Step.{search_at};
+ghost use Rattle.chr_semantics.specs.Text.{known_text};
 ghost use Rattle.chr_rules.specs.ProgramView.{names_of, rules_of};
 ghost use Rattle.chr_term.specs.TermView.{atom_view};
 ghost use Rattle.chr_trace.specs.State.{elem_view, stack_view, status_view};
 ghost use Rattle.chr_trace.specs.Texts.{texts};
 ghost use Rattle.chr_resume.specs.ResumingView.{base_in, program_in};
 ghost use Rattle.chr_machine.specs.Model.{model_of, state_in, topped};
+ghost use Rattle.chr_machine.specs.Shown.{IsOf};
 ghost use Rattle.chr_machine.specs.Step.{IsReady, IsSameBelow, Kept, Made};
 
-use crate::state::Execution;
+use crate::state::{Execution, Shown};
 use chr_rules::Goal;
 use chr_store::Id;
-use chr_term::{Sym, Term, copy_all};
+use chr_term::{Memory, Sym, Term, copy_all};
 use chr_trace::{Elem, Scribe, Status};
 use std::alloc::Allocator;
 
@@ -35,6 +38,35 @@ impl<'p, A: Allocator + Copy> Execution<'p, A> {
             var_names: &self.var_names,
             bindings: self.base.bindings(),
         }
+    }
+
+    /// Whether the text that is kept is that of the constraint, which lives.
+    fn is_shown(&self, id: Id) -> bool
+        ensures right { result ≡ true → self.now.shown.is_right ≡ true }
+        ensures id { result ≡ true → self.now.shown.id.0 ≡ id.0 }
+        ensures lives { result ≡ true → is_some (atom_of (base_in self.now.base).store.rows id.0) ≡ true }
+    {
+        self.shown.is_right && self.shown.id == id && self.base.store().alive(id)
+    }
+
+    /// Makes the text of a constraint with its identity, unless it is kept.
+    pub fn show(&mut self, id: Id, sym: Sym, args: &[Term<A>]) -> Result<(), Memory>
+        requires { IsOf (base_in self.old.base).store.rows id.0 (atom_view sym args.now) }
+        ensures kept { Kept self.old self.new }
+        ensures base { self.new.base ≡ self.old.base }
+        ensures text { OnOk result (self.new.shown.text.items ≡ known_text (names_of (program_in self.old.base))
+            self.old.var_names (resolved_atom (base_in self.old.base).subst (atom_view sym args.now)) id.0) }
+    {
+        if self.is_shown(id) {
+            return Ok(());
+        }
+        let text = self.scribe().known(sym, args, id)?;
+        self.shown = Shown {
+            id,
+            text,
+            is_right: true,
+        };
+        Ok(())
     }
 
     /// Puts an element on the stack, with room for it.
@@ -84,14 +116,18 @@ impl<'p, A: Allocator + Copy> Execution<'p, A> {
     pub fn reactivate(&mut self, id: Id, sym: Sym, args: Vec<Term<A>, A>) -> Result<(), Elem<A>>
         requires room { vec_len self.old.stack < vec_capacity self.old.stack }
         requires few { self.old.steps < MAX_TRANSITIONS }
+        requires is_of { IsOf (base_in self.old.base).store.rows id.0 (atom_view sym args.items) }
         ensures ok { OnOk result (Made (known id.0 (atom_view sym args.items)) self.old self.new) }
         ensures err { IfErr result (λ top. elem_view top ≡ known id.0 (atom_view sym args.items)) }
         ensures kept { OnErr result (Kept self.old self.new) }
         ensures room { OnErr result (vec_len self.new.stack < vec_capacity self.new.stack) }
     {
+        let Ok(()) = self.show(id, sym, args.as_slice()) else {
+            return Err(Elem::Known(id, sym, args));
+        };
         let Ok(line) = self
             .scribe()
-            .reactivates(self.steps + 1, sym, args.as_slice(), id)
+            .reactivates(self.steps + 1, self.shown.text.as_slice())
         else {
             return Err(Elem::Known(id, sym, args));
         };
@@ -108,6 +144,8 @@ impl<'p, A: Allocator + Copy> Execution<'p, A> {
         requires room { vec_len self.old.stack < vec_capacity self.old.stack }
         requires few { self.old.steps < MAX_TRANSITIONS }
         requires changes { (base_in self.old.base).store.changes + 8 ≤ MAX_CHANGES }
+        requires ascends { Ascends 0 (base_in self.old.base).store.rows
+            (base_in self.old.base).store.next_id }
         ensures ok { OnOk result
             (Made (goal (constraint (atom_view sym args.items))) self.old self.new) }
         ensures err { IfErr result
@@ -116,13 +154,13 @@ impl<'p, A: Allocator + Copy> Execution<'p, A> {
         ensures room { OnErr result (vec_len self.new.stack < vec_capacity self.new.stack) }
     {
         let next = self.base.store().next();
-        let Ok(line) = self
-            .scribe()
-            .activates(self.steps + 1, sym, args.as_slice(), next)
-        else {
+        let Ok(text) = self.scribe().known(sym, args.as_slice(), next) else {
             return Err(Elem::Goal(Goal::Chr(sym, args)));
         };
-        let Ok(shown) = copy_all(self.alloc, args.as_slice()) else {
+        let Ok(line) = self.scribe().activates(self.steps + 1, text.as_slice()) else {
+            return Err(Elem::Goal(Goal::Chr(sym, args)));
+        };
+        let Ok(copied) = copy_all(self.alloc, args.as_slice()) else {
             return Err(Elem::Goal(Goal::Chr(sym, args)));
         };
         let Ok(()) = self.lines.reserve(1) else {
@@ -131,8 +169,13 @@ impl<'p, A: Allocator + Copy> Execution<'p, A> {
         match self.base.add(sym, args) {
             Err((args, _)) => Err(Elem::Goal(Goal::Chr(sym, args))),
             Ok(id) => {
+                self.shown = Shown {
+                    id,
+                    text,
+                    is_right: true,
+                };
                 self.log(line);
-                self.put(Elem::Active(id, 1, sym, shown));
+                self.put(Elem::Active(id, 1, sym, copied));
                 Ok(())
             }
         }
@@ -148,6 +191,7 @@ impl<'p, A: Allocator + Copy> Execution<'p, A> {
     ) -> Result<(), Elem<A>>
         requires room { vec_len self.old.stack < vec_capacity self.old.stack }
         requires few { self.old.steps < MAX_TRANSITIONS }
+        requires is_of { IsOf (base_in self.old.base).store.rows id.0 (atom_view sym args.items) }
         requires none { search_at (rules_of (program_in self.old.base))
             (state_in (topped (active id.0 number (atom_view sym args.items)) (model_of self.old))) id.0 number
             (atom_view sym args.items) ≡ no_occurrence }
@@ -158,9 +202,12 @@ impl<'p, A: Allocator + Copy> Execution<'p, A> {
         ensures kept { OnErr result (Kept self.old self.new) }
         ensures room { OnErr result (vec_len self.new.stack < vec_capacity self.new.stack) }
     {
+        let Ok(()) = self.show(id, sym, args.as_slice()) else {
+            return Err(Elem::Active(id, number, sym, args));
+        };
         let Ok(line) = self
             .scribe()
-            .drops(self.steps + 1, sym, args.as_slice(), id, number)
+            .drops(self.steps + 1, self.shown.text.as_slice(), number)
         else {
             return Err(Elem::Active(id, number, sym, args));
         };
@@ -183,6 +230,7 @@ impl<'p, A: Allocator + Copy> Execution<'p, A> {
         requires room { vec_len self.old.stack < vec_capacity self.old.stack }
         requires few { self.old.steps < MAX_TRANSITIONS }
         requires small { number < 2 ^ 31 }
+        requires is_of { IsOf (base_in self.old.base).store.rows id.0 (atom_view sym args.items) }
         requires none { search_at (rules_of (program_in self.old.base))
             (state_in (topped (active id.0 number (atom_view sym args.items)) (model_of self.old))) id.0 number
             (atom_view sym args.items) ≡ no_firing }
@@ -193,9 +241,12 @@ impl<'p, A: Allocator + Copy> Execution<'p, A> {
         ensures kept { OnErr result (Kept self.old self.new) }
         ensures room { OnErr result (vec_len self.new.stack < vec_capacity self.new.stack) }
     {
+        let Ok(()) = self.show(id, sym, args.as_slice()) else {
+            return Err(Elem::Active(id, number, sym, args));
+        };
         let Ok(line) = self
             .scribe()
-            .defaults(self.steps + 1, sym, args.as_slice(), id, number)
+            .defaults(self.steps + 1, self.shown.text.as_slice(), number)
         else {
             return Err(Elem::Active(id, number, sym, args));
         };

@@ -1,11 +1,12 @@
 //! The lines of the trace, without their line feeds.
-ghost use Rattle.std.specs.Prelude.{◌≡◌, ◌++◌, ◌∷◌, codes, cond, IfOk};
+ghost use Rattle.std.specs.Prelude.{◌≡◌, ◌++◌, ◌∷◌, ℕ, codes, cond, IfOk};
 ghost use Rattle.std.specs.Fmt.{decimal};
 ghost use Rattle.std.specs.Str.{byte};
+ghost use Rattle.chr_semantics.specs.Program.{Atom};
 ghost use Rattle.chr_semantics.specs.Text.{firing_text};
 ghost use Rattle.chr_semantics.specs.Trace.{activates, defaults, drops, fails, faults, propagates, reactivates, simplifies, solves};
 ghost use Rattle.chr_bind.specs.Values.{fault_view};
-ghost use Rattle.chr_trace.specs.ScribeView.{active_by, goal_by, known_by, line_by, shown_atom, shown_goal};
+ghost use Rattle.chr_trace.specs.ScribeView.{goal_by, known_by, line_by, shown_atom, shown_goal};
 
 use chr_bind::{Bindings, Fault};
 use chr_rules::Goal;
@@ -27,86 +28,69 @@ pub struct Scribe<'a, A: Allocator = Global> {
 }
 
 impl<'a, A: Allocator + Copy> Scribe<'a, A> {
-    /// The line of an Activate.
-    pub fn activates(
-        &self,
-        number: u64,
-        sym: Sym,
-        args: &[Term<A>],
-        id: Id,
-    ) -> Result<Vec<u8, A>, Memory>
-        ensures { IfOk result (λ line. line.items
-            ≡ line_by self.now number (activates (shown_atom self.now sym args.now) id.0)) }
+    /// The text of a constraint with its identity, which the lines about the constraint go on with.
+    pub fn known(&self, sym: Sym, args: &[Term<A>], id: Id) -> Result<Vec<u8, A>, Memory>
+        ensures { IfOk result (λ text. text.items
+            ≡ known_by self.now (shown_atom self.now sym args.now) id.0) }
     {
-        self.known_line(number, " activate ", sym, args, id)
+        let mut text = Vec::new(self.alloc);
+        self.write_known(sym, args, id, &mut text)?;
+        Ok(text)
     }
 
-    /// The line of a Reactivate.
-    pub fn reactivates(
-        &self,
-        number: u64,
-        sym: Sym,
-        args: &[Term<A>],
-        id: Id,
-    ) -> Result<Vec<u8, A>, Memory>
-        ensures { IfOk result (λ line. line.items
-            ≡ line_by self.now number (reactivates (shown_atom self.now sym args.now) id.0)) }
+    /// The line of an Activate of the constraint that has this text.
+    pub fn activates(&self, number: u64, known: &[u8]) -> Result<Vec<u8, A>, Memory>
+        ensures { (a : Atom) (i : ℕ) → known.now ≡ known_by self.now a i →
+            IfOk result (λ line. line.items ≡ line_by self.now number (activates a i)) }
     {
-        self.known_line(number, " reactivate ", sym, args, id)
+        self.known_line(number, " activate ", known)
     }
 
-    /// The line of a Drop.
-    pub fn drops(
-        &self,
-        number: u64,
-        sym: Sym,
-        args: &[Term<A>],
-        id: Id,
-        occurrence: u32,
-    ) -> Result<Vec<u8, A>, Memory>
-        ensures { IfOk result (λ line. line.items
-            ≡ line_by self.now number (drops (shown_atom self.now sym args.now) id.0 occurrence)) }
+    /// The line of a Reactivate of the constraint that has this text.
+    pub fn reactivates(&self, number: u64, known: &[u8]) -> Result<Vec<u8, A>, Memory>
+        ensures { (a : Atom) (i : ℕ) → known.now ≡ known_by self.now a i →
+            IfOk result (λ line. line.items ≡ line_by self.now number (reactivates a i)) }
     {
-        self.active_line(number, " drop ", sym, args, id, occurrence)
+        self.known_line(number, " reactivate ", known)
     }
 
-    /// The line of a Default.
-    pub fn defaults(
-        &self,
-        number: u64,
-        sym: Sym,
-        args: &[Term<A>],
-        id: Id,
-        occurrence: u32,
-    ) -> Result<Vec<u8, A>, Memory>
-        ensures { IfOk result (λ line. line.items
-            ≡ line_by self.now number (defaults (shown_atom self.now sym args.now) id.0 occurrence)) }
+    /// The line of a Drop of the constraint that has this text.
+    pub fn drops(&self, number: u64, known: &[u8], occurrence: u32) -> Result<Vec<u8, A>, Memory>
+        ensures { (a : Atom) (i : ℕ) → known.now ≡ known_by self.now a i →
+            IfOk result (λ line. line.items ≡ line_by self.now number (drops a i occurrence)) }
     {
-        self.active_line(number, " default ", sym, args, id, occurrence)
+        self.active_line(number, " drop ", known, occurrence)
     }
 
-    /// The line of a Propagate, which keeps the active constraint, or of a Simplify: the rule with this label fires with these identities.
+    /// The line of a Default of the constraint that has this text.
+    pub fn defaults(&self, number: u64, known: &[u8], occurrence: u32) -> Result<Vec<u8, A>, Memory>
+        ensures { (a : Atom) (i : ℕ) → known.now ≡ known_by self.now a i →
+            IfOk result (λ line. line.items ≡ line_by self.now number (defaults a i occurrence)) }
+    {
+        self.active_line(number, " default ", known, occurrence)
+    }
+
+    /// The line of a Propagate, which keeps the active constraint, or of a Simplify: the rule with this label fires with these identities. The
+    /// active constraint has this text.
     pub fn fires(
         &self,
         number: u64,
-        sym: Sym,
-        args: &[Term<A>],
-        id: Id,
+        known: &[u8],
         occurrence: u32,
         keeps: bool,
         label: &str,
         ids: &[u64],
     ) -> Result<Vec<u8, A>, Memory>
-        ensures { let a = shown_atom self.now sym args.now in IfOk result (λ line. line.items
-            ≡ line_by self.now number (cond keeps
-            (propagates a id.0 occurrence label.now ids.now)
-            (simplifies a id.0 occurrence label.now ids.now))) }
+        ensures { (a : Atom) (i : ℕ) → known.now ≡ known_by self.now a i →
+            IfOk result (λ line. line.items ≡ line_by self.now number (cond keeps
+            (propagates a i occurrence label.now ids.now)
+            (simplifies a i occurrence label.now ids.now))) }
     {
         if keeps {
-            let line = self.active_line(number, " propagate ", sym, args, id, occurrence)?;
+            let line = self.active_line(number, " propagate ", known, occurrence)?;
             with_firing(line, label, ids)
         } else {
-            let line = self.active_line(number, " simplify ", sym, args, id, occurrence)?;
+            let line = self.active_line(number, " simplify ", known, occurrence)?;
             with_firing(line, label, ids)
         }
     }
@@ -150,20 +134,12 @@ impl<'a, A: Allocator + Copy> Scribe<'a, A> {
         Ok(line)
     }
 
-    /// The number of a transition, a word, and a constraint with its identity.
-    fn known_line(
-        &self,
-        number: u64,
-        word: &str,
-        sym: Sym,
-        args: &[Term<A>],
-        id: Id,
-    ) -> Result<Vec<u8, A>, Memory>
-        ensures { IfOk result (λ line. line.items ≡ decimal number
-            ++ (word.now ++ known_by self.now (shown_atom self.now sym args.now) id.0)) }
+    /// The number of a transition, a word, and the text of a constraint.
+    fn known_line(&self, number: u64, word: &str, known: &[u8]) -> Result<Vec<u8, A>, Memory>
+        ensures { IfOk result (λ line. line.items ≡ decimal number ++ (word.now ++ known.now)) }
     {
         let mut line = self.start(number, word)?;
-        self.write_known(sym, args, id, &mut line)?;
+        line.extend_from_slice(known)?;
         Ok(line)
     }
 
@@ -172,16 +148,15 @@ impl<'a, A: Allocator + Copy> Scribe<'a, A> {
         &self,
         number: u64,
         word: &str,
-        sym: Sym,
-        args: &[Term<A>],
-        id: Id,
+        known: &[u8],
         occurrence: u32,
     ) -> Result<Vec<u8, A>, Memory>
         ensures { IfOk result (λ line. line.items ≡ decimal number
-            ++ (word.now ++ active_by self.now (shown_atom self.now sym args.now) id.0 occurrence)) }
+            ++ (word.now ++ (known.now ++ (byte ":" ∷ decimal occurrence)))) }
     {
-        let mut line = self.start(number, word)?;
-        self.write_active(sym, args, id, occurrence, &mut line)?;
+        let mut line = self.known_line(number, word, known)?;
+        line.push(b':')?;
+        print_number(u64::from(occurrence), &mut line)?;
         Ok(line)
     }
 

@@ -133,6 +133,17 @@ enum Kind {
     Fault,
 }
 
+impl Kind {
+    /// The identity of the constraint that the line is about.
+    fn id(self) -> Id {
+        match self {
+            Kind::Reactivate => Id(20),
+            Kind::Propagate | Kind::Simplify => Id(3),
+            _ => Id(1),
+        }
+    }
+}
+
 /// Each kind of line, with the line that `line_of` makes.
 const LINES: [(Kind, &str); 9] = [
     (Kind::Activate, "1 activate p([1,2,3])#1"),
@@ -157,14 +168,15 @@ fn line_of<A: Allocator + Copy>(
     let Goal::Chr(sym, args) = scene.goal(rt, P) else {
         panic!(rt; "no constraint");
     };
-    let (sym, args) = (*sym, args.as_slice());
+    let text = scribe.known(*sym, args.as_slice(), kind.id())?;
+    let known = text.as_slice();
     match kind {
-        Kind::Activate => scribe.activates(1, sym, args, Id(1)),
-        Kind::Reactivate => scribe.reactivates(2, sym, args, Id(20)),
-        Kind::Drop => scribe.drops(10, sym, args, Id(1), 4),
-        Kind::Default => scribe.defaults(4, sym, args, Id(1), 2),
-        Kind::Propagate => scribe.fires(5, sym, args, Id(3), 1, true, "r", &[3, 1, 20]),
-        Kind::Simplify => scribe.fires(6, sym, args, Id(3), 2, false, "#2", &[3]),
+        Kind::Activate => scribe.activates(1, known),
+        Kind::Reactivate => scribe.reactivates(2, known),
+        Kind::Drop => scribe.drops(10, known, 4),
+        Kind::Default => scribe.defaults(4, known, 2),
+        Kind::Propagate => scribe.fires(5, known, 1, true, "r", &[3, 1, 20]),
+        Kind::Simplify => scribe.fires(6, known, 2, false, "#2", &[3]),
         Kind::Solve => scribe.solves(7, scene.goal(rt, EQUATION)),
         Kind::Fail => scribe.fails(1_000_000, scene.goal(rt, BELOW)),
         Kind::Fault => scribe.faults(3, scene.goal(rt, VALUE), Fault::ZeroDivisor),

@@ -1,4 +1,4 @@
-use Rattle.std.proofs.Common.{◌≡◌, ◌≤◌, ℕ, List, false, length, subst, sym}
+use Rattle.std.proofs.Common.{◌≡◌, ◌∙◌, ◌≤◌, ℕ, List, ap, false, length, subst, sym}
 use Rattle.chr_semantics.specs.Search.{fired_before}
 use Rattle.chr_rules.specs.RuleView.{rule_view}
 use Rattle.chr_term.specs.TermView.{atom_view}
@@ -6,6 +6,9 @@ use Rattle.chr_machine.specs.Firing.{FiresBelow}
 use Rattle.chr_machine.specs.Model.{model_of}
 use Rattle.chr_machine.proofs.Firings.{fired_after, fired_makes}
 use Rattle.chr_machine.proofs.state.Execution.fire.Goals as goal
+
+pub fire_below-requires-clause-is_of : goal.fire_below-requires-clause-is_of
+fire_below-requires-clause-is_of g c b at = c.requires.proper.sound.agrees.0.1 b at ∙ ap (atom_view c.args.sym) (sym c.as_slice.ensures.value)
 
 pub returns-in-Ok-clause-ok : goal.returns-in-Ok-clause-ok
 returns-in-Ok-clause-ok g c =

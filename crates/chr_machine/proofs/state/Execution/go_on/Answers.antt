@@ -15,6 +15,9 @@ use Rattle.chr_machine.specs.Model.{model_of}
 use Rattle.chr_machine.proofs.Searched.{firing_found, nothing_found}
 use Rattle.chr_machine.proofs.state.Execution.go_on.Goals as goal
 
+pub default_active-requires-clause-is_of : goal.default_active-requires-clause-is_of
+default_active-requires-clause-is_of g c = c.requires.proper.sound.agrees.0.1
+
 pub default_active-requires-clause-none : goal.default_active-requires-clause-none
 default_active-requires-clause-none g c =
     let m = model_of c.args.self.now in

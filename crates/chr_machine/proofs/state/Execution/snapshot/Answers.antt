@@ -15,7 +15,7 @@ returns-clause-shown g c =
     let m = model_of c.args.self.now in
     let same = c.keep_keys.ensures.same in
     let program = c.keep_keys.ensures.program in
-    let again : model_of (record c.args.self.now { base = c.keep_keys.new.self }) ≡ m = λ k. record m { names = names_of (program k); rules = rules_of (program k); base = same k } in
+    let again : record m { names = names_of (program_in c.keep_keys.new.self); rules = rules_of (program_in c.keep_keys.new.self); base = base_in c.keep_keys.new.self } ≡ m = λ k. record m { names = names_of (program k); rules = rules_of (program k); base = same k } in
     let ts_are = c.in_ok-tasks.ensures ∙ (λ k. tasks (rules_of (program k)) (state_in (again k))) in
     let guest_is = c.guest.ensures ∙ (λ k. guest (state_in (again k))) in
     IfOk-weaker c.snapshot.result _ _

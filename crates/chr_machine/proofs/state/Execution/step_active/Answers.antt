@@ -15,9 +15,16 @@ use Rattle.chr_base.specs.BaseView.{BaseModel}
 use Rattle.chr_resume.specs.ResumingView.{base_in}
 use Rattle.chr_machine.specs.Answering.{AnswersStep}
 use Rattle.chr_machine.specs.Model.{model_of, state_in, topped}
+use Rattle.chr_machine.specs.Shown.{IsOf}
 use Rattle.chr_machine.specs.declared.answer.Answer.{Answer}
 use Rattle.chr_machine.proofs.Searched.{dead_found, stands}
 use Rattle.chr_machine.proofs.state.Execution.step_active.Goals as goal
+
+pub drop_active-requires-clause-is_of : goal.drop_active-requires-clause-is_of
+drop_active-requires-clause-is_of g c = c.requires.proper.sound.agrees.0.1
+
+pub default_active-requires-clause-is_of : goal.default_active-requires-clause-is_of
+default_active-requires-clause-is_of g c = subst (λ (b : BaseModel). IsOf b.store.rows c.args.id.0 (atom_view c.args.sym c.args.args.items)) (sym c.end_search.ensures.same) c.requires.proper.sound.agrees.0.1
 
 pub default_active-requires-clause-none : goal.default_active-requires-clause-none
 default_active-requires-clause-none g c =

@@ -1,16 +1,19 @@
-use Rattle.std.proofs.Common.{◌≡◌, ◌∙◌, ℕ, List, ap, inl, inr, subst}
+use Rattle.std.proofs.Common.{◌≡◌, ◌∙◌, ◌+◌, ◌++◌, ◌∷◌, [], ℕ, List, ap, inl, inr, map, subst}
 use Rattle.std.proofs.lemmas.Result.{on_err_weaker}
 use Rattle.chr_bind.specs.declared.bindings.Unified.{Unified}
 use Rattle.chr_semantics.specs.Changes.{rebound}
 use Rattle.chr_rules.specs.RuleView.{goal_view}
+use Rattle.chr_semantics.specs.State.{status_at}
 use Rattle.chr_store.specs.Numbers.{numbers}
+use Rattle.chr_trace.specs.State.{elem_view, stack_view}
+use Rattle.chr_trace.specs.Texts.{texts}
 use Rattle.chr_term.specs.TermView.{view}
 use Rattle.chr_base.specs.BaseView.{BaseModel}
 use Rattle.chr_resume.specs.ResumingView.{base_in}
 use Rattle.chr_base.specs.Told.{IsTold}
 use Rattle.chr_machine.specs.Model.{model_of}
-use Rattle.chr_machine.specs.Step.{Kept}
-use Rattle.chr_machine.proofs.Solved.{after_woken, clash_fails, told_bound, told_same}
+use Rattle.chr_machine.proofs.Models.{kept_twice}
+use Rattle.chr_machine.proofs.Solved.{after_woken, clash_fails, clash_kept, told_bound, told_same}
 use Rattle.chr_machine.proofs.state.Execution.tell.Goals as goal
 
 pub returns-in-Same-clause-ok : goal.returns-in-Same-clause-ok
@@ -19,15 +22,18 @@ returns-in-Same-clause-ok g c =
     let w = goal_view c.args.goal.now in
     let t = view c.args.left.now in
     let u = view c.args.right.now in
-    let before = base_in c.prepare.new.self.base in
-    let after = base_in c.tell.new.self in
+    let after = base_in c.bind.new.self.base in
     let kept = c.in_ok-waking.ensures.kept in
     let ids = numbers c.as_slice.result.now in
     let ids_are = ap numbers c.as_slice.ensures.value ∙ c.in_ok-waking.ensures.ids in
+    let beside = c.bind.ensures.beside in
     let at = λ (b : BaseModel) (base : base_in c.wake.new.self.base ≡ b).
-    after_woken old c.prepare.new.self c.wake.new.self w c.in_ok-waking.waking.elems.items c.in_ok-waking.waking.line.items b kept c.in_ok-waking.ensures.elems c.wake.ensures.stack c.wake.ensures.status base c.wake.ensures.lines c.in_ok-waking.ensures.line c.wake.ensures.steps (c.wake.ensures.program ∙ c.tell.ensures.program) c.wake.ensures.var_names
+    after_woken old c.prepare.new.self c.wake.new.self w c.in_ok-waking.waking.elems.items c.in_ok-waking.waking.line.items b kept c.in_ok-waking.ensures.elems
+    (c.wake.ensures.stack ∙ (λ k. map elem_view c.in_ok-waking.waking.elems.items ++ stack_view (beside.stack k).items))
+    (c.wake.ensures.status ∙ (λ k. status_at (map elem_view c.in_ok-waking.waking.elems.items ++ stack_view (beside.stack k).items))) base
+    (c.wake.ensures.lines ∙ (λ k. texts (beside.lines k).items ++ c.in_ok-waking.waking.line.items ∷ [])) c.in_ok-waking.ensures.line (c.wake.ensures.steps ∙ ap (λ (n : ℕ). n + 1) beside.steps) (c.wake.ensures.program ∙ beside.program) (c.wake.ensures.var_names ∙ beside.var_names)
     in
-    let told = subst (λ (b : BaseModel). IsTold t u ids c.in_ok-tell.field-0 b after) kept.base c.in_ok-tell.ensures.told in (
+    let told = subst (λ (b : BaseModel). IsTold t u ids c.in_ok-bind.field-0 b after) kept.base c.in_ok-bind.ensures.told in (
       elim c.in-Same.is [
         | inl e ↦ (let is = subst (λ (v : Unified). IsTold t u ids v (base_in old.base) after) e told in told_same (model_of old) (model_of c.wake.new.self) w t u is.0 (at (base_in old.base) (ap base_in c.wake.ensures.base ∙ is.1)))
         | inr e ↦ (let is = subst (λ (v : Unified). IsTold t u ids v (base_in old.base) after) e told in
@@ -39,42 +45,18 @@ returns-in-Same-clause-ok g c =
 
 pub returns-in-Clash-clause-ok : goal.returns-in-Clash-clause-ok
 returns-in-Clash-clause-ok g c =
-    let old = c.args.self.now in
     let t = view c.args.left.now in
     let u = view c.args.right.now in
-    let after = base_in c.tell.new.self in
-    let kept = c.in_ok-waking.ensures.kept in
-    let ids = numbers c.as_slice.result.now in
-    let told = subst (λ (v : Unified). IsTold t u ids v (base_in old.base) after) c.in-Clash.is (subst (λ (b : BaseModel). IsTold t u ids c.in_ok-tell.field-0 b after) kept.base c.in_ok-tell.ensures.told) in
-    let mid = record c.prepare.new.self { base = c.tell.new.self } in
-    let same : Kept old mid = record {
-      stack = kept.stack;
-      room = kept.room;
-      status = kept.status;
-      base = told.1;
-      lines = kept.lines;
-      steps = kept.steps;
-      program = c.tell.ensures.program ∙ kept.program;
-      var_names = kept.var_names;
-    } in
-    clash_fails old mid c.fail.new.self (goal_view c.args.goal.now) t u same told.0 c.fail.result c.fail.ensures.ends c.fail.ensures.ok
+    let ready = c.prepare.new.self in
+    let clash = subst (λ (v : Unified). IsTold t u (numbers c.as_slice.result.now) v (base_in ready.base) (base_in c.bind.new.self.base)) c.in-Clash.is c.in_ok-bind.ensures.told in
+    clash_fails c.args.self.now ready c.bind.new.self c.fail.new.self (goal_view c.args.goal.now) t u c.in_ok-waking.ensures.kept c.bind.ensures.beside clash c.fail.result c.fail.ensures.ends c.fail.ensures.ok
 
 pub returns-in-Clash-clause-err : goal.returns-in-Clash-clause-err
 returns-in-Clash-clause-err g c =
-    let old = c.args.self.now in
     let t = view c.args.left.now in
     let u = view c.args.right.now in
-    let after = base_in c.tell.new.self in
-    let kept = c.in_ok-waking.ensures.kept in
-    let ids = numbers c.as_slice.result.now in
-    let told = subst (λ (v : Unified). IsTold t u ids v (base_in old.base) after) c.in-Clash.is (subst (λ (b : BaseModel). IsTold t u ids c.in_ok-tell.field-0 b after) kept.base c.in_ok-tell.ensures.told) in
-    on_err_weaker c.fail.result (λ (k : Kept _ c.fail.new.self). record {
-      stack = k.stack ∙ kept.stack;
-      room = λ h. k.room (kept.room h);
-      status = k.status ∙ kept.status;
-      base = k.base ∙ told.1;
-      lines = k.lines ∙ kept.lines;
-      steps = k.steps ∙ kept.steps;
-      program = k.program ∙ (c.tell.ensures.program ∙ kept.program);
-      var_names = k.var_names ∙ kept.var_names;
-    }) c.fail.ensures.err
+    let old = c.args.self.now in
+    let ready = c.prepare.new.self in
+    let mid = c.bind.new.self in
+    let clash = subst (λ (v : Unified). IsTold t u (numbers c.as_slice.result.now) v (base_in ready.base) (base_in mid.base)) c.in-Clash.is c.in_ok-bind.ensures.told in
+    on_err_weaker c.fail.result (kept_twice old mid c.fail.new.self (clash_kept old ready mid c.fail.new.self (goal_view c.args.goal.now) t u c.in_ok-waking.ensures.kept c.bind.ensures.beside clash)) c.fail.ensures.err

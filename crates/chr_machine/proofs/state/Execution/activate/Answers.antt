@@ -1,0 +1,69 @@
+use Rattle.std.proofs.Common.{◌≡◌, ◌∙◌, ◌+◌, ◌++◌, ◌∷◌, [], ℕ, List, ap, refl, subst, sym}
+use Rattle.chr_semantics.specs.Changes.{added}
+use Rattle.chr_semantics.specs.Names.{Names}
+use Rattle.chr_semantics.specs.Program.{Atom}
+use Rattle.chr_semantics.specs.State.{active as at_occurrence, resolved_atom}
+use Rattle.chr_semantics.specs.Text.{known_text}
+use Rattle.chr_semantics.specs.Trace.{activates}
+use Rattle.chr_rules.specs.ProgramView.{names_of, rules_of}
+use Rattle.chr_term.specs.TermView.{atom_view, trees_view}
+use Rattle.chr_term.specs.declared.term.Term.{Term}
+use Rattle.chr_trace.specs.State.{stack_view}
+use Rattle.chr_trace.specs.Texts.{texts}
+use Rattle.chr_base.specs.BaseView.{BaseModel}
+use Rattle.chr_resume.specs.ResumingView.{base_in, program_in}
+use Rattle.chr_machine.specs.Model.{model_of}
+use Rattle.chr_machine.specs.Shown.{IsOf}
+use Rattle.chr_machine.proofs.Constraints.{activated, line_in}
+use Rattle.chr_machine.proofs.ShownTexts.{last_of, shown_line, shown_new}
+use Rattle.chr_machine.proofs.state.Execution.activate.Goals as goal
+
+pub invariant_of-self-in-Ok-add : goal.invariant_of-self-in-Ok-add
+invariant_of-self-in-Ok-add g c =
+    let t = c.args.self.now in
+    let m = model_of t in
+    let a = atom_view c.args.sym c.args.args.items in
+    let is = c.in-Ok-add.ensures.ok in
+    let id = c.in-Ok-add.ensures.id in
+    let of : IsOf (base_in c.add.new.self).store.rows c.in-Ok-add.id.0 a =
+    subst (λ (n : ℕ). IsOf (base_in c.add.new.self).store.rows n a) (sym id) (subst (λ (b : BaseModel). IsOf b.store.rows m.base.store.next_id a) (sym is) (last_of m.base.store.rows m.base.store.next_id a c.requires.ascends))
+    in
+    let next = c.next-next.ensures ∙ ap (λ s. s.next_id) c.store.ensures in
+    let text : c.in-Ok.text.items ≡ known_text m.names m.var_names (resolved_atom m.base.subst a) m.base.store.next_id =
+    c.in-Ok.ensures ∙ (λ p. known_text (c.scribe.ensures.names p) (c.scribe.ensures.var_names p) (resolved_atom (c.scribe.ensures.subst p) (atom_view c.args.sym (c.as_slice.ensures.value p))) (next p))
+    in
+    record {
+      shows = λ right. shown_new (names_of (program_in c.add.new.self)) m.var_names (base_in c.add.new.self) c.in-Ok-add.id.0 a c.in-Ok.text.items of
+          (text ∙ (λ p. known_text (names_of (sym c.add.ensures.program p)) m.var_names (resolved_atom (sym is p).subst a) (sym id p)));
+    }
+
+pub returns-in-Ok-add-clause-ok : goal.returns-in-Ok-add-clause-ok
+returns-in-Ok-add-clause-ok g c =
+    let t = c.args.self.now in
+    let m = model_of t in
+    let a = atom_view c.args.sym c.args.args.items in
+    let is = c.in-Ok-add.ensures.ok in
+    let id = c.in-Ok-add.ensures.id in
+    let next = c.next-next.ensures ∙ ap (λ s. s.next_id) c.store.ensures in
+    let text : c.as_slice-2.result.now ≡ known_text m.names m.var_names (resolved_atom m.base.subst a) m.base.store.next_id =
+    c.as_slice-2.ensures.value ∙ (c.in-Ok.ensures ∙ (λ p. known_text (c.scribe.ensures.names p) (c.scribe.ensures.var_names p) (resolved_atom (c.scribe.ensures.subst p) (atom_view c.args.sym (c.as_slice.ensures.value p))) (next p)))
+    in
+    let line : c.in-Ok-activates.line.items ≡ line_in m (activates (resolved_atom m.base.subst a) m.base.store.next_id) =
+    shown_line m.names c.scribe-2.result.names.now m.var_names c.scribe-2.result.var_names.now (m.steps + 1) (m.steps + 1) c.as_slice-2.result.now c.in-Ok-activates.line.items (resolved_atom m.base.subst a) m.base.store.next_id activates c.scribe-2.ensures.names c.scribe-2.ensures.var_names refl text c.in-Ok-activates.ensures
+    in
+    let copied = c.in-Ok-copy_all.ensures ∙ ap trees_view c.as_slice-3.ensures.value in
+    record {
+      makes = activated m (model_of c.put.new.self) a (record {
+        stack = c.put.ensures.stack ∙ (λ p. at_occurrence (id p) 1 (record { sym = c.args.sym.0; args = copied p }) ∷ stack_view (c.log.ensures.stack p).items);
+        status = c.put.ensures.status;
+        base = ap base_in (c.put.ensures.below.base ∙ c.log.ensures.base) ∙ is;
+        lines = ap (λ ls. texts ls.items) c.put.ensures.below.lines ∙ (c.log.ensures.lines ∙ (λ p. texts (c.reserve.ensures.items p) ++ line p ∷ []));
+        steps = c.put.ensures.below.steps ∙ c.log.ensures.steps;
+        same = record {
+          names = ap names_of (c.put.ensures.below.program ∙ (c.log.ensures.program ∙ c.add.ensures.program));
+          rules = ap rules_of (c.put.ensures.below.program ∙ (c.log.ensures.program ∙ c.add.ensures.program));
+          var_names = c.put.ensures.below.var_names ∙ c.log.ensures.var_names;
+        };
+      });
+      ready = c.put.ensures.ready;
+    }
