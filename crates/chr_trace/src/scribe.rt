@@ -33,7 +33,7 @@ impl<'a, A: Allocator + Copy> Scribe<'a, A> {
         ensures { IfOk result (λ text. text.items
             ≡ known_by self.now (shown_atom self.now sym args.now) id.0) }
     {
-        let mut text = Vec::new(self.alloc);
+        let mut text = Vec::with_capacity(self.alloc, LINE)?;
         self.write_known(sym, args, id, &mut text)?;
         Ok(text)
     }

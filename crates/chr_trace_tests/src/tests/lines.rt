@@ -32,9 +32,9 @@ fn assert_activates(
     wanted: &str,
 ) -> Result<(), Memory> {
     let (sym, args) = scene.constraint(alloc, rt, place)?;
-    let line = scene
-        .scribe(alloc)
-        .activates(1, sym, args.as_slice(), Id(7))?;
+    let scribe = scene.scribe(alloc);
+    let text = scribe.known(sym, args.as_slice(), Id(7))?;
+    let line = scribe.activates(1, text.as_slice())?;
     assert_eq!(rt; line.as_slice(), wanted.as_bytes());
     Ok(())
 }

@@ -58,7 +58,7 @@ fn line_refused(rt: HostRuntime) -> Result<(), Fail> {
     Ok(())
 }
 
-/// A line of a constraint among the goals, with one growth alone.
+/// The text of a constraint among the goals with one growth alone, and a line about it with one more.
 fn assert_one_growth<M: Allocator + Copy>(
     alloc: M,
     meter: &Refusing<Global>,
@@ -67,12 +67,13 @@ fn assert_one_growth<M: Allocator + Copy>(
     wanted: &str,
 ) -> Result<(), Memory> {
     let (sym, args) = scene.constraint(alloc, rt, 0)?;
-    meter.allow(1);
-    let line = scene
-        .scribe(alloc)
-        .drops(1, sym, args.as_slice(), Id(1), 1)?;
-    assert_eq!(rt; line.as_slice(), wanted.as_bytes());
+    let scribe = scene.scribe(alloc);
+    meter.allow(2);
+    let text = scribe.known(sym, args.as_slice(), Id(1))?;
     assert_eq!(rt; meter.asked(), 1);
+    let line = scribe.drops(1, text.as_slice(), 1)?;
+    assert_eq!(rt; line.as_slice(), wanted.as_bytes());
+    assert_eq!(rt; meter.asked(), 2);
     Ok(())
 }
 
@@ -86,7 +87,7 @@ fn takes_one_growth<M: Allocator + Copy>(
     Ok(())
 }
 
-/// A ground constraint is printed as it stands: its line takes the one growth that it begins with.
+/// A ground constraint is printed as it stands: its text takes the one growth that it begins with, and so does a line about it.
 #[test]
 fn ground_line_takes_one_growth(rt: HostRuntime) -> Result<(), Fail> {
     let meter = Refusing::new(rt.alloc(), AMPLE);
