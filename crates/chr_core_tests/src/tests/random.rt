@@ -263,18 +263,24 @@ fn schedule(
     Ok(progress)
 }
 
-/// What a run shows before each of its transitions.
+/// What a machine shows before each of its transitions.
+fn walk_on(alloc: Global, machine: &mut Machine, walk: &mut Vec<Stand>) -> Result<(), Memory> {
+    for _ in 0..1_000 {
+        walk.push(stand_of(alloc, machine)?)?;
+        if machine.step()? != Stepped::Moved {
+            return Ok(());
+        }
+    }
+    Ok(())
+}
+
+/// The same of a run.
 fn walk_of(alloc: Global, program: &Program, query: Query) -> Result<Vec<Stand>, Memory>
     requires { IsQueryBounded (query_view query) }
 {
-    let mut machine = Machine::start(alloc, program, query)?;
     let mut walk = Vec::new(alloc);
-    for _ in 0..1_000 {
-        walk.push(stand_of(alloc, &machine)?)?;
-        if machine.step()? != Stepped::Moved {
-            return Ok(walk);
-        }
-    }
+    let mut machine = Machine::start(alloc, program, query)?;
+    walk_on(alloc, &mut machine, &mut walk)?;
     Ok(walk)
 }
 
@@ -322,6 +328,26 @@ fn assert_progress(
     }
 }
 
+/// Many schedules of a run that goes so.
+fn assert_along(
+    rt: &(impl Abort + Wait),
+    alloc: Global,
+    program: &Program,
+    query: &Query,
+    walk: &[Stand],
+    seed: u64,
+) -> Result<(), Memory>
+    requires { IsQueryBounded (query_view query.now) }
+{
+    let mut dice = Dice { seed };
+    for _ in 0..SCHEDULES {
+        let events = dice.roll(4 * walk.len().min(60)).saturating_add(1);
+        let progress = schedule(alloc, walk, &mut dice, events)?;
+        assert_progress(rt, alloc, program, query.copy()?, &progress)?;
+    }
+    Ok(())
+}
+
 /// Many schedules of a run.
 fn assert_schedules(
     rt: &(impl Abort + Wait),
@@ -331,12 +357,7 @@ fn assert_schedules(
 ) -> Result<(), Fail> {
     let (program, query) = both_of(alloc, run)?;
     let walk = walk_of(alloc, &program, query.copy()?)?;
-    let mut dice = Dice { seed };
-    for _ in 0..SCHEDULES {
-        let events = dice.roll(4 * walk.len().min(60)).saturating_add(1);
-        let progress = schedule(alloc, walk.as_slice(), &mut dice, events)?;
-        assert_progress(rt, alloc, &program, query.copy()?, &progress)?;
-    }
+    assert_along(rt, alloc, &program, &query, walk.as_slice(), seed)?;
     Ok(())
 }
 

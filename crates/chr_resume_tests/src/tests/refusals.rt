@@ -397,32 +397,41 @@ enum Call {
 }
 
 /// Whether the call goes through with so many growths, over the constraints of the query.
+fn is_made<A: Allocator + Copy>(
+    rt: &impl Abort,
+    meter: &Meter,
+    trial: &mut Trial<'_, A>,
+    (call, left): (Call, u64),
+) -> Result<bool, Memory> {
+    match call {
+        Call::Begins => is_begun(rt, meter, trial.alloc, trial.resuming.program(), left),
+        Call::AddsFirst => is_added_first(rt, meter, trial, left),
+        Call::Adds => is_added_and_found(rt, meter, trial, left),
+        Call::Refreshes => is_refreshed(rt, meter, trial, left),
+        Call::Tells => is_told(rt, meter, trial, left),
+        Call::Fires => is_fired(rt, meter, trial, OF_P, left),
+        Call::FiresAndGoes => is_fired(rt, meter, trial, OF_Q, left),
+        Call::Freshens => is_freshened(rt, meter, trial, &[1, 4], left),
+        Call::Resolves => is_resolved(rt, meter, trial, left),
+        Call::Finds => is_found_first(rt, meter, trial, left),
+        Call::FindsBehind => is_found_behind(rt, meter, trial, left),
+        Call::Builds => is_built(rt, meter, trial, left),
+    }
+}
+
+/// The same of a trial of its own.
 ///
 /// For any allocator, here and above: proofs for the meter as the allocator would take much longer.
 fn is_through<A: Allocator + Copy>(
     rt: &impl Abort,
     alloc: A,
     meter: &Meter,
-    (call, left): (Call, u64),
+    call: (Call, u64),
 ) -> Result<bool, Fail> {
     meter.allow(AMPLE);
     let (program, query) = both_of(alloc, PROGRAM, QUERY)?;
     let mut trial = Trial::new(rt, alloc, &program, query)?;
-    let is_made = match call {
-        Call::Begins => is_begun(rt, meter, alloc, &program, left)?,
-        Call::AddsFirst => is_added_first(rt, meter, &mut trial, left)?,
-        Call::Adds => is_added_and_found(rt, meter, &mut trial, left)?,
-        Call::Refreshes => is_refreshed(rt, meter, &mut trial, left)?,
-        Call::Tells => is_told(rt, meter, &mut trial, left)?,
-        Call::Fires => is_fired(rt, meter, &mut trial, OF_P, left)?,
-        Call::FiresAndGoes => is_fired(rt, meter, &mut trial, OF_Q, left)?,
-        Call::Freshens => is_freshened(rt, meter, &mut trial, &[1, 4], left)?,
-        Call::Resolves => is_resolved(rt, meter, &mut trial, left)?,
-        Call::Finds => is_found_first(rt, meter, &mut trial, left)?,
-        Call::FindsBehind => is_found_behind(rt, meter, &mut trial, left)?,
-        Call::Builds => is_built(rt, meter, &mut trial, left)?,
-    };
-    Ok(is_made)
+    Ok(is_made(rt, meter, &mut trial, call)?)
 }
 
 /// That the call is refused at least once, and goes through in the end. How often it is refused, which is how many growths it asks for.
