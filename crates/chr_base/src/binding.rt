@@ -26,7 +26,7 @@ impl<A: Allocator + Copy> Base<A> {
             (λ ids. numbers ids.items ≡ woken (base_view self.new).store (base_view self.new).subst) }
         ensures fresh { OnOk result (IsFresh self.new) }
     {
-        self.table.settle()?;
+        self.table.settle_all()?;
         let mut rebound = self.table.rebound(&self.bindings)?;
         let woken = mem::replace(&mut rebound.woken, Vec::new(self.alloc));
         self.table.rebind(rebound);

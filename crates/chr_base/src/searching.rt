@@ -5,12 +5,14 @@ ghost use Rattle.chr_semantics.specs.Search.{atom_of};
 ghost use Rattle.chr_semantics.specs.State.{goal};
 ghost use Rattle.chr_rules.specs.RuleView.{goal_view, rule_view};
 ghost use Rattle.chr_find.specs.SearchView.{IsSearchable};
+ghost use Rattle.chr_find.specs.TableView.{IsFor};
 
 use crate::Memory;
 use crate::base::Base;
 use chr_bodies::build_fired;
 use chr_find::{Active, Cursor};
 use chr_rules::{Goal, Rule};
+use chr_store::Id;
 use std::alloc::Allocator;
 
 impl<A: Allocator + Copy> Base<A> {
@@ -30,6 +32,16 @@ impl<A: Allocator + Copy> Base<A> {
         }
     }
 
+    /// Makes the table ready to be searched for a constraint.
+    fn ready(&mut self, id: Id) -> Result<(), Memory>
+        ensures same { base_view self.new ≡ base_view self.old }
+        ensures fresh { OnOk result (IsFresh self.new) }
+        ensures own { OnOk result (IsFor id.0 self.new.table) }
+    {
+        self.freshen()?;
+        self.table.settle_for(id)
+    }
+
     /// The identities of the first constraints with which the rule can fire, in head order: one for each head, and others that mean
     /// nothing. Contracts see the same base, after a refusal too.
     pub fn first(&mut self, active: &Active<'_, A>) -> Result<Option<[u64; 8]>, Memory>
@@ -40,7 +52,7 @@ impl<A: Allocator + Copy> Base<A> {
         ensures dead { atom_of (base_view self.old).store.rows active.now.id.0 ≡ None →
             IfOk result (λ found. found ≡ None) }
     {
-        self.freshen()?;
+        self.ready(active.id)?;
         let mut tries = 0;
         self.table.first(active, &mut tries)
     }
@@ -58,7 +70,7 @@ impl<A: Allocator + Copy> Base<A> {
         ensures dead { atom_of (base_view self.old).store.rows active.now.id.0 ≡ None →
             IfOk result (λ found. found ≡ None) }
     {
-        self.freshen()?;
+        self.ready(active.id)?;
         let mut tries = 0;
         self.table.next(active, cursor, &mut tries)
     }

@@ -27,6 +27,7 @@ impl<A: Allocator + Copy> Base<A> {
         ensures ok { OnOk result (IsShareable self.new) }
     {
         self.freshen()?;
+        self.table.settle_all()?;
         self.table.keep_keys()
     }
 

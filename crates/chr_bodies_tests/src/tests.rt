@@ -250,7 +250,7 @@ fn rebind(rt: &impl Abort, alloc: Global, table: &mut Table<Global>) -> Result<(
     let (left, right) = (Term::Var(0), Term::Int(5));
     assert!(rt; is_below(bindings.len(), &left) && is_below(bindings.len(), &right));
     bindings.unify(&left, &right)?;
-    table.settle()?;
+    table.settle_all()?;
     let rebound = table.rebound(&bindings)?;
     table.rebind(rebound);
     Ok(())

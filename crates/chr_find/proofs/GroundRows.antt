@@ -14,7 +14,7 @@ use Rattle.chr_find.specs.Places.{place_cmp}
 use Rattle.chr_find.specs.PlanView.{positions_of}
 use Rattle.chr_find.specs.Rebinding.{Replaces, is_open, open_ids}
 use Rattle.chr_find.specs.Shown.{AllOver, AreGround, Rises, atom_in, walk}
-use Rattle.chr_find.specs.TableView.{IsSettled, atom_at, atoms_with}
+use Rattle.chr_find.specs.TableView.{IsWhole, atom_at, atoms_with}
 use Rattle.chr_find.specs.declared.list.List.TheVariants.{Open}
 use Rattle.chr_find.specs.declared.rebinding.Replaced.{Replaced}
 use Rattle.chr_find.specs.declared.table.Table.{Table}
@@ -89,10 +89,10 @@ none_listed [] e = refl
 none_listed (x ∷ l) e = absurd (omega (arith, e))
 
 -- a table whose list of rows with variables is empty
-module _ {A : Type 0} (t : Table A) (settled : IsSettled t) (up : Ascends place_cmp t.noted.rows) where
+module _ {A : Type 0} (t : Table A) (whole : IsWhole t) (up : Ascends place_cmp t.noted.rows) where
   pub none_open : walk Open t.noted.rows ≡ [] → AreGround (atom_at t)
   none_open empty i a e =
-      by_test (is_ground_trees a.args) (ap (λ (o : Option Atom). atom_in Open (positions_of t.noted.plan) o) (sym e) ∙ (sym (open_looked t settled up i) ∙ ap (λ (rows : List semantics.Row). atom_of rows i) empty))
+      by_test (is_ground_trees a.args) (ap (λ (o : Option Atom). atom_in Open (positions_of t.noted.plan) o) (sym e) ∙ (sym (open_looked t whole up i) ∙ ap (λ (rows : List semantics.Row). atom_of rows i) empty))
     where
       by_test : (b : Bool) → cond (not b) (Some a) None ≡ None → b ≡ true
       by_test true e = refl

@@ -22,9 +22,11 @@ pub mod Loops
 pub mod Made
 pub mod MadeWhole
 pub mod NewRows
+pub mod Newest
 pub mod NoteSteps
 pub mod Numbers
 pub mod OwnFirst
+pub mod OwnRow
 pub mod OwnSearch
 pub mod PassedRows
 pub mod Rebinds
@@ -39,6 +41,7 @@ pub mod ShownRows
 pub mod SnapshotGuest
 pub mod TableFired
 pub mod TableRows
+pub mod TableSame
 pub mod TableShown
 pub mod TakenFirings
 pub mod TakenRows

@@ -16,11 +16,13 @@ use Rattle.chr_find.specs.Places.{place_cmp}
 use Rattle.chr_find.specs.PlanView.{positions_of}
 use Rattle.chr_find.specs.Rebinding.{IsMade, is_open, new_rows, open_ids, over, standing_rows}
 use Rattle.chr_find.specs.Shown.{AllOver, AllUnder, Rises, atom_in, rows_in_list, walk}
-use Rattle.chr_find.specs.TableView.{HasRows, IsSettled, atom_at}
+use Rattle.chr_find.specs.NotedView.{noted_atom}
+use Rattle.chr_find.specs.TableView.{HasRows, IsWhole, atom_at}
 use Rattle.chr_find.specs.declared.list.List.TheVariants.{All, Open}
 use Rattle.chr_find.specs.declared.rebinding.Replaced.{Replaced}
 use Rattle.chr_find.specs.declared.standing.Standing.{Standing}
 use Rattle.chr_find.specs.declared.table.Table.{Table}
+use Rattle.chr_find.proofs.Newest.{for_all, newest_none}
 use Rattle.chr_find.proofs.TableShown.{has_shown}
 use Rattle.chr_find.proofs.Numbers.{next_is}
 use Rattle.chr_find.proofs.Walk.{rises_walk, walk_looked, walk_shown}
@@ -133,23 +135,27 @@ pub open_all : (s : Subst) (ps : ℕ → List ℕ) (rows : List semantics.Row) �
 open_all s ps rows = ap ids_of (filter_twice (is_open s) (λ (c : semantics.Row). not (is_ground_trees c.1.args)) rows (closed_stays s))
 
 -- the rows of a table, those with variables and all
-module _ {A : Type 0} (t : Table A) (settled : IsSettled t) (up : Ascends place_cmp t.noted.rows) where
+module _ {A : Type 0} (t : Table A) (whole : IsWhole t) (up : Ascends place_cmp t.noted.rows) where
+  beside : (i : ℕ) → atom_at t i ≡ noted_atom t.noted i
+  beside i = newest_none t.newest (noted_atom t.noted) i (for_all t whole.all)
+
   pub open_rises : Rises (walk Open t.noted.rows)
   open_rises = rises_walk Open t.noted.rows up
 
   pub open_looked : (i : ℕ) → atom_of (walk Open t.noted.rows) i ≡ atom_in Open (positions_of t.noted.plan) (atom_at t i)
   open_looked i =
       walk_looked Open t.noted.rows i up
-      ∙ (ap (option_map row_atom) (sym (settled.noted.rows (record { list = Open; id = record { 0 = i } }))) ∙ t.shown (record { list = Open; id = record { 0 = i } }))
+      ∙ (ap (option_map row_atom) (sym (whole.settled.noted.rows (record { list = Open; id = record { 0 = i } })))
+      ∙ (t.shown (record { list = Open; id = record { 0 = i } }) ∙ ap (atom_in Open (positions_of t.noted.plan)) (sym (beside i))))
 
   pub all_rises : Rises (walk All t.noted.rows)
   all_rises = rises_walk All t.noted.rows up
 
   pub all_looked : (i : ℕ) → atom_of (walk All t.noted.rows) i ≡ atom_at t i
-  all_looked i = walk_looked All t.noted.rows i up ∙ ap (option_map row_atom) (sym (settled.noted.rows (record { list = All; id = record { 0 = i } })))
+  all_looked i = walk_looked All t.noted.rows i up ∙ (ap (option_map row_atom) (sym (whole.settled.noted.rows (record { list = All; id = record { 0 = i } }))) ∙ sym (beside i))
 
   pub open_rows : (rows : List semantics.Row) → HasRows t rows → walk Open t.noted.rows ≡ rows_in_list Open (positions_of t.noted.plan) rows
-  open_rows rows has = let shown = has_shown t rows settled.noted has in walk_shown (positions_of t.noted.plan) Open t.noted.rows rows up shown.rises shown.shows
+  open_rows rows has = let shown = has_shown t rows whole.settled.noted has.rises (λ i. has.same i ∙ beside i) in walk_shown (positions_of t.noted.plan) Open t.noted.rows rows up shown.rises shown.shows
 
   -- a row amid them
   module _ (l : List (Standing A)) (k : ℕ) (c : Standing A) (all : standing_rows l ≡ walk Open t.noted.rows) (lt : k < length l) (at : c ≡ get_or l k c) where

@@ -12,6 +12,8 @@ use Rattle.chr_find.specs.Firings.{history_of}
 use Rattle.chr_find.specs.First.{IsFirst}
 use Rattle.chr_find.specs.Gate.{Gate, passed}
 use Rattle.chr_find.specs.Joins.{IsQuiet}
+use Rattle.chr_find.specs.PlanView.{positions_of}
+use Rattle.chr_find.specs.Shown.{ForRows}
 use Rattle.chr_find.specs.TableView.{HasHistory, HasRows, atom_at}
 use Rattle.chr_find.specs.declared.active.Active.{Active}
 use Rattle.chr_find.specs.declared.active.Cursor.{Cursor}
@@ -29,11 +31,12 @@ module _ {A : Type 0} (t : Table A) (s : Active A) where
   abbrev pub ForOwn : (List semantics.Row → History → semantics.Row → Type 0) → Type 0
   ForOwn P = (rows : List semantics.Row) → HasRows t rows → (h : History) → HasHistory t h → (a : Atom) → atom_at t s.id.0 ≡ Some a → P rows h (s.id.0, a)
 
-  -- what the join finds, where from the quiet head on no constraint is new, and the history is the table's own
+  -- what the join finds in the lists, where from the quiet head on no constraint is new, and the history is the table's own
   abbrev pub FindsJoined : ℕ → ℕ → Gate → Option (List ℕ) → ℕ → ℕ → Type 0
   FindsJoined from quiet gate found told now =
-      (rows : List semantics.Row) → HasRows t rows → (a : Atom) → atom_at t s.id.0 ≡ Some a → (x : Head) → slice_get rule_of.heads s.place ≡ Some x → IsQuiet rows rule_of.heads s.place s.id.0 from quiet
-      → Finds (history_of t.noted.fired.all) s.number rule_of.guard [] heads_of (passed from gate (own_joined rows rule_of s.place x (s.id.0, a))) found told now
+      (a : Atom) → atom_at t s.id.0 ≡ Some a → (x : Head) → slice_get rule_of.heads s.place ≡ Some x
+      → ForRows (positions_of t.noted.plan) t.noted.rows (λ rows. IsQuiet rows rule_of.heads s.place s.id.0 from quiet
+      → Finds (history_of t.noted.fired.all) s.number rule_of.guard [] heads_of (passed from gate (own_joined rows rule_of s.place x (s.id.0, a))) found told now)
 
   -- the first tuple that can fire, and the tries of the definitions
   abbrev pub FindsFirst : Option (List ℕ) → ℕ → ℕ → Type 0

@@ -11,6 +11,7 @@ pub mod Gate
 pub mod Joins
 pub mod KeyedView
 pub mod ModeView
+pub mod Newest
 pub mod NoteView
 pub mod NotedView
 pub mod Places

@@ -9,7 +9,7 @@ use Rattle.chr_find.specs.declared.firings.Firing.{Firing}
 use Rattle.chr_find.specs.declared.list.Place.{Place}
 use Rattle.chr_find.specs.declared.lists.Change.{Change}
 use Rattle.chr_find.specs.declared.note.Note.{Note}
-use Rattle.chr_find.specs.declared.note.Note.TheVariants.{Changed, Entered, Replaced}
+use Rattle.chr_find.specs.declared.note.Note.TheVariants.{Changed, Dead, Entered, Replaced}
 use Rattle.chr_find.specs.declared.plan.Plan.{Plan}
 
 -- without the firings of the identity
@@ -25,10 +25,12 @@ module _ {A : Type 0} where
   abbrev pub rows_after : Plan A → Note A → (Place → Option (Row A)) → Place → Option (Row A)
   rows_after p (Changed c) f q = changed_at p c f q
   rows_after p (Replaced c d) f q = changed_at p d (changed_at p c f) q
+  rows_after p (Dead i) f q = f q
   rows_after p (Entered x) f q = f q
 
   -- the firings after what is noted
   abbrev pub fired_after : Note A → (Firing → Bool) → Firing → Bool
   fired_after (Changed c) f x = cond c.is_there (f x) (forgotten c.id.0 f x)
   fired_after (Replaced c d) f x = f x
+  fired_after (Dead i) f x = forgotten i f x
   fired_after (Entered g) f x = cond (same_firing x g) true (f x)

@@ -1,5 +1,5 @@
 -- The constraints of a table.
-use Rattle.std.specs.Prelude.{◌≡◌, ℕ, Bool, true, cond, ◌&&◌, ◌==◌, List, Option, is_some}
+use Rattle.std.specs.Prelude.{◌≡◌, ℕ, Bool, true, cond, ◌&&◌, ◌==◌, List, Option, Some, is_some}
 use Rattle.std.specs.List.{list_all}
 use Rattle.chr_semantics.specs.Match as semantics
 use Rattle.chr_semantics.specs.Program.{Atom}
@@ -7,8 +7,10 @@ use Rattle.chr_semantics.specs.Search.{History, atom_of, fired_before}
 use Rattle.chr_find.specs.Firings.{firing_of, fits}
 use Rattle.chr_find.specs.KeyedView as keyed
 use Rattle.chr_find.specs.NotedView.{fired_in, noted_atom}
+use Rattle.chr_find.specs.Newest.{with_newest}
 use Rattle.chr_find.specs.NotedView as noted
 use Rattle.chr_find.specs.Shown.{Rises}
+use Rattle.chr_find.specs.declared.standing.Standing.{Standing}
 use Rattle.chr_find.specs.declared.table.Table.{Table}
 
 -- with the constraint at an identity, or with none there
@@ -18,7 +20,7 @@ atoms_with f i o j = cond (j == i) o (f j)
 module _ {A : Type 0} where
   -- the constraint of an identity
   abbrev pub atom_at : Table A → ℕ → Option Atom
-  atom_at t i = noted_atom t.noted i
+  atom_at t i = with_newest t.newest (noted_atom t.noted) i
 
   abbrev pub lives : Table A → ℕ → Bool
   lives t i = is_some (atom_at t i)
@@ -27,10 +29,23 @@ module _ {A : Type 0} where
   abbrev pub fired_at : Table A → ℕ → List ℕ → Bool
   fired_at t r ids = fits ids && fired_in t.noted (firing_of r ids)
 
-  -- all changes are made, so that it can be searched
+  -- all changes that were noted are made
   pub record IsSettled (t : Table A) : Type 0 where
     pub noted : noted.IsSettled t.noted
     pub keyed : keyed.IsSettled t.keyed
+
+  -- no constraint but this one, at the most, stands beside the lists, so that they are all that a search for it looks at
+  abbrev pub IsFor : ℕ → Table A → Type 0
+  IsFor own t = (s : Standing A) → t.newest ≡ Some s → s.id.0 ≡ own
+
+  -- that is so for each constraint: none stands beside the lists
+  abbrev pub IsForAll : Table A → Type 0
+  IsForAll t = (own : ℕ) → IsFor own t
+
+  -- the lists are whole
+  pub record IsWhole (t : Table A) : Type 0 where
+    pub settled : IsSettled t
+    pub all : IsForAll t
 
   -- there is room for so many changes more
   abbrev pub HasRoom : ℕ → Table A → Type 0

@@ -10,7 +10,7 @@ use Rattle.chr_store.specs.declared.history.History.{History}
 use Rattle.chr_store.specs.declared.store.Store.{Store}
 use Rattle.chr_find.specs.Firings.{fits}
 use Rattle.chr_find.specs.ScopeView.{entries_kept, rows_kept}
-use Rattle.chr_find.specs.TableView.{IsKeyed, IsSettled, atom_at, fired_at}
+use Rattle.chr_find.specs.TableView.{IsKeyed, IsWhole, atom_at, fired_at}
 use Rattle.chr_find.specs.declared.scope.Scope.{Scope}
 use Rattle.chr_find.specs.declared.table.Table.{Table}
 
@@ -23,7 +23,7 @@ pub record IsStateOf {A : Type 0} (c : Store A) (m : Subst) (h : History A) (s :
 
 -- a table of the constraints and the firings that are in the scope
 pub record IsTakenOf {A : Type 0} (scope : Scope A) (m : Subst) (rows : List semantics.Row) (h : Entries) (t : Table A) : Type 0 where
-  pub settled : IsSettled t
+  pub whole : IsWhole t
   pub keyed : IsKeyed t
   pub atoms : (i : ℕ) → atom_at t i ≡ atom_of (rows_kept scope m rows) i
   pub fired : (r : ℕ) (ids : List ℕ) → fits ids ≡ true → fired_at t r ids ≡ fired_before (entries_kept scope rows h) r ids

@@ -3,7 +3,7 @@ ghost use Rattle.std.specs.Prelude.{◌≡◌, ◌≤◌, IfOk, None, vec_len};
 ghost use Rattle.chr_find.specs.Finding.{FindsFirst, FindsJoined, FindsNext};
 ghost use Rattle.chr_find.specs.ModeView.{gate_of};
 ghost use Rattle.chr_find.specs.SearchView.{IsSearchable};
-ghost use Rattle.chr_find.specs.TableView.{IsSettled, atom_at};
+ghost use Rattle.chr_find.specs.TableView.{IsFor, IsSettled, atom_at};
 
 use crate::Memory;
 use crate::active::{Active, Cursor};
@@ -53,9 +53,10 @@ impl<A: Allocator + Copy> Table<A> {
     }
 
     /// The first list of partners with which the rule can fire, and one try more for each complete list that was looked at. A constraint
-    /// that does not live has none.
+    /// that does not live has none. The table is ready to be searched for it.
     pub fn first(&self, active: &Active<'_, A>, tries: &mut u64) -> Result<Option<[u64; 8]>, Memory>
         requires settled { IsSettled self.now }
+        requires own { IsFor active.now.id.0 self.now }
         requires searchable { IsSearchable active.now.rule.now active.now.place }
         ensures found { IfOk result (λ found. FindsFirst self.now active.now found tries.old
             tries.new) }
@@ -75,6 +76,7 @@ impl<A: Allocator + Copy> Table<A> {
         tries: &mut u64,
     ) -> Result<Option<[u64; 8]>, Memory>
         requires settled { IsSettled self.now }
+        requires own { IsFor active.now.id.0 self.now }
         requires searchable { IsSearchable active.now.rule.now active.now.place }
         ensures found { IfOk result (λ found. FindsNext self.now active.now cursor.now found) }
         ensures dead { atom_at self.now active.now.id.0 ≡ None →

@@ -21,6 +21,8 @@ pub(crate) enum Note<A: Allocator> {
     Changed(Change<A>),
     /// A row is taken out, and another put in its place.
     Replaced(Change<A>, Change<A>),
+    /// The firings of an identity go.
+    Dead(u64),
     Entered(Firing),
 }
 
@@ -57,6 +59,7 @@ impl<A: Allocator + Copy> Note<A> {
     {
         match self {
             Note::Entered(firing) => fired.enter(*firing),
+            Note::Dead(id) => fired.forget(*id),
             Note::Replaced(out, into) => {
                 make(out, plan, rows)?;
                 make(into, plan, rows)

@@ -79,13 +79,14 @@ impl<A: Allocator + Copy> Rebound<A> {
 impl<A: Allocator + Copy> Table<A> {
     ghost use Rattle.chr_find.specs.Rebinding.{Replaces, new_rows, over};
     ghost use Rattle.chr_find.specs.Rebound.{IsRebound};
-    ghost use Rattle.chr_find.specs.TableView.{HasRoom, IsSettled, atom_at, atoms_with, fired_at};
+    ghost use Rattle.chr_find.specs.TableView.{HasRoom, IsForAll, IsWhole, atom_at, atoms_with, fired_at};
 
     /// What bindings change where some constraints may have variables.
     fn rebound_open(&mut self, bindings: &Bindings<A>) -> Result<Rebound<A>, Memory>
-        requires { IsSettled self.old }
+        requires { IsWhole self.old }
         ensures same { (i : ℕ) → atom_at self.new i ≡ atom_at self.old i }
         ensures fired { (r : ℕ) (ids : List ℕ) → fired_at self.new r ids ≡ fired_at self.old r ids }
+        ensures all { IsForAll self.new }
         ensures ok { IfOk result (IsRebound bindings.now.subst self.new) }
     {
         let mut rows = Vec::new(self.alloc);
@@ -101,9 +102,11 @@ impl<A: Allocator + Copy> Table<A> {
 
     /// Where none has, they change nothing.
     fn rebound_none(&mut self) -> Result<Rebound<A>, Memory>
-        requires { self.old.may_open ≡ false }
+        requires all { IsForAll self.old }
+        requires ground { self.old.may_open ≡ false }
         ensures same { (i : ℕ) → atom_at self.new i ≡ atom_at self.old i }
         ensures fired { (r : ℕ) (ids : List ℕ) → fired_at self.new r ids ≡ fired_at self.old r ids }
+        ensures all { IsForAll self.new }
         ensures ok { IfOk result (λ rebound. (s : Subst) → IsRebound s self.new rebound) }
     {
         self.room(0)?;
@@ -112,9 +115,10 @@ impl<A: Allocator + Copy> Table<A> {
 
     /// What bindings change: the constraints that have variables, with the bindings applied. Makes the room to note it.
     pub fn rebound(&mut self, bindings: &Bindings<A>) -> Result<Rebound<A>, Memory>
-        requires { IsSettled self.old }
+        requires { IsWhole self.old }
         ensures same { (i : ℕ) → atom_at self.new i ≡ atom_at self.old i }
         ensures fired { (r : ℕ) (ids : List ℕ) → fired_at self.new r ids ≡ fired_at self.old r ids }
+        ensures all { IsForAll self.new }
         ensures ok { IfOk result (IsRebound bindings.now.subst self.new) }
     {
         if self.may_open {
@@ -126,12 +130,14 @@ impl<A: Allocator + Copy> Table<A> {
 
     /// Notes a row in the place of another.
     fn replace(&mut self, replaced: Replaced<A>)
+        requires all { IsForAll self.old }
         requires room { HasRoom 1 self.old }
         requires there { atom_at self.old replaced.id.0 ≡ Some (row_atom replaced.old) }
         ensures atoms { (i : ℕ) → atom_at self.new i
             ≡ atoms_with (atom_at self.old) replaced.id.0 (Some (row_atom replaced.new)) i }
         ensures fired { (r : ℕ) (ids : List ℕ) → fired_at self.new r ids ≡ fired_at self.old r ids }
         ensures room { (n : ℕ) → HasRoom (n + 1) self.old → HasRoom n self.new }
+        ensures all { IsForAll self.new }
     {
         let Replaced { id, old, new } = replaced;
         self.keyed.replace(id, old.value(), new.value());
@@ -151,12 +157,14 @@ impl<A: Allocator + Copy> Table<A> {
 
     /// Notes what bindings change, as `rebound` answered it.
     pub fn rebind(&mut self, rebound: Rebound<A>)
+        requires all { IsForAll self.old }
         requires room { HasRoom (vec_len rebound.replaced) self.old }
         requires there { Replaces (atom_at self.old) rebound.replaced.items }
         ensures atoms { (i : ℕ) → atom_at self.new i
             ≡ over (new_rows rebound.replaced.items) (atom_at self.old) i }
         ensures fired { (r : ℕ) (ids : List ℕ) → fired_at self.new r ids ≡ fired_at self.old r ids }
         ensures room { (n : ℕ) → HasRoom (n + vec_len rebound.replaced) self.old → HasRoom n self.new }
+        ensures all { IsForAll self.new }
     {
         let mut left = rebound.replaced;
         while let Some(replaced) = left.pop() {

@@ -5,7 +5,7 @@ ghost use Rattle.chr_semantics.specs.Search.{History, first};
 ghost use Rattle.chr_semantics.specs.Tries.{tries_bounds};
 ghost use Rattle.chr_rules.specs.ProgramView.{rules_of};
 ghost use Rattle.chr_find.specs.SearchedView.{IsSearched};
-ghost use Rattle.chr_find.specs.TableView.{HasHistory, HasRows, IsSettled};
+ghost use Rattle.chr_find.specs.TableView.{HasHistory, HasRows, IsFor, IsSettled};
 
 use crate::Memory;
 use crate::active::Active;
@@ -47,7 +47,8 @@ pub(crate) fn search<A: Allocator + Copy>(
     table: &Table<A>,
     task: Task,
 ) -> Result<Searched, Memory>
-    requires { IsSettled table.now }
+    requires settled { IsSettled table.now }
+    requires own { IsFor task.goal.0 table.now }
     ensures { IfOk result (λ found. (rows : List semantics.Row) → HasRows table.now rows →
         (h : History) → HasHistory table.now h →
         IsSearched (first (rules_of program.now) rows h task.goal.0 task.occurrence)

@@ -8,7 +8,7 @@ ghost use Rattle.chr_store.specs.KeyView.{keys_view};
 ghost use Rattle.chr_store.specs.Numbers.{numbers};
 ghost use Rattle.chr_store.specs.Rows.{row_atom};
 ghost use Rattle.chr_find.specs.AtomCode.{atoms};
-ghost use Rattle.chr_find.specs.TableView.{IsKeyed, IsSettled, atom_at};
+ghost use Rattle.chr_find.specs.TableView.{IsKeyed, IsWhole, atom_at};
 
 use crate::Memory;
 use crate::searched::{Searched, search};
@@ -35,7 +35,7 @@ pub struct Snapshot<A: Allocator = Global> {
     pub(crate) next: Id,
     pub(crate) tasks: Vec<Task, A>,
     pub(crate) guest: Option<Pointer<Row<A>, A>>,
-    ghost settled: { IsSettled table },
+    ghost whole: { IsWhole table },
     ghost keyed: { IsKeyed table },
     ghost free: { (i : ℕ) → next.0 ≤ i → atom_at table i ≡ None } by { Prim.hlevel atoms },
 }
@@ -72,7 +72,7 @@ impl<A: Allocator + Copy> Snapshot<A> {
         tasks: Vec<Task, A>,
         guest: Option<Pointer<Row<A>, A>>,
     ) -> Result<Snapshot<A>, Memory>
-        requires settled { IsSettled table.now }
+        requires whole { IsWhole table.now }
         requires keyed { IsKeyed table.now }
         requires free { (i : ℕ) → next.0 ≤ i → atom_at table.now i ≡ None }
         ensures { IfOk result (λ shared. (q : semantics.Snapshot) →
@@ -112,7 +112,7 @@ impl<A: Allocator + Copy> Snapshot<A> {
         let mut table = self.table.share()?;
         table.room(1)?;
         table.add(task.goal, guest.share()?);
-        table.settle()?;
+        table.settle_for(task.goal)?;
         search(program, &table, task)
     }
 }

@@ -1,10 +1,12 @@
 //! Tables: the living constraints and what has fired with them, to be searched.
-ghost use Rattle.std.specs.Prelude.{◌≡◌, ◌+◌, ◌≤◌, ◌&&◌, ◌||◌, ◌==◌, IfOk, List, None, OnOk, Some, ℕ, false, length, not, option_map};
+ghost use Rattle.std.specs.Prelude.{◌≡◌, ◌+◌, ◌≤◌, ◌&&◌, ◌||◌, ◌==◌, IfOk, List, None, OnOk, Some, ℕ, false, length, not, option_map, true};
 ghost use Rattle.chr_semantics.specs.Search.{has_number, same_ids};
 ghost use Rattle.chr_semantics.specs.Tree.{is_ground_trees};
 ghost use Rattle.chr_store.specs.Rows.{row_atom};
 ghost use Rattle.chr_find.specs.AtomCode.{atoms};
 ghost use Rattle.chr_find.specs.KeyedView.{AreListed};
+ghost use Rattle.chr_find.specs.Newest.{IsApart, IsNot, IsThe, with_newest};
+ghost use Rattle.chr_find.specs.NotedView as listing;
 ghost use Rattle.chr_find.specs.NotedView.{AreShown, noted_atom};
 ghost use Rattle.chr_find.specs.Shown.{AreGround};
 
@@ -17,25 +19,31 @@ use crate::lists::Change;
 use crate::note::Note;
 use crate::noted::Noted;
 use crate::plan::Plan;
-use crate::standing::collect;
+use crate::standing::{Standing, collect};
 use chr_map::{Map, Pointer, Share};
 use chr_store::{Id, Row};
 use chr_term::are_ground;
 use std::alloc::{Allocator, Global};
+use std::mem;
 
 /// The living constraints with their resolved arguments, by symbol and by what they have at their positions, and the firings whose
 /// constraints all live. A change takes two calls: one makes room, which may be refused, and the other notes it, which takes no memory.
 /// Before the next search `settle` makes what was noted. Contracts see the constraint of each identity and the firings, as when all is made.
+///
+/// The constraint that was added last stands beside the lists until another is added, or searched for: it is no partner of itself, and
+/// many constraints live no longer than that.
 #[derive(Drop)]
 pub struct Table<A: Allocator = Global> {
     pub(crate) noted: Noted<A>,
+    pub(crate) newest: Option<Standing<A>>,
     pub(crate) keyed: Keyed<A>,
     /// Whether a constraint may have variables: where none has, bindings change nothing.
     pub(crate) may_open: bool,
     pub(crate) alloc: A,
     ghost shown: { AreShown noted } by { Prim.hlevel atoms },
-    ghost listed: { AreListed (noted_atom noted) keyed },
-    ghost ground: { may_open ≡ false → AreGround (noted_atom noted) },
+    ghost apart: { IsApart newest (noted_atom noted) } by { Prim.hlevel atoms },
+    ghost listed: { AreListed (with_newest newest (noted_atom noted)) keyed },
+    ghost ground: { may_open ≡ false → AreGround (with_newest newest (noted_atom noted)) },
 }
 
 /// Whether a row has variables.
@@ -45,17 +53,29 @@ pub(crate) fn is_open<A: Allocator>(row: &Row<A>) -> bool
     !are_ground(row.args.as_slice())
 }
 
+/// Whether the newest constraint is the one with the identity.
+fn is_newest<A: Allocator>(newest: &Option<Standing<A>>, id: Id) -> bool
+    ensures yes { result ≡ true → IsThe newest.now id.0 }
+    ensures no { result ≡ false → IsNot newest.now id.0 }
+{
+    match newest {
+        None => false,
+        Some(standing) => standing.id == id,
+    }
+}
+
 impl<A: Allocator + Copy> Table<A> {
-    ghost use Rattle.chr_find.specs.TableView.{HasRoom, IsKeyed, IsSettled, atom_at, atoms_with, fired_at};
+    ghost use Rattle.chr_find.specs.TableView.{HasRoom, IsFor, IsForAll, IsKeyed, IsSettled, IsWhole, atom_at, atoms_with, fired_at};
 
     /// No constraint, and no firing.
     pub fn new(alloc: A, plan: Pointer<Plan<A>, A>) -> Table<A>
         ensures atoms { (i : ℕ) → atom_at result i ≡ None }
         ensures fired { (r : ℕ) (ids : List ℕ) → fired_at result r ids ≡ false }
-        ensures settled { IsSettled result }
+        ensures whole { IsWhole result }
     {
         Table {
             noted: Noted::new(alloc, plan, Map::new(alloc), Fired::new(alloc)),
+            newest: None,
             keyed: Keyed::off(),
             may_open: false,
             alloc,
@@ -66,10 +86,30 @@ impl<A: Allocator + Copy> Table<A> {
     pub fn room(&mut self, more: usize) -> Result<(), Memory>
         ensures same { (i : ℕ) → atom_at self.new i ≡ atom_at self.old i }
         ensures fired { (r : ℕ) (ids : List ℕ) → fired_at self.new r ids ≡ fired_at self.old r ids }
+        ensures own { (i : ℕ) → IsFor i self.old → IsFor i self.new }
         ensures ok { OnOk result (HasRoom more self.new) }
     {
         self.keyed.room(more)?;
         self.noted.room(more)
+    }
+
+    /// Notes that the newest constraint has to be put into the lists, for which there is room.
+    fn list_newest(&mut self)
+        requires { listing.HasRoom 1 self.old.noted }
+        ensures same { (i : ℕ) → atom_at self.new i ≡ atom_at self.old i }
+        ensures fired { (r : ℕ) (ids : List ℕ) → fired_at self.new r ids ≡ fired_at self.old r ids }
+        ensures newest { self.new.newest ≡ None }
+        ensures keyed { self.new.keyed ≡ self.old.keyed }
+        ensures open { self.new.may_open ≡ self.old.may_open }
+        ensures room { (n : ℕ) → listing.HasRoom (n + 1) self.old.noted → listing.HasRoom n self.new.noted }
+    {
+        if let Some(Standing { id, row }) = mem::replace(&mut self.newest, None) {
+            self.noted.note(Note::Changed(Change {
+                id,
+                row,
+                is_there: true,
+            }));
+        }
     }
 
     /// Notes that a constraint lives.
@@ -81,13 +121,10 @@ impl<A: Allocator + Copy> Table<A> {
         ensures fired { (r : ℕ) (ids : List ℕ) → fired_at self.new r ids ≡ fired_at self.old r ids }
         ensures room { (n : ℕ) → HasRoom (n + 1) self.old → HasRoom n self.new }
     {
+        self.list_newest();
         self.keyed.enter(id, row.value());
         self.may_open = self.may_open | is_open(row.value());
-        self.noted.note(Note::Changed(Change {
-            id,
-            row,
-            is_there: true,
-        }));
+        self.newest = Some(Standing { id, row });
     }
 
     /// Notes that a constraint lives no more, and forgets its firings. Its row is the one that stands there.
@@ -100,11 +137,16 @@ impl<A: Allocator + Copy> Table<A> {
         ensures room { (n : ℕ) → HasRoom (n + 1) self.old → HasRoom n self.new }
     {
         self.keyed.leave(id, row.value());
-        self.noted.note(Note::Changed(Change {
-            id,
-            row,
-            is_there: false,
-        }));
+        if is_newest(&self.newest, id) {
+            self.newest = None;
+            self.noted.note(Note::Dead(id.0));
+        } else {
+            self.noted.note(Note::Changed(Change {
+                id,
+                row,
+                is_there: false,
+            }));
+        }
     }
 
     /// Notes that a rule has fired with constraints, given in head order.
@@ -119,22 +161,71 @@ impl<A: Allocator + Copy> Table<A> {
         self.noted.note(Note::Entered(Firing::new(rule, ids)));
     }
 
-    /// Makes all changes that are noted. Contracts see the same constraints, after a refusal too.
+    /// Makes all changes that are noted; the newest constraint stays beside the lists. Contracts see the same constraints, after a refusal
+    /// too.
     pub fn settle(&mut self) -> Result<(), Memory>
         ensures same { (i : ℕ) → atom_at self.new i ≡ atom_at self.old i }
         ensures fired { (r : ℕ) (ids : List ℕ) → fired_at self.new r ids ≡ fired_at self.old r ids }
+        ensures own { (i : ℕ) → IsFor i self.old → IsFor i self.new }
         ensures ok { OnOk result (IsSettled self.new) }
     {
         self.keyed.settle()?;
         self.noted.settle()
     }
 
-    /// Begins to keep the identities by key, which snapshots lend. It does nothing where they are kept.
-    pub fn keep_keys(&mut self) -> Result<(), Memory>
-        requires { IsSettled self.old }
+    /// Makes room for the newest constraint, if there is one, and notes that it has to be put into the lists.
+    fn enlist(&mut self) -> Result<(), Memory>
         ensures same { (i : ℕ) → atom_at self.new i ≡ atom_at self.old i }
         ensures fired { (r : ℕ) (ids : List ℕ) → fired_at self.new r ids ≡ fired_at self.old r ids }
-        ensures settled { IsSettled self.new }
+        ensures ok { OnOk result (IsForAll self.new) }
+    {
+        if self.newest.is_some() {
+            self.noted.room(1)?;
+            self.list_newest();
+        }
+        Ok(())
+    }
+
+    /// Whether no other constraint than this stands beside the lists.
+    fn is_for(&self, id: Id) -> bool
+        ensures { result ≡ true → IsFor id.0 self.now }
+    {
+        match &self.newest {
+            None => true,
+            Some(newest) => newest.id == id,
+        }
+    }
+
+    /// Makes the lists whole, for any search. Contracts see the same constraints, after a refusal too.
+    pub fn settle_all(&mut self) -> Result<(), Memory>
+        ensures same { (i : ℕ) → atom_at self.new i ≡ atom_at self.old i }
+        ensures fired { (r : ℕ) (ids : List ℕ) → fired_at self.new r ids ≡ fired_at self.old r ids }
+        ensures ok { OnOk result (IsWhole self.new) }
+    {
+        self.enlist()?;
+        self.settle()
+    }
+
+    /// Makes the table ready to be searched for a constraint. Contracts see the same constraints, after a refusal too.
+    pub fn settle_for(&mut self, id: Id) -> Result<(), Memory>
+        ensures same { (i : ℕ) → atom_at self.new i ≡ atom_at self.old i }
+        ensures fired { (r : ℕ) (ids : List ℕ) → fired_at self.new r ids ≡ fired_at self.old r ids }
+        ensures settled { OnOk result (IsSettled self.new) }
+        ensures own { OnOk result (IsFor id.0 self.new) }
+    {
+        if self.is_for(id) {
+            self.settle()
+        } else {
+            self.settle_all()
+        }
+    }
+
+    /// Begins to keep the identities by key, which snapshots lend. It does nothing where they are kept.
+    pub fn keep_keys(&mut self) -> Result<(), Memory>
+        requires { IsWhole self.old }
+        ensures same { (i : ℕ) → atom_at self.new i ≡ atom_at self.old i }
+        ensures fired { (r : ℕ) (ids : List ℕ) → fired_at self.new r ids ≡ fired_at self.old r ids }
+        ensures whole { IsWhole self.new }
         ensures ok { OnOk result (IsKeyed self.new) }
     {
         if self.keyed.is_kept() {
@@ -146,10 +237,10 @@ impl<A: Allocator + Copy> Table<A> {
         Ok(())
     }
 
-    /// The row of a constraint that lives.
-    pub fn row(&self, id: Id) -> Option<&Pointer<Row<A>, A>>
+    /// The row of a constraint that stands in the lists.
+    fn listed_row(&self, id: Id) -> Option<&Pointer<Row<A>, A>>
         requires { IsSettled self.now }
-        ensures { option_map (λ row. row_atom row.now) result ≡ atom_at self.now id.0 }
+        ensures { option_map (λ row. row_atom row.now) result ≡ noted_atom self.now.noted id.0 }
     {
         let place = Place {
             list: Listing::All,
@@ -158,13 +249,30 @@ impl<A: Allocator + Copy> Table<A> {
         self.noted.rows.get(&place)
     }
 
+    /// The row of a constraint that lives.
+    pub fn row(&self, id: Id) -> Option<&Pointer<Row<A>, A>>
+        requires { IsSettled self.now }
+        ensures { option_map (λ row. row_atom row.now) result ≡ atom_at self.now id.0 }
+    {
+        match &self.newest {
+            None => self.listed_row(id),
+            Some(newest) => {
+                if newest.id == id {
+                    Some(&newest.row)
+                } else {
+                    self.listed_row(id)
+                }
+            }
+        }
+    }
+
     /// The same constraints and firings again, at the price of some pointers.
     pub fn share(&self) -> Result<Table<A>, Memory>
-        requires { IsSettled self.now }
+        requires { IsWhole self.now }
         ensures atoms { IfOk result (λ shared. (i : ℕ) → atom_at shared i ≡ atom_at self.now i) }
         ensures fired { IfOk result (λ shared. (r : ℕ) (ids : List ℕ) →
             fired_at shared r ids ≡ fired_at self.now r ids) }
-        ensures settled { IfOk result (λ shared. IsSettled shared) }
+        ensures whole { IfOk result (λ shared. IsWhole shared) }
         ensures keyed { IfOk result (λ shared. IsKeyed self.now → IsKeyed shared) }
     {
         let plan = self.noted.plan.share()?;
@@ -172,6 +280,7 @@ impl<A: Allocator + Copy> Table<A> {
         let fired = self.noted.fired.share()?;
         Ok(Table {
             noted: Noted::new(self.alloc, plan, rows, fired),
+            newest: None,
             keyed: self.keyed.share()?,
             may_open: self.may_open,
             alloc: self.alloc,

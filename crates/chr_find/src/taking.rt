@@ -173,7 +173,7 @@ fn fill<A: Allocator + Copy>(
 {
     add_rows(table, store, bindings, scope)?;
     add_firings(table, store, history, scope)?;
-    table.settle()?;
+    table.settle_all()?;
     table.keep_keys()?;
     Ok(())
 }

@@ -112,7 +112,7 @@ fn rebind<A: Allocator + Copy>(
     table: &mut Table<A>,
     bindings: &Bindings<A>,
 ) -> Result<Vec<u64, A>, Memory> {
-    table.settle()?;
+    table.settle_all()?;
     let rebound = table.rebound(bindings)?;
     let mut woken = Vec::new(alloc);
     for id in &rebound.woken {
@@ -168,7 +168,7 @@ fn first<A: Allocator + Copy>(
     program: &Program<A>,
     at: (u64, u32),
 ) -> Result<(Option<Vec<u64, A>>, u64), Memory> {
-    table.settle()?;
+    table.settle_for(Id(at.0))?;
     let active = match active_at(table, program, at) {
         None => return Ok((None, 0)),
         Some(active) => active,
@@ -252,6 +252,36 @@ fn removed_with_its_firings(rt: HostRuntime) -> Result<(), Fail> {
             Step::AddsLike(1, 2),
             Step::Finds(3, 1, &[3, 2]),
             Step::Finds(1, 1, &[]),
+        ],
+    )
+}
+
+/// The constraint that was added last finds the others, and they find it. One that is removed at once is found by none, and leaves no firing.
+#[test]
+fn newest_constraint(rt: HostRuntime) -> Result<(), Fail> {
+    assert_steps(
+        &rt,
+        rt.alloc(),
+        (PAIRS, "q(1), p(3)."),
+        &[
+            Step::AddsLike(1, 3),
+            Step::Finds(3, 1, &[2, 3]),
+            Step::Removes(1),
+            Step::Finds(2, 1, &[2, 3]),
+            Step::AddsLike(3, 4),
+            Step::Fires(&[2, 4]),
+            Step::Finds(4, 1, &[]),
+            Step::Removes(4),
+            Step::Finds(4, 1, &[]),
+            Step::Finds(2, 1, &[2, 3]),
+            Step::AddsLike(3, 4),
+            Step::Finds(4, 1, &[2, 4]),
+            Step::AddsLike(4, 5),
+            Step::Removes(4),
+            Step::Finds(5, 1, &[2, 5]),
+            Step::Shares,
+            Step::Removes(5),
+            Step::Differs(&[5]),
         ],
     )
 }

@@ -303,7 +303,7 @@ fn of_one_row(
     let mut table = Table::new(alloc, plan);
     table.room(1)?;
     table.add(Id(1), row);
-    table.settle()?;
+    table.settle_all()?;
     table.keep_keys()?;
     Snapshot::of(&table, Id(2), Vec::new(alloc), None)
 }

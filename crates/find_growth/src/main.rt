@@ -47,7 +47,7 @@ fn pair_of(alloc: Global, pairs: Pairs, id: u64) -> Result<Pointer<Row>, Memory>
 
 /// Adds a constraint, unless its identity is taken.
 fn add(table: &mut Table, id: u64, row: Pointer<Row>) -> Result<(), Memory> {
-    table.settle()?;
+    table.settle_all()?;
     if table.row(Id(id)).is_some() {
         return Ok(());
     }
@@ -58,7 +58,7 @@ fn add(table: &mut Table, id: u64, row: Pointer<Row>) -> Result<(), Memory> {
 
 /// Removes a constraint, if it is there.
 fn remove(table: &mut Table, id: u64) -> Result<(), Memory> {
-    table.settle()?;
+    table.settle_all()?;
     let row = match table.row(Id(id)) {
         None => return Ok(()),
         Some(row) => row.share()?,
@@ -73,14 +73,14 @@ fn add_all(alloc: Global, table: &mut Table, pairs: Pairs) -> Result<(), Memory>
         let id = pairs.first.saturating_add(k);
         add(table, id, pair_of(alloc, pairs, id)?)?;
     }
-    table.settle()
+    table.settle_all()
 }
 
 fn remove_all(table: &mut Table, pairs: Pairs) -> Result<(), Memory> {
     for k in 0..pairs.count {
         remove(table, pairs.first.saturating_add(k))?;
     }
-    table.settle()
+    table.settle_all()
 }
 
 /// How many of the constraints find partners at an occurrence.
@@ -94,7 +94,7 @@ fn search_all(
         None => return Ok(0),
         Some(occurrence) => occurrence,
     };
-    table.settle()?;
+    table.settle_all()?;
     let mut count: u64 = 0;
     let mut tries = 0;
     for k in 0..pairs.count {
@@ -120,7 +120,7 @@ fn fire_all(program: &Program, table: &mut Table, sym: Sym, id: u64) -> Result<u
     let mut count: u64 = 0;
     let mut tries = 0;
     for _ in 0..u64::MAX {
-        table.settle()?;
+        table.settle_all()?;
         let found = match table.next(&active, &cursor, &mut tries)? {
             None => return Ok(count),
             Some(found) => found,
@@ -137,7 +137,7 @@ fn fire_all(program: &Program, table: &mut Table, sym: Sym, id: u64) -> Result<u
 fn share_all(alloc: Global, table: &mut Table, pairs: Pairs) -> Result<Vec<Table>, Memory> {
     let mut kept = Vec::with_capacity(alloc, KEPT as usize)?;
     for k in 0..KEPT {
-        table.settle()?;
+        table.settle_all()?;
         kept.push(table.share()?)?;
         let oldest = pairs.first.saturating_add(k);
         if k % 2 == 0 {
@@ -147,7 +147,7 @@ fn share_all(alloc: Global, table: &mut Table, pairs: Pairs) -> Result<Vec<Table
             add(table, id, pair_of(alloc, pairs, id)?)?;
         }
     }
-    table.settle()?;
+    table.settle_all()?;
     Ok(kept)
 }
 
@@ -278,7 +278,7 @@ fn kept(rt: &HostRuntime, program: &Program, symbols: Symbols, size: u64) -> io:
         count: size,
     };
     add_all(alloc, &mut table, pairs)?;
-    table.settle()?;
+    table.settle_all()?;
     table.keep_keys()?;
     let start = Instant::now(rt)?;
     let tables = share_all(alloc, &mut table, pairs)?;

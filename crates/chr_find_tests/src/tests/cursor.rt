@@ -9,7 +9,7 @@ pub(crate) fn go_on<A: Allocator + Copy>(
     next: u64,
 ) -> Result<(Option<Vec<u64, A>>, u64), Memory> {
     let table = &mut trial.table;
-    table.settle()?;
+    table.settle_for(Id(at.0))?;
     let active = match active_at(table, &trial.program, at) {
         None => return Ok((None, 0)),
         Some(active) => active,

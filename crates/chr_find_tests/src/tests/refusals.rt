@@ -170,7 +170,7 @@ fn is_there_room<A: Allocator + Copy>(
     Ok(is_done)
 }
 
-/// Whether `settle` meets a refusal with so many growths; if it meets none, it goes through.
+/// Whether `settle_all` meets a refusal with so many growths; if it meets none, it goes through.
 fn is_refused<A: Allocator + Copy>(
     rt: &impl Abort,
     meter: &Meter,
@@ -178,14 +178,14 @@ fn is_refused<A: Allocator + Copy>(
     left: u64,
 ) -> bool {
     meter.allow(left);
-    let is_done = table.settle().is_ok();
+    let is_done = table.settle_all().is_ok();
     let is_refused = meter.asked() > left;
     assert!(rt; is_done || is_refused, "{left}");
     meter.allow(AMPLE);
     is_refused
 }
 
-/// Whether `settle` meets no refusal with so many growths, after a change of a table that is shared. Called again with memory it comes to what
+/// Whether `settle_all` meets no refusal with so many growths, after a change of a table that is shared. Called again with memory it comes to what
 /// was noted, and the shared table stays.
 fn is_made<A: Allocator + Copy>(
     rt: &impl Abort,
@@ -203,7 +203,7 @@ fn is_made<A: Allocator + Copy>(
     Ok(!is_refused)
 }
 
-/// Whether `settle` meets no refusal with so many growths, where it forgets the firing of a constraint that is removed. Were the constraint
+/// Whether `settle_all` meets no refusal with so many growths, where it forgets the firing of a constraint that is removed. Were the constraint
 /// there again, it would fire again.
 fn is_forgotten<A: Allocator + Copy>(
     rt: &impl Abort,
@@ -226,7 +226,7 @@ fn is_other<A: Allocator + Copy>(
     trial: &mut Trial<A>,
     left: u64,
 ) -> Result<bool, Memory> {
-    trial.table.settle()?;
+    trial.table.settle_all()?;
     meter.allow(left);
     let answer = trial.table.share();
     assert_eq!(rt; meter.asked() > left, answer.is_err(), "{left}");
@@ -264,7 +264,7 @@ fn is_noted<A: Allocator + Copy>(
     trial: &mut Trial<A>,
     left: u64,
 ) -> Result<bool, Memory> {
-    trial.table.settle()?;
+    trial.table.settle_all()?;
     meter.allow(left);
     let is_done = match trial.table.rebound(&trial.bindings) {
         Ok(rebound) => {
@@ -377,7 +377,7 @@ fn room_refused(rt: HostRuntime) -> Result<(), Fail> {
     assert_refused(&rt, rt.alloc(), Call::Rooms, 1)
 }
 
-/// What is noted is made in the end, wherever `settle` was refused before.
+/// What is noted is made in the end, wherever `settle_all` was refused before.
 #[test]
 fn settle_refused(rt: HostRuntime) -> Result<(), Fail> {
     for change in [Change::Add, Change::Remove, Change::Fire, Change::Rebind] {
@@ -386,7 +386,7 @@ fn settle_refused(rt: HostRuntime) -> Result<(), Fail> {
     Ok(())
 }
 
-/// All firings of a removed constraint are forgotten in the end, wherever `settle` was refused before.
+/// All firings of a removed constraint are forgotten in the end, wherever `settle_all` was refused before.
 #[test]
 fn forgetting_refused(rt: HostRuntime) -> Result<(), Fail> {
     assert_refused(&rt, rt.alloc(), Call::Forgets, 1)

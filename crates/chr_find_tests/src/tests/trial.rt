@@ -53,7 +53,7 @@ impl<A: Allocator + Copy> Trial<A> {
     pub(crate) fn new(alloc: A, program: Program<A>, query: Query<A>) -> Result<Trial<A>, Memory> {
         let bindings = unbound(alloc, &query)?;
         let mut table = table_of(alloc, &program, query)?;
-        table.settle()?;
+        table.settle_all()?;
         let other = table.share()?;
         Ok(Trial {
             alloc,
@@ -106,7 +106,7 @@ impl<A: Allocator + Copy> Trial<A> {
 
     /// The other table is this one, shared.
     pub(crate) fn share(&mut self) -> Result<(), Memory> {
-        self.table.settle()?;
+        self.table.settle_all()?;
         self.other = self.table.share()?;
         Ok(())
     }

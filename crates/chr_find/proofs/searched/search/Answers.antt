@@ -1,4 +1,4 @@
-use Rattle.std.proofs.Common.{◌≡◌, ◌∙◌, Option, Some, ap, arith, length, sym}
+use Rattle.std.proofs.Common.{◌≡◌, ◌∙◌, Option, Some, ap, arith, length, subst, sym, ℕ}
 use Rattle.std.specs.Prelude.{option_map, slice_get}
 use Rattle.chr_rules.specs.Index.{pair_of}
 use Rattle.chr_rules.specs.ProgramView.{rules_of}
@@ -7,7 +7,7 @@ use Rattle.chr_semantics.specs.Program.{Atom, Rule, occurrence}
 use Rattle.chr_semantics.specs.Search.{atom_of}
 use Rattle.chr_store.specs.Rows.{row_atom}
 use Rattle.chr_store.specs.declared.row.Row.{Row}
-use Rattle.chr_find.specs.TableView.{atom_at}
+use Rattle.chr_find.specs.TableView.{IsFor, atom_at}
 use Rattle.chr_find.proofs.FoundLaw.{answered, occurrence_is}
 use Rattle.chr_semantics.proofs.OccurrenceRule.{occurrence_rule}
 use Rattle.chr_find.proofs.RuleHeads.{heads_length}
@@ -15,6 +15,9 @@ use Rattle.chr_find.proofs.searched.search.Goals as goal
 
 some_rule : (x y : Rule) → ◌≡◌ {A = Option Rule} (Some x) (Some y) → x ≡ y
 some_rule x y e = cc
+
+pub first-requires-clause-own : goal.first-requires-clause-own
+first-requires-clause-own g c = subst (λ (n : ℕ). IsFor n c.args.table.now) (ap (λ x. x.0) (sym c.at-active.ensures.id)) c.requires.own
 
 pub returns : goal.returns
 returns g c = λ rows has h fired.

@@ -1,4 +1,4 @@
-use Rattle.std.proofs.Common.{ap, option_map, refl, subst, sym, ◌≡◌, ◌∙◌, ◌≤◌, ℕ}
+use Rattle.std.proofs.Common.{ap, option_map, refl, subst, sym, ◌∙◌, ◌≤◌, ℕ}
 use Rattle.std.proofs.lemmas.Result.{IfOk-weaker}
 use Rattle.chr_semantics.specs.Snapshot.{snapshot_for}
 use Rattle.chr_store.specs.Rows.{row_atom}
@@ -12,6 +12,9 @@ of-requires-clause-free g c = λ i h.
     let b = c.args.self.now in
     b.agrees.resolved c.requires.fresh.resolved i
     ∙ ap (under b.bindings.subst) (b.agrees.given i (subst (λ (n : ℕ). n ≤ i) c.next.ensures h))
+
+pub of-requires-clause-whole : goal.of-requires-clause-whole
+of-requires-clause-whole g c = record { settled = c.requires.fresh.settled; all = c.requires.all }
 
 pub returns : goal.returns
 returns g c =

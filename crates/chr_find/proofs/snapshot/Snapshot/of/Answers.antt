@@ -2,7 +2,7 @@ use Rattle.std.proofs.Common.{◌∙◌, sym}
 use Rattle.chr_find.proofs.snapshot.Snapshot.of.Goals as goal
 
 pub invariant_of-result : goal.invariant_of-result
-invariant_of-result g c = record { settled = c.in_ok-table.ensures.settled; keyed = c.in_ok-table.ensures.keyed c.requires.keyed; free = λ i le. c.in_ok-table.ensures.atoms i ∙ c.requires.free i le }
+invariant_of-result g c = record { whole = c.in_ok-table.ensures.whole; keyed = c.in_ok-table.ensures.keyed c.requires.keyed; free = λ i le. c.in_ok-table.ensures.atoms i ∙ c.requires.free i le }
 
 pub returns : goal.returns
 returns g c = λ q is. record {

@@ -18,6 +18,9 @@ was_true : (b : Bool) → false ≡ not b → b ≡ true
 was_true true e = refl
 was_true false e = cc
 
+pub search-requires-clause-own : goal.search-requires-clause-own
+search-requires-clause-own g c = c.args.self.now.whole.all c.args.task.goal.0
+
 pub add-requires-clause-absent : goal.add-requires-clause-absent
 add-requires-clause-absent g c =
     let s = c.args.self.now in
@@ -34,7 +37,7 @@ returns g c =
     let at : i ≡ s.next.0 = (Decides-eqb i s.next.0).0 (was_true _ c.if-ne.ensures) in
     let guest : Row g.row.A.Denot = c.in-Some.guest in
     let a : Atom = row_atom guest in
-    let t = c.settle.new.self in
+    let t = c.settle_for.new.self in
     if_more _ _ c.search-2.result c.search-2.ensures
     (λ found f q is.
     let here : i ≡ q.next_id = at ∙ sym is.next in
@@ -46,8 +49,8 @@ returns g c =
     ∙ (ap (λ (n : ℕ). cond (k == n) (Some a) (atom_of q.rows k)) (sym here)
     ∙ (ap (λ (o : Option Atom). cond (k == i) (Some a) o) (is.rows.same k ∙ sym (c.in_ok-room.ensures.same k ∙ c.in_ok-table.ensures.atoms k))
     ∙ (ap (λ (r : Row g.row.A.Denot). cond (k == i) (Some (row_atom r)) (atom_at c.room.new.self k)) (sym c.in_ok-share.ensures)
-    ∙ sym (c.in_ok-settle.ensures.same k ∙ c.add.ensures.atoms k))))
+    ∙ sym (c.in_ok-settle_for.ensures.same k ∙ c.add.ensures.atoms k))))
     in
     let has : HasRows t rows = record { rises = rises_guest q.next_id a q.rows is.rows.rises free; same = same } in
     subst (λ (l : List semantics.Row). IsSearched (first p l q.history i j) (tries_bounds p l q.history i j) found) (sym (seen_guest q i a here has_guest))
-    (f rows has q.history (λ r ids short live. is.history r ids short ∙ sym (c.in_ok-settle.ensures.fired r ids ∙ (c.add.ensures.fired r ids ∙ (c.in_ok-room.ensures.fired r ids ∙ c.in_ok-table.ensures.fired r ids))))))
+    (f rows has q.history (λ r ids short live. is.history r ids short ∙ sym (c.in_ok-settle_for.ensures.fired r ids ∙ (c.add.ensures.fired r ids ∙ (c.in_ok-room.ensures.fired r ids ∙ c.in_ok-table.ensures.fired r ids))))))

@@ -10,7 +10,7 @@ pub invariant_of-result : goal.invariant_of-result
 invariant_of-result g c =
     let t = c.in_ok-table.ensures in
     record {
-      settled = t.settled;
+      whole = t.whole;
       keyed = t.keyed;
       free = λ i le. taken_free c.args.store.now c.args.bindings.now.subst c.args.history.now c.whole.result c.in_ok-table.table t i (omega (arith, c.next.ensures, le));
     }

@@ -1,38 +1,43 @@
-use Rattle.std.proofs.Common.{◌≡◌, ◌∙◌, Some, ap, sym, true, ℕ}
+use Rattle.std.proofs.Common.{◌∙◌, ◌==◌, ◌+◌, Option, Some, ap, cond, subst, sym}
+use Rattle.chr_semantics.specs.Program.{Atom}
 use Rattle.chr_store.specs.Rows.{row_atom}
 use Rattle.chr_store.specs.declared.row.Row.{Row}
+use Rattle.chr_find.specs.KeyedView.{HasRoom}
 use Rattle.chr_find.specs.NotedView.{noted_atom}
+use Rattle.chr_find.specs.Newest.{with_newest}
 use Rattle.chr_find.specs.TableView.{atoms_with}
-use Rattle.chr_find.specs.declared.lists.Change.{Change}
+use Rattle.chr_find.specs.declared.standing.Standing.{Standing}
 use Rattle.chr_find.proofs.GroundRows.{ground_added, ground_alike}
 use Rattle.chr_find.proofs.KeyedTables.{listed_alike}
-use Rattle.chr_find.proofs.TableFired.{fired_same}
-use Rattle.chr_find.proofs.TableRows.{atoms_changed, shown_changed}
+use Rattle.chr_find.proofs.Newest.{apart_added, newest_added}
 use Rattle.chr_find.proofs.table.Table.add.Goals as goal
+
+pub enter-requires : goal.enter-requires
+enter-requires g c = subst (HasRoom 1) (sym c.list_newest.ensures.keyed) c.requires.room.1
 
 pub invariant_of-self : goal.invariant_of-self
 invariant_of-self g c =
-    let t = c.args.self.now in
-    let id = c.args.id in
-    let change : Change g.row.A.Denot = record { id = id; row = c.args.row; is_there = true } in
-    let was = c.requires.absent in
-    let same : (i : ℕ) → noted_atom c.note.new.self i ≡ atoms_with (noted_atom t.noted) id.0 (Some (row_atom c.value.result.now)) i =
-    λ i. atoms_changed c.note.new.self t.noted change c.note.ensures.rows t.shown was i ∙ ap (λ (r : Row g.row.A.Denot). atoms_with (noted_atom t.noted) id.0 (Some (row_atom r)) i) (sym c.value.ensures)
-    in
+    let t = c.list_newest.new.self in
+    let s : Standing g.row.A.Denot = record { id = c.args.id; row = c.args.row } in
+    let f = with_newest t.newest (noted_atom t.noted) in
+    let absent = c.list_newest.ensures.same c.args.id.0 ∙ c.requires.absent in
+    let added = newest_added t.newest s (noted_atom t.noted) c.list_newest.ensures.newest in
     record {
-      shown = shown_changed c.note.new.self t.noted change c.note.ensures.rows t.shown was c.note.ensures.plan;
-      listed = listed_alike (atoms_with (noted_atom t.noted) id.0 (Some (row_atom c.value.result.now))) (noted_atom c.note.new.self) c.enter.new.self same (c.enter.ensures.lists (noted_atom t.noted) t.listed was);
+      shown = t.shown;
+      apart = apart_added t.newest s (noted_atom t.noted) c.list_newest.ensures.newest absent;
+      listed = listed_alike (atoms_with f c.args.id.0 (Some (row_atom c.value.result.now))) (with_newest (Some s) (noted_atom t.noted)) c.enter.new.self
+          (λ i. added i ∙ ap (λ (r : Row g.row.A.Denot). atoms_with f c.args.id.0 (Some (row_atom r)) i) (sym c.value.ensures)) (c.enter.ensures.lists f t.listed absent);
       ground = λ none.
-          ground_alike (atoms_with (noted_atom t.noted) id.0 (Some (row_atom c.value-2.result.now))) (noted_atom c.note.new.self)
-          (λ i. atoms_changed c.note.new.self t.noted change c.note.ensures.rows t.shown was i ∙ ap (λ (r : Row g.row.A.Denot). atoms_with (noted_atom t.noted) id.0 (Some (row_atom r)) i) (sym c.value-2.ensures))
-          (ground_added (noted_atom t.noted) id.0 (row_atom c.value-2.result.now) t.may_open c.is_open.result t.ground c.is_open.ensures none);
+          ground_alike (atoms_with f c.args.id.0 (Some (row_atom c.value-2.result.now))) (with_newest (Some s) (noted_atom t.noted))
+          (λ i. added i ∙ ap (λ (r : Row g.row.A.Denot). atoms_with f c.args.id.0 (Some (row_atom r)) i) (sym c.value-2.ensures))
+          (ground_added f c.args.id.0 (row_atom c.value-2.result.now) t.may_open c.is_open.result t.ground c.is_open.ensures none);
     }
 
 pub returns-clause-atoms : goal.returns-clause-atoms
-returns-clause-atoms g c = atoms_changed c.note.new.self c.args.self.now.noted (record { id = c.args.id; row = c.args.row; is_there = true }) c.note.ensures.rows c.args.self.now.shown c.requires.absent
-
-pub returns-clause-fired : goal.returns-clause-fired
-returns-clause-fired g c = fired_same c.note.new.self c.args.self.now.noted c.note.ensures.fired
+returns-clause-atoms g c i =
+    let t = c.list_newest.new.self in
+    newest_added t.newest (record { id = c.args.id; row = c.args.row }) (noted_atom t.noted) c.list_newest.ensures.newest i
+    ∙ ap (λ (o : Option Atom). cond (i == c.args.id.0) (Some (row_atom c.args.row)) o) (c.list_newest.ensures.same i)
 
 pub returns-clause-room : goal.returns-clause-room
-returns-clause-room g c n room = (c.note.ensures.room n room.0, c.enter.ensures.room n room.1)
+returns-clause-room g c n room = (c.list_newest.ensures.room n room.0, c.enter.ensures.room n (subst (HasRoom (n + 1)) (sym c.list_newest.ensures.keyed) room.1))

@@ -11,7 +11,7 @@ use Rattle.chr_find.specs.PlanView.{positions_of}
 use Rattle.chr_find.specs.Shown.{IsShown}
 use Rattle.chr_find.specs.TableView.{atom_at}
 use Rattle.chr_find.specs.declared.plan.Plan.{Plan}
-use Rattle.chr_find.proofs.TableShown.{has_shown, row_is}
+use Rattle.chr_find.proofs.TableShown.{row_is}
 use Rattle.chr_find.proofs.SearchParts.{ok_more}
 use Rattle.chr_find.proofs.table.Table.found.Goals as goal
 
@@ -20,9 +20,8 @@ returns-clause-found g c =
     let t = c.args.self.now in
     let s = c.args.active.now in
     ok_more _ _ c.first.result
-    (λ found f rows has a lives x at quiet.
-    let shown = subst (λ (p : Plan g.row.A.Denot). IsShown (positions_of p) t.noted.rows rows) (sym c.value.ensures) (has_shown t rows c.requires.settled.noted has) in
+    (λ found f a lives x at rows shown quiet.
     let same : row_atom c.value-row.result.now ≡ a = ap row_atom c.value-row.ensures ∙ row_is (atom_at t s.id.0) c.in-Some.row.now a c.in-Some.ensures lives in
     subst (λ (b : Atom). Finds (history_of t.noted.fired.all) s.number (rule_of t s).guard [] (heads_of t s) (passed c.args.from (gate_of c.args.mode c.args.after.now) (own_joined rows (rule_of t s) s.place x (s.id.0, b))) found c.args.tries.now c.first.new.tries) same
-    (f x at rows shown quiet))
+    (f x at rows (subst (λ (p : Plan g.row.A.Denot). IsShown (positions_of p) t.noted.rows rows) (sym c.value.ensures) shown) quiet))
     c.first.ensures

@@ -2,10 +2,10 @@ use Rattle.std.proofs.Common.{◌≡◌, ◌∙◌, ◌++◌, List, ap, subst, s
 use Rattle.chr_map.specs.Order.{Ascends}
 use Rattle.chr_semantics.specs.Match as semantics
 use Rattle.chr_semantics.specs.Search.{atom_of}
-use Rattle.chr_find.specs.NotedView.{noted_atom}
 use Rattle.chr_find.specs.Places.{place_cmp}
 use Rattle.chr_find.specs.Rebinding.{standing_rows}
 use Rattle.chr_find.specs.Shown.{Rises, walk}
+use Rattle.chr_find.specs.TableView.{atom_at}
 use Rattle.chr_find.specs.declared.list.List.TheVariants.{All}
 use Rattle.chr_find.specs.declared.standing.Standing.{Standing}
 use Rattle.chr_find.proofs.KeyedTables.{listed_alike}
@@ -33,6 +33,7 @@ invariant_of-self g c =
     let up : Ascends place_cmp t.noted.rows = c.entries.ensures.ascending in
     record {
       shown = t.shown;
-      listed = listed_alike (atom_of (standing_rows l)) (noted_atom t.noted) c.in_ok-self.field-0 (λ i. sym (all_looked t c.requires up i) ∙ ap (λ (rows : List semantics.Row). atom_of rows i) (sym all)) c.in_ok-self.ensures.lists;
+      apart = t.apart;
+      listed = listed_alike (atom_of (standing_rows l)) (atom_at t) c.in_ok-self.field-0 (λ i. sym (all_looked t c.requires up i) ∙ ap (λ (rows : List semantics.Row). atom_of rows i) (sym all)) c.in_ok-self.ensures.lists;
       ground = t.ground;
     }

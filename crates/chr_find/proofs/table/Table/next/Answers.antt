@@ -1,5 +1,5 @@
-use Rattle.std.proofs.Common.{◌≡◌, [], arith, length, subst, take, ℕ}
-use Rattle.chr_semantics.specs.Join.{own_joined}
+use Rattle.std.proofs.Common.{◌≡◌, List, [], arith, length, subst, take, ℕ}
+use Rattle.chr_semantics.specs.Join.{Joined, own_joined}
 use Rattle.chr_find.specs.Finding.{heads_of, rule_of}
 use Rattle.chr_find.specs.Finds.{Finds}
 use Rattle.chr_find.specs.Firings.{history_of}
@@ -9,7 +9,7 @@ use Rattle.chr_find.proofs.OwnFirst.{next_first}
 use Rattle.chr_find.proofs.OwnSearch.{first_own, own_head, spent_own}
 use Rattle.chr_find.proofs.RuleHeads.{heads_length}
 use Rattle.chr_find.proofs.SearchParts.{ok_more}
-use Rattle.chr_find.proofs.TableShown.{has_shown}
+use Rattle.chr_find.proofs.TableShown.{has_shown, own_shown}
 use Rattle.chr_find.proofs.table.Table.next.Goals as goal
 
 pub returns-clause-found : goal.returns-clause-found
@@ -26,10 +26,12 @@ returns-clause-found g c =
     let few = c.requires.searchable.small.few in
     ok_more _ _ c.found.result
     (λ found f rows has h firings a lives spent.
-    let shown = has_shown t rows c.requires.settled.noted has in
+    let w = own_shown t s.id.0 rows c.requires.own has in
+    let shown = has_shown t w.some c.requires.settled.noted w.rises w.looked in
     first_own t s few c.requires.settled rows has h firings a lives found
     (next_first rows k s.number rule s.place x.0 (s.id.0, a) (heads_of t s) from (take (heads_of t s) after) found c.args.tries.now c.found.new.tries x.1
     (spent_own t s few c.requires.settled rows has h firings a lives (take (heads_of t s) after) from spent)
-    (subst (λ (n : ℕ). Finds k s.number rule.guard [] (heads_of t s) (passed from (on (take n after)) (own_joined rows rule s.place x.0 (s.id.0, a))) found c.args.tries.now c.found.new.tries) all
-    (f rows has a lives x.0 x.1 (c.quiet_from-quiet.ensures (positions_of t.noted.plan) rows shown)))))
+    (subst (λ (ps : List Joined). Finds k s.number rule.guard [] (heads_of t s) (passed from (on (take (heads_of t s) after)) ps) found c.args.tries.now c.found.new.tries) (w.same rule s.place x.0 a)
+    (subst (λ (n : ℕ). Finds k s.number rule.guard [] (heads_of t s) (passed from (on (take n after)) (own_joined w.some rule s.place x.0 (s.id.0, a))) found c.args.tries.now c.found.new.tries) all
+    (f a lives x.0 x.1 w.some shown (c.quiet_from-quiet.ensures (positions_of t.noted.plan) w.some shown))))))
     c.found.ensures.found

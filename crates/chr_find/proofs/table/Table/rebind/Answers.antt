@@ -15,9 +15,12 @@ loop-replaced-preserved g c =
       next_on (atom_at c.args.self.now) (atom_at c.loop-replaced.self) c.loop-replaced.left.items c.args.rebound.replaced.items rs c.in-Some.replaced c.loop-replaced.invariant.0 c.in-Some.ensures.items (atom_at c.replace.new.self) c.replace.ensures.atoms,
       (
         (λ r ids. c.replace.ensures.fired r ids ∙ c.loop-replaced.invariant.1.0 r ids),
-        λ n h.
-            let room : HasRoom (n + length rs + 1) c.loop-replaced.self = room_within (n + length rs + 1) (n + length c.loop-replaced.left.items) c.loop-replaced.self (omega (arith, less)) (c.loop-replaced.invariant.1.1 n h) in
-            c.replace.ensures.room (n + length rs) room,
+        (
+          (λ n h.
+              let room : HasRoom (n + length rs + 1) c.loop-replaced.self = room_within (n + length rs + 1) (n + length c.loop-replaced.left.items) c.loop-replaced.self (omega (arith, less)) (c.loop-replaced.invariant.1.1.0 n h) in
+              c.replace.ensures.room (n + length rs) room),
+          c.replace.ensures.all,
+        ),
       ),
     )
 
@@ -29,10 +32,10 @@ replace-requires-clause-room g c =
     let less = one_less c.loop-replaced.left.items c.pop.new.self.items c.in-Some.replaced c.in-Some.ensures.items in
     let counted : 0 + length c.args.rebound.replaced.items ≤ vec_len c.args.rebound.replaced = omega (arith, c.args.rebound.replaced.ok.0) in
     let all : HasRoom (0 + length c.args.rebound.replaced.items) c.args.self.now = room_within (0 + length c.args.rebound.replaced.items) (vec_len c.args.rebound.replaced) c.args.self.now counted c.requires.room in
-    room_within 1 (0 + length c.loop-replaced.left.items) c.loop-replaced.self (omega (arith, less)) (c.loop-replaced.invariant.1.1 0 all)
+    room_within 1 (0 + length c.loop-replaced.left.items) c.loop-replaced.self (omega (arith, less)) (c.loop-replaced.invariant.1.1.0 0 all)
 
 pub returns-clause-room : goal.returns-clause-room
 returns-clause-room g c n h =
     let counted : n + length c.args.rebound.replaced.items ≤ n + vec_len c.args.rebound.replaced = omega (arith, c.args.rebound.replaced.ok.0) in
     let all : HasRoom (n + length c.args.rebound.replaced.items) c.args.self.now = room_within (n + length c.args.rebound.replaced.items) (n + vec_len c.args.rebound.replaced) c.args.self.now counted h in
-    room_within n (n + length c.loop-replaced.left.items) c.loop-replaced.self (omega arith) (c.loop-replaced.invariant.1.1 n all)
+    room_within n (n + length c.loop-replaced.left.items) c.loop-replaced.self (omega arith) (c.loop-replaced.invariant.1.1.0 n all)

@@ -70,9 +70,16 @@ invariant_of-self g c =
     let up : Ascends place_cmp t.noted.rows = c.entries.ensures.ascending in
     record {
       shown = t.shown;
+      apart = t.apart;
       listed = t.listed;
       ground = λ none.
           let no_length : vec_len c.collect.new.rows ≡ 0 = (Decides-eqb (vec_len c.collect.new.rows) 0).0 (sym c.is_empty.ensures ∙ was_true c.is_empty.result none) in
           let left : c.collect.new.rows.items ≡ [] = none_listed c.collect.new.rows.items (omega (arith, c.collect.new.rows.ok.0, no_length)) in
           none_open t c.requires up (sym all ∙ ap standing_rows left);
     }
+
+pub returns-in_err-room-clause-all : goal.returns-in_err-room-clause-all
+returns-in_err-room-clause-all g c i = c.room.ensures.own i (c.requires.all i)
+
+pub returns-clause-all : goal.returns-clause-all
+returns-clause-all g c i = c.room.ensures.own i (c.requires.all i)

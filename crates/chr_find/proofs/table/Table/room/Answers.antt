@@ -1,24 +1,25 @@
-use Rattle.chr_find.specs.NotedView.{noted_atom}
-use Rattle.chr_find.proofs.GroundRows.{ground_alike}
-use Rattle.chr_find.proofs.KeyedTables.{listed_alike}
+use Rattle.chr_find.specs.TableView.{atom_at}
 use Rattle.chr_find.proofs.TableFired.{fired_same}
-use Rattle.chr_find.proofs.TableRows.{atoms_same, shown_same}
+use Rattle.chr_find.proofs.TableSame.{apart_kept, atoms_kept, ground_kept, listed_kept, shown_kept}
 use Rattle.chr_find.proofs.table.Table.room.Goals as goal
 
 pub invariant_of-self : goal.invariant_of-self
-invariant_of-self g c = let t = c.args.self.now in record { shown = t.shown; listed = c.room.ensures.lists (noted_atom t.noted) t.listed; ground = t.ground }
+invariant_of-self g c = let t = c.args.self.now in record { shown = t.shown; apart = t.apart; listed = c.room.ensures.lists (atom_at t) t.listed; ground = t.ground }
 
 pub invariant_of-self-2 : goal.invariant_of-self-2
 invariant_of-self-2 g c =
     let t = c.args.self.now in
+    let n = c.room-2.new.self in
+    let rows = c.room-2.ensures.rows in
     record {
-      shown = shown_same c.room-2.new.self t.noted c.room-2.ensures.rows c.room-2.ensures.plan t.shown;
-      listed = listed_alike (noted_atom t.noted) (noted_atom c.room-2.new.self) c.room.new.self (atoms_same c.room-2.new.self t.noted c.room-2.ensures.rows) (c.room.ensures.lists (noted_atom t.noted) t.listed);
-      ground = λ none. ground_alike (noted_atom t.noted) (noted_atom c.room-2.new.self) (atoms_same c.room-2.new.self t.noted c.room-2.ensures.rows) (t.ground none);
+      shown = shown_kept t n rows c.room-2.ensures.plan;
+      apart = apart_kept t n rows;
+      listed = listed_kept t n t.newest (atoms_kept t n rows) c.room.new.self (c.room.ensures.lists (atom_at t) t.listed);
+      ground = ground_kept t n t.newest (atoms_kept t n rows);
     }
 
 pub returns-clause-same : goal.returns-clause-same
-returns-clause-same g c = atoms_same c.room-2.new.self c.args.self.now.noted c.room-2.ensures.rows
+returns-clause-same g c = atoms_kept c.args.self.now c.room-2.new.self c.room-2.ensures.rows
 
 pub returns-clause-fired : goal.returns-clause-fired
 returns-clause-fired g c = fired_same c.room-2.new.self c.args.self.now.noted c.room-2.ensures.fired
