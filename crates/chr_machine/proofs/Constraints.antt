@@ -34,21 +34,25 @@ after_later m n es w b l h =
       lines = h.lines k;
     }
 
--- the same where the text of the line is ready, and after the line elements are put on the stack
-pub after_kept : {A : Type 0} (old ready logged new : Execution A) (es : List Element) (w : Status) (l : List ℕ) → Kept old ready → logged.base ≡ ready.base → texts logged.lines.items ≡ texts ready.lines.items ++ l ∷ [] → logged.steps ≡ ready.steps + 1
-    → program_in logged.base ≡ program_in ready.base → logged.var_names ≡ ready.var_names → IsSameBelow logged new → stack_view new.stack.items ≡ es → status_view new.status ≡ w → IsAfter (model_of old) (model_of new) es w (base_in old.base) l
-after_kept old ready logged new es w l kept base lines steps program vars below stack status = record {
-  stack = stack;
-  status = status;
-  base = ap base_in (below.base ∙ base) ∙ kept.base;
-  lines = ap (λ ls. texts ls.items) below.lines ∙ (lines ∙ ap (λ ls. texts ls ++ l ∷ []) kept.lines);
-  steps = below.steps ∙ (steps ∙ ap (λ n. n + 1) kept.steps);
-  same = record {
-    names = ap names_of (below.program ∙ (program ∙ kept.program));
-    rules = ap rules_of (below.program ∙ (program ∙ kept.program));
-    var_names = below.var_names ∙ (vars ∙ kept.var_names);
-  };
-}
+-- the same where the line is made, then appended, and then the stack and the status are made from the elements there
+module _ {A : Type 0} (old ready logged new : Execution A) (es : List Element → List Element) (w : List Element → Status) (line l : List ℕ) (kept : Kept old ready) (is : line ≡ l) where
+  pub after_kept : logged.stack ≡ ready.stack → logged.base ≡ ready.base → texts logged.lines.items ≡ texts ready.lines.items ++ line ∷ [] → logged.steps ≡ ready.steps + 1 → program_in logged.base ≡ program_in ready.base → logged.var_names ≡ ready.var_names
+      → IsSameBelow logged new → stack_view new.stack.items ≡ es (stack_view logged.stack.items) → status_view new.status ≡ w (stack_view logged.stack.items)
+      → (let m = model_of old in IsAfter m (model_of new) (es m.stack) (w m.stack) m.base l)
+  after_kept elems base lines steps program vars below stack status =
+      let same : stack_view logged.stack.items ≡ stack_view old.stack.items = ap (λ v. stack_view v.items) elems ∙ ap stack_view kept.stack in
+      record {
+        stack = stack ∙ ap es same;
+        status = status ∙ ap w same;
+        base = ap base_in (below.base ∙ base) ∙ kept.base;
+        lines = ap (λ ls. texts ls.items) below.lines ∙ (lines ∙ λ k. texts (kept.lines k) ++ is k ∷ []);
+        steps = below.steps ∙ (steps ∙ ap (λ n. n + 1) kept.steps);
+        same = record {
+          names = ap names_of (below.program ∙ (program ∙ kept.program));
+          rules = ap rules_of (below.program ∙ (program ∙ kept.program));
+          var_names = below.var_names ∙ (vars ∙ kept.var_names);
+        };
+      }
 
 abbrev pub line_in : Model → Line → List ℕ
 line_in m l = line_text m.names m.var_names (m.steps + 1) l

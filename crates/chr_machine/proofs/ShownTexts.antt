@@ -1,6 +1,6 @@
 -- The text that is kept of a constraint.
-use Rattle.std.proofs.Common.{◌≡◌, ◌∙◌, ◌++◌, ◌∷◌, ℕ, List, [], true, false, ap, subst, sym, not, ◌==◌}
-use Rattle.std.specs.Prelude.{OnErr, OnOk, Option, Some, None, Result, Ok, Err, filter, is_some}
+use Rattle.std.proofs.Common.{◌≡◌, ◌∙◌, ◌++◌, ◌∷◌, ℕ, List, [], Vec, true, false, ap, subst, sym, not, ◌==◌}
+use Rattle.std.specs.Prelude.{IfOk, OnErr, OnOk, Option, Some, None, Result, Ok, Err, is_some}
 use Rattle.std.specs.List.{fold}
 use Rattle.chr_semantics.proofs.Lookups.{Ascends-filter, atom_last, atom_of_part}
 use Rattle.chr_semantics.specs.Changes.{Entries, Store, added, removed, removed_as}
@@ -11,9 +11,10 @@ use Rattle.chr_semantics.specs.Program.{Atom}
 use Rattle.chr_semantics.specs.Search.{atom_of}
 use Rattle.chr_semantics.specs.State.{resolved_atom}
 use Rattle.chr_semantics.specs.Text.{known_text, line_text}
-use Rattle.chr_semantics.specs.Trace.{Line}
 use Rattle.chr_base.specs.BaseView.{BaseModel}
 use Rattle.chr_machine.specs.Shown.{IsOf, IsShownIn}
+use Rattle.chr_machine.specs.Told.{told_line}
+use Rattle.chr_machine.specs.declared.steps.Told.{Told}
 
 some_of : (o : Option Atom) → is_some o ≡ true → (x : Atom) × (o ≡ Some x)
 some_of None e = absurd (let no : false ≡ true = e in cc)
@@ -62,8 +63,8 @@ pub shown_tried : {T E : Type 0} (r : Result T E) (names same_names : Names) (va
 shown_tried (Ok x) names same_names vars b new i text e n ids up en ok err = shown_fired names same_names vars b new i text e n ids up en ok
 shown_tried (Err x) names same_names vars b new i text e n ids up en ok err = shown_same names same_names vars b new i text en err
 
--- the line about a constraint that has the text
-pub shown_line : (names other_names : Names) (vars other_vars : VarNames) (k other : ℕ) (text line : List ℕ) (b : Atom) (i : ℕ) (f : Atom → ℕ → Line) → other_names ≡ names → other_vars ≡ vars → other ≡ k → text ≡ known_text names vars b i
-    → ((a : Atom) (j : ℕ) → text ≡ known_text other_names other_vars a j → line ≡ line_text other_names other_vars other (f a j)) → line ≡ line_text names vars k (f b i)
-shown_line names other_names vars other_vars k other text line b i f en ev ek is says =
-    says b i (is ∙ (λ p. known_text (sym en p) (sym ev p) b i)) ∙ (λ p. line_text (en p) (ev p) (ek p) (f b i))
+-- a line that has the text of t tells what is told, which is t
+pub tells : {A E : Type 0} (r : Result (Vec ℕ A) E) (names : Names) (vars : VarNames) (k : ℕ) (told t : Told) (a : Atom) (i : ℕ) (text : List ℕ) → told ≡ t → text ≡ line_text names vars k (told_line t a i)
+    → IfOk r (λ line. line.items ≡ text) → IfOk r (λ line. line.items ≡ line_text names vars k (told_line told a i))
+tells (Ok line) names vars k told t a i text same is says = says ∙ (is ∙ ap (λ (u : Told). line_text names vars k (told_line u a i)) (sym same))
+tells (Err e) names vars k told t a i text same is says = tt

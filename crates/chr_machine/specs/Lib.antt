@@ -1,4 +1,5 @@
 pub mod Shown
+pub mod Told
 pub mod Model
 pub mod Step
 pub mod Proper

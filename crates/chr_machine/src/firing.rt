@@ -17,6 +17,7 @@ ghost use Rattle.chr_machine.specs.Step.{IsProper, IsReady, IsSameBelow, Kept, M
 
 use crate::answer::Answer;
 use crate::state::Execution;
+use crate::steps::Told;
 use chr_find::Active;
 use chr_resume::Resuming;
 use chr_rules::{Goal, Occurrence, Rule};
@@ -89,17 +90,9 @@ impl<'p, A: Allocator + Copy> Execution<'p, A> {
     {
         let rule = active.rule;
         let keeps = active.place < rule.kept;
-        self.show(active.id, sym, args)?;
-        let line = self.scribe().fires(
-            self.steps + 1,
-            self.shown.text.as_slice(),
-            number,
-            keeps,
-            rule.label.as_str(),
-            ids,
-        )?;
+        let told = Told::Fires(number, keeps, rule.label.as_str(), ids);
+        let line = self.line_about(active.id, sym, args, told)?;
         let goals = self.base.body(rule, ids)?;
-        self.lines.reserve(1)?;
         self.stack.reserve(goals.len() + 1)?;
         let variables = rule.vars - rule.head_vars();
         self.base.fire(active, ids, variables)?;

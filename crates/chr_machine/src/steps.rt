@@ -2,13 +2,14 @@
 //!
 //! A transition makes all its growths first. Where one is refused, it gives the top back and has changed nothing.
 ghost use Rattle.chr_semantics.specs.declared.limits.TheConstants.{MAX_CHANGES, MAX_TRANSITIONS};
-ghost use Rattle.std.specs.Prelude.{◌≡◌, ◌<◌, ◌≤◌, ◌+◌, ◌++◌, ◌∷◌, ◌^◌, [], IfErr, OnErr, OnOk, is_some, true, vec_capacity, vec_len};
+ghost use Rattle.std.specs.Prelude.{◌≡◌, ℕ, ◌<◌, ◌≤◌, ◌+◌, ◌++◌, ◌∷◌, ◌^◌, [], IfErr, IfOk, OnErr, OnOk, is_some, true, vec_capacity, vec_len};
 ghost use Rattle.chr_semantics.specs.Footprint.{Ascends};
-ghost use Rattle.chr_semantics.specs.Program.{constraint};
+ghost use Rattle.chr_semantics.specs.Names.{Names, VarNames};
+ghost use Rattle.chr_semantics.specs.Program.{Atom, constraint};
 ghost use Rattle.chr_semantics.specs.Search.{atom_of, no_firing, no_occurrence};
 ghost use Rattle.chr_semantics.specs.State.{active, goal, known, resolved_atom, running, status_at};
 ghost use Rattle.chr_semantics.specs.Step.{search_at};
-ghost use Rattle.chr_semantics.specs.Text.{known_text};
+ghost use Rattle.chr_semantics.specs.Text.{known_text, line_text};
 ghost use Rattle.chr_rules.specs.ProgramView.{names_of, rules_of};
 ghost use Rattle.chr_term.specs.TermView.{atom_view};
 ghost use Rattle.chr_trace.specs.State.{elem_view, stack_view, status_view};
@@ -17,6 +18,7 @@ ghost use Rattle.chr_resume.specs.ResumingView.{base_in, program_in};
 ghost use Rattle.chr_machine.specs.Model.{model_of, state_in, topped};
 ghost use Rattle.chr_machine.specs.Shown.{IsOf};
 ghost use Rattle.chr_machine.specs.Step.{IsReady, IsSameBelow, Kept, Made};
+ghost use Rattle.chr_machine.specs.Told.{told_line};
 
 use crate::state::{Execution, Shown};
 use chr_rules::Goal;
@@ -24,6 +26,16 @@ use chr_store::Id;
 use chr_term::{Memory, Sym, Term, copy_all};
 use chr_trace::{Elem, Scribe, Status};
 use std::alloc::Allocator;
+
+/// What a line tells of a constraint. A Drop and a Default go with the number of the occurrence, and a firing with that, whether it keeps the
+/// active constraint, the label of its rule, and the identities.
+#[derive(Clone, Copy, Drop)]
+pub enum Told<'t> {
+    Reactivates,
+    Drops(u32),
+    Defaults(u32),
+    Fires(u32, bool, &'t str, &'t [u64]),
+}
 
 impl<'p, A: Allocator + Copy> Execution<'p, A> {
     /// What the lines of the trace are written with.
@@ -50,7 +62,7 @@ impl<'p, A: Allocator + Copy> Execution<'p, A> {
     }
 
     /// Makes the text of a constraint with its identity, unless it is kept.
-    pub fn show(&mut self, id: Id, sym: Sym, args: &[Term<A>]) -> Result<(), Memory>
+    fn show(&mut self, id: Id, sym: Sym, args: &[Term<A>]) -> Result<(), Memory>
         requires { IsOf (base_in self.old.base).store.rows id.0 (atom_view sym args.now) }
         ensures kept { Kept self.old self.new }
         ensures base { self.new.base ≡ self.old.base }
@@ -67,6 +79,49 @@ impl<'p, A: Allocator + Copy> Execution<'p, A> {
             is_right: true,
         };
         Ok(())
+    }
+
+    /// The line that tells this of the constraint whose text is kept.
+    fn line_of_shown(&self, told: Told<'_>) -> Result<Vec<u8, A>, Memory>
+        requires { self.now.steps < MAX_TRANSITIONS }
+        ensures { (names : Names) (vars : VarNames) (a : Atom) (i : ℕ) →
+            self.now.shown.text.items ≡ known_text names vars a i →
+            IfOk result (λ line. line.items ≡ line_text names vars (self.now.steps + 1) (told_line told.entry a i)) }
+    {
+        let number = self.steps + 1;
+        let known = self.shown.text.as_slice();
+        match told {
+            Told::Reactivates => self.scribe().reactivates(number, known),
+            Told::Drops(occurrence) => self.scribe().drops(number, known, occurrence),
+            Told::Defaults(occurrence) => self.scribe().defaults(number, known, occurrence),
+            Told::Fires(occurrence, keeps, label, ids) => {
+                self.scribe()
+                    .fires(number, known, occurrence, keeps, label, ids)
+            }
+        }
+    }
+
+    /// The line that tells this of a constraint, with room for it among the lines.
+    pub fn line_about(
+        &mut self,
+        id: Id,
+        sym: Sym,
+        args: &[Term<A>],
+        told: Told<'_>,
+    ) -> Result<Vec<u8, A>, Memory>
+        requires few { self.old.steps < MAX_TRANSITIONS }
+        requires is_of { IsOf (base_in self.old.base).store.rows id.0 (atom_view sym args.now) }
+        ensures kept { Kept self.old self.new }
+        ensures base { self.new.base ≡ self.old.base }
+        ensures line { IfOk result (λ line. line.items ≡ line_text (names_of (program_in self.old.base))
+            self.old.var_names (self.old.steps + 1)
+            (told_line told.entry (resolved_atom (base_in self.old.base).subst (atom_view sym args.now)) id.0)) }
+        ensures room { OnOk result (vec_len self.new.lines < vec_capacity self.new.lines) }
+    {
+        self.show(id, sym, args)?;
+        let line = self.line_of_shown(told)?;
+        self.lines.reserve(1)?;
+        Ok(line)
     }
 
     /// Puts an element on the stack, with room for it.
@@ -122,16 +177,7 @@ impl<'p, A: Allocator + Copy> Execution<'p, A> {
         ensures kept { OnErr result (Kept self.old self.new) }
         ensures room { OnErr result (vec_len self.new.stack < vec_capacity self.new.stack) }
     {
-        let Ok(()) = self.show(id, sym, args.as_slice()) else {
-            return Err(Elem::Known(id, sym, args));
-        };
-        let Ok(line) = self
-            .scribe()
-            .reactivates(self.steps + 1, self.shown.text.as_slice())
-        else {
-            return Err(Elem::Known(id, sym, args));
-        };
-        let Ok(()) = self.lines.reserve(1) else {
+        let Ok(line) = self.line_about(id, sym, args.as_slice(), Told::Reactivates) else {
             return Err(Elem::Known(id, sym, args));
         };
         self.log(line);
@@ -202,16 +248,7 @@ impl<'p, A: Allocator + Copy> Execution<'p, A> {
         ensures kept { OnErr result (Kept self.old self.new) }
         ensures room { OnErr result (vec_len self.new.stack < vec_capacity self.new.stack) }
     {
-        let Ok(()) = self.show(id, sym, args.as_slice()) else {
-            return Err(Elem::Active(id, number, sym, args));
-        };
-        let Ok(line) = self
-            .scribe()
-            .drops(self.steps + 1, self.shown.text.as_slice(), number)
-        else {
-            return Err(Elem::Active(id, number, sym, args));
-        };
-        let Ok(()) = self.lines.reserve(1) else {
+        let Ok(line) = self.line_about(id, sym, args.as_slice(), Told::Drops(number)) else {
             return Err(Elem::Active(id, number, sym, args));
         };
         self.log(line);
@@ -241,16 +278,7 @@ impl<'p, A: Allocator + Copy> Execution<'p, A> {
         ensures kept { OnErr result (Kept self.old self.new) }
         ensures room { OnErr result (vec_len self.new.stack < vec_capacity self.new.stack) }
     {
-        let Ok(()) = self.show(id, sym, args.as_slice()) else {
-            return Err(Elem::Active(id, number, sym, args));
-        };
-        let Ok(line) = self
-            .scribe()
-            .defaults(self.steps + 1, self.shown.text.as_slice(), number)
-        else {
-            return Err(Elem::Active(id, number, sym, args));
-        };
-        let Ok(()) = self.lines.reserve(1) else {
+        let Ok(line) = self.line_about(id, sym, args.as_slice(), Told::Defaults(number)) else {
             return Err(Elem::Active(id, number, sym, args));
         };
         self.log(line);

@@ -5,3 +5,4 @@ pub mod LineLists
 pub mod Sides
 pub mod Bound
 pub mod StoreRows
+pub mod KnownLines

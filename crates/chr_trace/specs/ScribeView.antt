@@ -1,5 +1,7 @@
 -- What a scribe writes: texts with its names, of goals and terms with its bindings applied.
-use Rattle.std.specs.Prelude.{ℕ, Bool, cond, List, map, Option, Some, None}
+use Rattle.std.specs.Prelude.{ℕ, Bool, cond, List, ◌∷◌, ◌++◌, map, Option, Some, None}
+use Rattle.std.specs.Str.{byte}
+use Rattle.std.specs.Fmt.{decimal}
 use Rattle.chr_semantics.specs.Match.{Row}
 use Rattle.chr_semantics.specs.Names.{var_name}
 use Rattle.chr_semantics.specs.Print.{term_text}
@@ -7,7 +9,7 @@ use Rattle.chr_semantics.specs.Program.{Atom, Goal}
 use Rattle.chr_semantics.specs.State.{Element, resolved_atom}
 use Rattle.chr_semantics.specs.Step.{goal_instance}
 use Rattle.chr_semantics.specs.Subst.{binds_var, value_at}
-use Rattle.chr_semantics.specs.Text.{active_text, atom_text, binding_text, bindings_from, element_text, goal_text, known_text, line_text}
+use Rattle.chr_semantics.specs.Text.{active_text, atom_text, binding_text, bindings_from, element_text, firing_text, goal_text, known_text, line_text}
 use Rattle.chr_semantics.specs.Trace.{Line}
 use Rattle.chr_semantics.specs.Tree.{Tree}
 use Rattle.chr_rules.specs.RuleView.{goal_view}
@@ -42,6 +44,18 @@ active_by w a i j = active_text w.names.now w.var_names.now a i j
 
 abbrev pub line_by : {A : Type 0} → Scribe A → ℕ → Line → List ℕ
 line_by w k l = line_text w.names.now w.var_names.now k l
+
+-- the line of the k-th transition: its number, a word, and the text that it is about
+abbrev pub about_line : ℕ → List ℕ → List ℕ → List ℕ
+about_line k word text = decimal k ++ (word ++ text)
+
+-- the same at the j-th occurrence
+abbrev pub at_line : ℕ → List ℕ → List ℕ → ℕ → List ℕ
+at_line k word text j = about_line k word (text ++ (byte ":" ∷ decimal j))
+
+-- the same where the rule with this label fires with these identities
+abbrev pub fired_line : ℕ → List ℕ → List ℕ → ℕ → List ℕ → List ℕ → List ℕ
+fired_line k word text j label ids = about_line k word ((text ++ (byte ":" ∷ decimal j)) ++ (byte " " ∷ firing_text label ids))
 
 -- an element of a stack, which the scribe resolves
 abbrev pub element_by : {A : Type 0} → Scribe A → Element → List ℕ

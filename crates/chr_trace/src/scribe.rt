@@ -1,12 +1,9 @@
 //! The lines of the trace, without their line feeds.
-ghost use Rattle.std.specs.Prelude.{◌≡◌, ◌++◌, ◌∷◌, ℕ, codes, cond, IfOk};
+ghost use Rattle.std.specs.Prelude.{◌≡◌, ◌++◌, codes, cond, IfOk};
 ghost use Rattle.std.specs.Fmt.{decimal};
-ghost use Rattle.std.specs.Str.{byte};
-ghost use Rattle.chr_semantics.specs.Program.{Atom};
-ghost use Rattle.chr_semantics.specs.Text.{firing_text};
-ghost use Rattle.chr_semantics.specs.Trace.{activates, defaults, drops, fails, faults, propagates, reactivates, simplifies, solves};
+ghost use Rattle.chr_semantics.specs.Trace.{fails, faults, solves};
 ghost use Rattle.chr_bind.specs.Values.{fault_view};
-ghost use Rattle.chr_trace.specs.ScribeView.{goal_by, known_by, line_by, shown_atom, shown_goal};
+ghost use Rattle.chr_trace.specs.ScribeView.{about_line, at_line, fired_line, goal_by, known_by, line_by, shown_atom, shown_goal};
 
 use chr_bind::{Bindings, Fault};
 use chr_rules::Goal;
@@ -40,32 +37,32 @@ impl<'a, A: Allocator + Copy> Scribe<'a, A> {
 
     /// The line of an Activate of the constraint that has this text.
     pub fn activates(&self, number: u64, known: &[u8]) -> Result<Vec<u8, A>, Memory>
-        ensures { (a : Atom) (i : ℕ) → known.now ≡ known_by self.now a i →
-            IfOk result (λ line. line.items ≡ line_by self.now number (activates a i)) }
+        ensures { IfOk result
+            (λ line. line.items ≡ about_line number (codes " activate ") known.now) }
     {
         self.known_line(number, " activate ", known)
     }
 
     /// The line of a Reactivate of the constraint that has this text.
     pub fn reactivates(&self, number: u64, known: &[u8]) -> Result<Vec<u8, A>, Memory>
-        ensures { (a : Atom) (i : ℕ) → known.now ≡ known_by self.now a i →
-            IfOk result (λ line. line.items ≡ line_by self.now number (reactivates a i)) }
+        ensures { IfOk result
+            (λ line. line.items ≡ about_line number (codes " reactivate ") known.now) }
     {
         self.known_line(number, " reactivate ", known)
     }
 
     /// The line of a Drop of the constraint that has this text.
     pub fn drops(&self, number: u64, known: &[u8], occurrence: u32) -> Result<Vec<u8, A>, Memory>
-        ensures { (a : Atom) (i : ℕ) → known.now ≡ known_by self.now a i →
-            IfOk result (λ line. line.items ≡ line_by self.now number (drops a i occurrence)) }
+        ensures { IfOk result
+            (λ line. line.items ≡ at_line number (codes " drop ") known.now occurrence) }
     {
         self.active_line(number, " drop ", known, occurrence)
     }
 
     /// The line of a Default of the constraint that has this text.
     pub fn defaults(&self, number: u64, known: &[u8], occurrence: u32) -> Result<Vec<u8, A>, Memory>
-        ensures { (a : Atom) (i : ℕ) → known.now ≡ known_by self.now a i →
-            IfOk result (λ line. line.items ≡ line_by self.now number (defaults a i occurrence)) }
+        ensures { IfOk result
+            (λ line. line.items ≡ at_line number (codes " default ") known.now occurrence) }
     {
         self.active_line(number, " default ", known, occurrence)
     }
@@ -81,17 +78,13 @@ impl<'a, A: Allocator + Copy> Scribe<'a, A> {
         label: &str,
         ids: &[u64],
     ) -> Result<Vec<u8, A>, Memory>
-        ensures { (a : Atom) (i : ℕ) → known.now ≡ known_by self.now a i →
-            IfOk result (λ line. line.items ≡ line_by self.now number (cond keeps
-            (propagates a i occurrence label.now ids.now)
-            (simplifies a i occurrence label.now ids.now))) }
+        ensures { IfOk result (λ line. line.items ≡ fired_line number
+            (cond keeps (codes " propagate ") (codes " simplify ")) known.now occurrence label.now ids.now) }
     {
         if keeps {
-            let line = self.active_line(number, " propagate ", known, occurrence)?;
-            with_firing(line, label, ids)
+            self.fired_line(number, " propagate ", known, occurrence, label, ids)
         } else {
-            let line = self.active_line(number, " simplify ", known, occurrence)?;
-            with_firing(line, label, ids)
+            self.fired_line(number, " simplify ", known, occurrence, label, ids)
         }
     }
 
@@ -136,7 +129,7 @@ impl<'a, A: Allocator + Copy> Scribe<'a, A> {
 
     /// The number of a transition, a word, and the text of a constraint.
     fn known_line(&self, number: u64, word: &str, known: &[u8]) -> Result<Vec<u8, A>, Memory>
-        ensures { IfOk result (λ line. line.items ≡ decimal number ++ (word.now ++ known.now)) }
+        ensures { IfOk result (λ line. line.items ≡ about_line number word.now known.now) }
     {
         let mut line = self.start(number, word)?;
         line.extend_from_slice(known)?;
@@ -151,8 +144,8 @@ impl<'a, A: Allocator + Copy> Scribe<'a, A> {
         known: &[u8],
         occurrence: u32,
     ) -> Result<Vec<u8, A>, Memory>
-        ensures { IfOk result (λ line. line.items ≡ decimal number
-            ++ (word.now ++ (known.now ++ (byte ":" ∷ decimal occurrence)))) }
+        ensures { IfOk result
+            (λ line. line.items ≡ at_line number word.now known.now occurrence) }
     {
         let mut line = self.known_line(number, word, known)?;
         line.push(b':')?;
@@ -160,29 +153,34 @@ impl<'a, A: Allocator + Copy> Scribe<'a, A> {
         Ok(line)
     }
 
+    /// The same with a label and identities.
+    fn fired_line(
+        &self,
+        number: u64,
+        word: &str,
+        known: &[u8],
+        occurrence: u32,
+        label: &str,
+        ids: &[u64],
+    ) -> Result<Vec<u8, A>, Memory>
+        ensures { IfOk result (λ line. line.items
+            ≡ fired_line number word.now known.now occurrence label.now ids.now) }
+    {
+        let mut line = self.active_line(number, word, known, occurrence)?;
+        line.push(b' ')?;
+        line.extend_from_slice(label.as_bytes())?;
+        line.push(b' ')?;
+        print_numbers(ids, &mut line)?;
+        Ok(line)
+    }
+
     /// The number of a transition, which is a Solve, and its goal.
     fn goal_line(&self, number: u64, goal: &Goal<A>) -> Result<Vec<u8, A>, Memory>
-        ensures { IfOk result (λ line. line.items ≡ decimal number
-            ++ (codes " solve " ++ goal_by self.now (shown_goal self.now goal.now))) }
+        ensures { IfOk result (λ line. line.items
+            ≡ about_line number (codes " solve ") (goal_by self.now (shown_goal self.now goal.now))) }
     {
         let mut line = self.start(number, " solve ")?;
         self.write_goal(goal, &mut line)?;
         Ok(line)
     }
-}
-
-/// The line with a label and identities after it.
-fn with_firing<A: Allocator>(
-    mut line: Vec<u8, A>,
-    label: &str,
-    ids: &[u64],
-) -> Result<Vec<u8, A>, Memory>
-    ensures { IfOk result (λ whole. whole.items
-        ≡ line.items ++ byte " " ∷ firing_text label.now ids.now) }
-{
-    line.push(b' ')?;
-    line.extend_from_slice(label.as_bytes())?;
-    line.push(b' ')?;
-    print_numbers(ids, &mut line)?;
-    Ok(line)
 }

@@ -1,21 +1,18 @@
-use Rattle.std.proofs.Common.{◌≡◌, ◌∙◌, ◌+◌, ◌++◌, ◌∷◌, [], ℕ, List, ap, refl, subst, sym}
-use Rattle.chr_semantics.specs.Changes.{added}
-use Rattle.chr_semantics.specs.Names.{Names}
-use Rattle.chr_semantics.specs.Program.{Atom}
+use Rattle.std.proofs.Common.{◌≡◌, ◌∙◌, ◌+◌, ◌++◌, ◌∷◌, [], ℕ, ap, subst, sym}
 use Rattle.chr_semantics.specs.State.{active as at_occurrence, resolved_atom}
 use Rattle.chr_semantics.specs.Text.{known_text}
 use Rattle.chr_semantics.specs.Trace.{activates}
 use Rattle.chr_rules.specs.ProgramView.{names_of, rules_of}
 use Rattle.chr_term.specs.TermView.{atom_view, trees_view}
-use Rattle.chr_term.specs.declared.term.Term.{Term}
 use Rattle.chr_trace.specs.State.{stack_view}
 use Rattle.chr_trace.specs.Texts.{texts}
+use Rattle.chr_trace.proofs.KnownLines.{activates_line}
 use Rattle.chr_base.specs.BaseView.{BaseModel}
 use Rattle.chr_resume.specs.ResumingView.{base_in, program_in}
 use Rattle.chr_machine.specs.Model.{model_of}
 use Rattle.chr_machine.specs.Shown.{IsOf}
 use Rattle.chr_machine.proofs.Constraints.{activated, line_in}
-use Rattle.chr_machine.proofs.ShownTexts.{last_of, shown_line, shown_new}
+use Rattle.chr_machine.proofs.ShownTexts.{last_of, shown_new}
 use Rattle.chr_machine.proofs.state.Execution.activate.Goals as goal
 
 pub invariant_of-self-in-Ok-add : goal.invariant_of-self-in-Ok-add
@@ -49,7 +46,7 @@ returns-in-Ok-add-clause-ok g c =
     c.as_slice-2.ensures.value ∙ (c.in-Ok.ensures ∙ (λ p. known_text (c.scribe.ensures.names p) (c.scribe.ensures.var_names p) (resolved_atom (c.scribe.ensures.subst p) (atom_view c.args.sym (c.as_slice.ensures.value p))) (next p)))
     in
     let line : c.in-Ok-activates.line.items ≡ line_in m (activates (resolved_atom m.base.subst a) m.base.store.next_id) =
-    shown_line m.names c.scribe-2.result.names.now m.var_names c.scribe-2.result.var_names.now (m.steps + 1) (m.steps + 1) c.as_slice-2.result.now c.in-Ok-activates.line.items (resolved_atom m.base.subst a) m.base.store.next_id activates c.scribe-2.ensures.names c.scribe-2.ensures.var_names refl text c.in-Ok-activates.ensures
+    c.in-Ok-activates.ensures ∙ activates_line m.names m.var_names (m.steps + 1) c.as_slice-2.result.now (resolved_atom m.base.subst a) m.base.store.next_id text
     in
     let copied = c.in-Ok-copy_all.ensures ∙ ap trees_view c.as_slice-3.ensures.value in
     record {

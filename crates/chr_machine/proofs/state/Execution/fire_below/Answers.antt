@@ -1,11 +1,9 @@
-use Rattle.std.proofs.Common.{◌≡◌, ◌∙◌, ◌+◌, ◌-◌, ◌++◌, ◌∷◌, [], ℕ, List, All, Some, ap, arith, cond, drop, nat_lt, subst, sym}
-use Rattle.chr_semantics.specs.Changes.{entered}
+use Rattle.std.proofs.Common.{◌≡◌, ◌∙◌, ◌+◌, ◌-◌, ◌++◌, ◌∷◌, [], All, Some, ap, arith, drop, subst, sym}
 use Rattle.chr_semantics.specs.Footprint.{Ascends}
 use Rattle.chr_semantics.specs.Match.{Row}
 use Rattle.chr_semantics.specs.Search.{atom_of}
 use Rattle.chr_semantics.specs.State.{resolved_atom}
 use Rattle.chr_semantics.specs.Step.{body_of}
-use Rattle.chr_semantics.specs.Text.{known_text}
 use Rattle.chr_rules.specs.ProgramView.{names_of}
 use Rattle.chr_rules.specs.RuleView.{rule_view}
 use Rattle.chr_term.specs.TermView.{atom_view}
@@ -18,11 +16,8 @@ use Rattle.chr_machine.specs.Model.{model_of}
 use Rattle.chr_machine.proofs.Constraints.{line_in}
 use Rattle.chr_machine.proofs.Firings.{firing_line, kept_firing}
 use Rattle.chr_machine.proofs.Models.{on_err}
-use Rattle.chr_machine.proofs.ShownTexts.{shown_line, shown_tried}
+use Rattle.chr_machine.proofs.ShownTexts.{shown_tried}
 use Rattle.chr_machine.proofs.state.Execution.fire_below.Goals as goal
-
-pub show-requires : goal.show-requires
-show-requires g c = c.requires.is_of
 
 pub returns-clause-ok : goal.returns-clause-ok
 returns-clause-ok g c =
@@ -32,12 +27,9 @@ returns-clause-ok g c =
     let r = rule_view s.rule.now in
     let a = resolved_atom m.base.subst (atom_view c.args.sym c.args.args.now) in
     let ids = c.args.ids.now in
-    let kept = c.show.ensures.kept in
-    let text : c.as_slice.result.now ≡ known_text m.names m.var_names a s.id.0 = c.as_slice.ensures.value ∙ c.in_ok-show.ensures.text in
+    let kept = c.line_about.ensures.kept in
     let line : c.in_ok-line.line.items ≡ line_in m (firing_line s.id.0 c.args.number a r s.place ids) =
-    shown_line m.names c.scribe.result.names.now m.var_names c.scribe.result.var_names.now (m.steps + 1) (c.show.new.self.steps + 1) c.as_slice.result.now c.in_ok-line.line.items a s.id.0
-    (λ b i. firing_line i c.args.number b (record r { label = c.as_str.result.now }) s.place ids) (c.scribe.ensures.names ∙ ap names_of kept.program) (c.scribe.ensures.var_names ∙ kept.var_names) (ap (λ n. n + 1) kept.steps) text c.in_ok-line.ensures
-    ∙ ap (λ l. line_in m (firing_line s.id.0 c.args.number a (record r { label = l }) s.place ids)) c.as_str.ensures.value
+    c.in_ok-line.ensures.line ∙ ap (λ l. line_in m (firing_line s.id.0 c.args.number a (record r { label = l }) s.place ids)) c.as_str.ensures.value
     in
     record {
       base =
@@ -46,8 +38,8 @@ returns-clause-ok g c =
       goals_are = λ f.
           c.in_ok-goals.ensures f.rows f.ids_are (subst (λ (b : BaseModel). All (λ (row : Row). atom_of (rows_of b) row.0 ≡ Some row.1) f.rows) (sym kept.base) f.standing) f.matched f.fit
           ∙ ap (λ (b : BaseModel). body_of r f.rows b.next_var) kept.base;
-      lines = c.log.ensures.lines ∙ (λ k. texts ((c.reserve.ensures.items ∙ kept.lines) k) ++ line k ∷ []);
-      stack = ap (λ v. v.items) c.log.ensures.stack ∙ (c.reserve-2.ensures.items ∙ kept.stack);
+      lines = c.log.ensures.lines ∙ (λ k. texts (kept.lines k) ++ line k ∷ []);
+      stack = ap (λ v. v.items) c.log.ensures.stack ∙ (c.reserve.ensures.items ∙ kept.stack);
       status = c.log.ensures.status ∙ kept.status;
       steps = c.log.ensures.steps ∙ ap (λ n. n + 1) kept.steps;
       program = c.log.ensures.program ∙ (c.fire.ensures.program ∙ kept.program);
@@ -55,64 +47,47 @@ returns-clause-ok g c =
     }
 
 pub fire-requires-clause-found : goal.fire-requires-clause-found
-fire-requires-clause-found g c = (kept_firing c.args.self.now c.show.new.self c.args.active.now c.args.number (atom_view c.args.sym c.args.args.now) c.args.ids.now c.show.ensures.kept c.requires.fires).first
+fire-requires-clause-found g c = (kept_firing c.args.self.now c.line_about.new.self c.args.active.now c.args.number (atom_view c.args.sym c.args.args.now) c.args.ids.now c.line_about.ensures.kept c.requires.fires).first
 
 pub invariant_of-self-2 : goal.invariant_of-self-2
 invariant_of-self-2 g c =
-    let t = c.show.new.self in
+    let t = c.line_about.new.self in
     let b = base_in t.base in
     let s = c.args.active.now in
     let ids = c.args.ids.now in
     record {
       shows = λ right.
           shown_tried c.fire.result (names_of (program_in t.base)) (names_of (program_in c.fire.new.self)) t.var_names b (base_in c.fire.new.self) t.shown.id.0 t.shown.text.items _ _ (drop s.rule.now.kept ids)
-          (subst (λ (m : BaseModel). Ascends 0 m.store.rows m.store.next_id) (sym c.show.ensures.kept.base) c.requires.ascends) (ap names_of c.fire.ensures.program) c.fire.ensures.ok c.fire.ensures.err (t.shows right);
+          (subst (λ (m : BaseModel). Ascends 0 m.store.rows m.store.next_id) (sym c.line_about.ensures.kept.base) c.requires.ascends) (ap names_of c.fire.ensures.program) c.fire.ensures.ok c.fire.ensures.err (t.shows right);
     }
 
 -- a growth that is refused
 pub returns-in_err-reserve-clause-err : goal.returns-in_err-reserve-clause-err
 returns-in_err-reserve-clause-err g c =
-    let k = c.show.ensures.kept in
+    let k = c.line_about.ensures.kept in
     on_err c.from_residual-in_err-reserve.result (record {
-      stack = k.stack;
-      room = k.room;
+      stack = c.reserve.ensures.items ∙ k.stack;
+      room = λ r. omega (arith, c.reserve.ensures.len, c.reserve.ensures.capacity, k.room r);
       status = k.status;
       base = k.base;
-      lines = c.reserve.ensures.items ∙ k.lines;
+      lines = k.lines;
       steps = k.steps;
       program = k.program;
       var_names = k.var_names;
     })
 
 pub returns-in_err-reserve-clause-room : goal.returns-in_err-reserve-clause-room
-returns-in_err-reserve-clause-room g c = on_err c.from_residual-in_err-reserve.result (c.show.ensures.kept.room c.requires.room)
-
-pub returns-in_err-reserve-2-clause-err : goal.returns-in_err-reserve-2-clause-err
-returns-in_err-reserve-2-clause-err g c =
-    let k = c.show.ensures.kept in
-    on_err c.from_residual-in_err-reserve-2.result (record {
-      stack = c.reserve-2.ensures.items ∙ k.stack;
-      room = λ r. omega (arith, c.reserve-2.ensures.len, c.reserve-2.ensures.capacity, k.room r);
-      status = k.status;
-      base = k.base;
-      lines = c.reserve.ensures.items ∙ k.lines;
-      steps = k.steps;
-      program = k.program;
-      var_names = k.var_names;
-    })
-
-pub returns-in_err-reserve-2-clause-room : goal.returns-in_err-reserve-2-clause-room
-returns-in_err-reserve-2-clause-room g c = on_err c.from_residual-in_err-reserve-2.result (omega (arith, c.reserve-2.ensures.len, c.reserve-2.ensures.capacity, c.show.ensures.kept.room c.requires.room))
+returns-in_err-reserve-clause-room g c = on_err c.from_residual-in_err-reserve.result (omega (arith, c.reserve.ensures.len, c.reserve.ensures.capacity, c.line_about.ensures.kept.room c.requires.room))
 
 pub returns-in_err-fire-clause-err : goal.returns-in_err-fire-clause-err
 returns-in_err-fire-clause-err g c =
-    let k = c.show.ensures.kept in
+    let k = c.line_about.ensures.kept in
     on_err c.from_residual-in_err-fire.result (record {
-      stack = c.reserve-2.ensures.items ∙ k.stack;
-      room = λ r. omega (arith, c.reserve-2.ensures.len, c.reserve-2.ensures.capacity, k.room r);
+      stack = c.reserve.ensures.items ∙ k.stack;
+      room = λ r. omega (arith, c.reserve.ensures.len, c.reserve.ensures.capacity, k.room r);
       status = k.status;
       base = c.in_err-fire.ensures.err ∙ k.base;
-      lines = c.reserve.ensures.items ∙ k.lines;
+      lines = k.lines;
       steps = k.steps;
       program = c.fire.ensures.program ∙ k.program;
       var_names = k.var_names;
