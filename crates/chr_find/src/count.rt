@@ -8,7 +8,7 @@ use std::cmp::Ordering;
 /// The number of rows in a list.
 pub(crate) fn count<A: Allocator + Copy>(
     part: &Part<'_, Place, Pointer<Row<A>, A>, A>,
-    list: List,
+    list: &List,
 ) -> u64 {
     let middle = match part.middle() {
         None => return 0,
@@ -26,7 +26,7 @@ pub(crate) fn count<A: Allocator + Copy>(
 /// The same in a part that begins in the list, or ends in it where `is_last`.
 fn count_edge<A: Allocator + Copy>(
     part: &Part<'_, Place, Pointer<Row<A>, A>, A>,
-    list: List,
+    list: &List,
     is_last: bool,
 ) -> u64 {
     let middle = match part.middle() {
@@ -38,7 +38,7 @@ fn count_edge<A: Allocator + Copy>(
     } else {
         (&middle.before, &middle.after)
     };
-    if middle.key.list == list {
+    if middle.key.list == *list {
         count_edge(inner, list, is_last)
             .saturating_add(outer.weight())
             .saturating_add(1)

@@ -28,7 +28,7 @@ impl<'a, P: Past, A: Allocator + Copy> Search<'a, P, A> {
     {
         let (sym, args) = &self.rule.heads[level];
         let list = some_list_for(self.plan, *sym, args.as_slice(), matching);
-        !has_new(&self.rows.entries(), list, 0)
+        !has_new(&self.rows.entries(), &list, 0)
     }
 
     /// Whether that is so of some head but the own one, which tells at once that nothing is found.
@@ -71,6 +71,6 @@ impl<'a, P: Past, A: Allocator + Copy> Search<'a, P, A> {
             partners: [0; 8],
             mode,
         };
-        self.join(start, &matching, tries)
+        self.join(&start, &matching, tries)
     }
 }

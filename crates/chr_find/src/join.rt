@@ -55,13 +55,13 @@ pub(crate) struct Prefix {
 
 impl<'a, P: Past, A: Allocator + Copy> Search<'a, P, A> {
     /// With one more partner.
-    fn longer(&self, prefix: Prefix, id: u64) -> Prefix
-        requires { prefix.level < 8 }
-        ensures level { result.level ≡ prefix.level + 1 }
-        ensures partners { take (prefix.level + 1) result.partners
-            ≡ take prefix.level prefix.partners ++ id ∷ [] }
-        ensures gate { gate_of result.mode (drop (prefix.level + 1) self.now.after.now)
-            ≡ next_gate self.now.from (gate_of prefix.mode (drop prefix.level self.now.after.now)) id }
+    fn longer(&self, prefix: &Prefix, id: u64) -> Prefix
+        requires { prefix.now.level < 8 }
+        ensures level { result.level ≡ prefix.now.level + 1 }
+        ensures partners { take (prefix.now.level + 1) result.partners
+            ≡ take prefix.now.level prefix.now.partners ++ id ∷ [] }
+        ensures gate { gate_of result.mode (drop (prefix.now.level + 1) self.now.after.now)
+            ≡ next_gate self.now.from (gate_of prefix.now.mode (drop prefix.now.level self.now.after.now)) id }
     {
         let mut partners = prefix.partners;
         partners[prefix.level] = id;
@@ -73,10 +73,10 @@ impl<'a, P: Past, A: Allocator + Copy> Search<'a, P, A> {
     }
 
     /// Rows with lesser identities may be passed over for the next head.
-    fn least(&self, prefix: Prefix) -> u64
+    fn least(&self, prefix: &Prefix) -> u64
         ensures bound { result ≤ gate_bound self.now.from
-            (gate_of prefix.mode (drop prefix.level self.now.after.now)) }
-        ensures quiet { 0 < result → self.now.quiet < prefix.level + 2 }
+            (gate_of prefix.now.mode (drop prefix.now.level self.now.after.now)) }
+        ensures quiet { 0 < result → self.now.quiet < prefix.now.level + 2 }
     {
         if self.quiet <= prefix.level.saturating_add(1) {
             prefix.mode.bound(self.after, prefix.level, self.from)
@@ -89,14 +89,14 @@ impl<'a, P: Past, A: Allocator + Copy> Search<'a, P, A> {
     #[cycle(join)]
     pub(crate) fn join(
         &self,
-        prefix: Prefix,
+        prefix: &Prefix,
         matching: &Match<'a, A>,
         tries: &mut u64,
     ) -> Result<Option<[u64; 8]>, Memory>
         requires few { vec_len self.now.rule.now.heads ≤ 8 }
         requires small { AreSmall (rule_view self.now.rule.now).heads }
-        requires inside { prefix.level ≤ vec_len self.now.rule.now.heads }
-        ensures { IfOk result (λ found. JoinFinds (P.history self.now.past.now) self.now prefix
+        requires inside { prefix.now.level ≤ vec_len self.now.rule.now.heads }
+        ensures { IfOk result (λ found. JoinFinds (P.history self.now.past.now) self.now prefix.now
             matching.now found tries.old tries.new) }
     {
         let _so_far = *tries;
@@ -104,12 +104,12 @@ impl<'a, P: Past, A: Allocator + Copy> Search<'a, P, A> {
             return self.try_list(prefix, matching, tries);
         }
         if prefix.level == self.place {
-            return self.join(self.longer(prefix, self.own), matching, tries);
+            return self.join(&self.longer(prefix, self.own), matching, tries);
         }
         let (sym, args) = &self.rule.heads[prefix.level];
         let list = list_for(self.plan, self.rows, *sym, args.as_slice(), matching);
         let least = self.least(prefix);
-        self.visit(&self.rows.entries(), list, least, prefix, matching, tries)
+        self.visit(&self.rows.entries(), &list, least, prefix, matching, tries)
     }
 
     /// The same with the rows of a part that are in a list, but for those with identities below `least`.
@@ -117,20 +117,20 @@ impl<'a, P: Past, A: Allocator + Copy> Search<'a, P, A> {
     fn visit(
         &self,
         part: &Part<'a, Place, Pointer<Row<A>, A>, A>,
-        list: List,
+        list: &List,
         least: u64,
-        prefix: Prefix,
+        prefix: &Prefix,
         matching: &Match<'a, A>,
         tries: &mut u64,
     ) -> Result<Option<[u64; 8]>, Memory>
         requires few { vec_len self.now.rule.now.heads ≤ 8 }
         requires small { AreSmall (rule_view self.now.rule.now).heads }
-        requires inside { prefix.level < vec_len self.now.rule.now.heads }
+        requires inside { prefix.now.level < vec_len self.now.rule.now.heads }
         requires bound { least ≤ gate_bound self.now.from
-            (gate_of prefix.mode (drop prefix.level self.now.after.now)) }
-        requires quiet { 0 < least → self.now.quiet < prefix.level + 2 }
-        ensures { IfOk result (λ found. WalkFinds (P.history self.now.past.now) self.now prefix
-            matching.now (walk list part.now) found tries.old tries.new) }
+            (gate_of prefix.now.mode (drop prefix.now.level self.now.after.now)) }
+        requires quiet { 0 < least → self.now.quiet < prefix.now.level + 2 }
+        ensures { IfOk result (λ found. WalkFinds (P.history self.now.past.now) self.now prefix.now
+            matching.now (walk list.now part.now) found tries.old tries.new) }
     {
         let _so_far = *tries;
         let middle = match part.middle() {
@@ -164,14 +164,14 @@ impl<'a, P: Past, A: Allocator + Copy> Search<'a, P, A> {
         &self,
         id: u64,
         row: &'a Row<A>,
-        prefix: Prefix,
+        prefix: &Prefix,
         matching: &Match<'a, A>,
         tries: &mut u64,
     ) -> Result<Option<[u64; 8]>, Memory>
         requires few { vec_len self.now.rule.now.heads ≤ 8 }
         requires small { AreSmall (rule_view self.now.rule.now).heads }
-        requires inside { prefix.level < vec_len self.now.rule.now.heads }
-        ensures { IfOk result (λ found. WalkFinds (P.history self.now.past.now) self.now prefix
+        requires inside { prefix.now.level < vec_len self.now.rule.now.heads }
+        ensures { IfOk result (λ found. WalkFinds (P.history self.now.past.now) self.now prefix.now
             matching.now ((id, row_atom row.now) ∷ []) found tries.old tries.new) }
     {
         let _so_far = *tries;
@@ -179,7 +179,7 @@ impl<'a, P: Past, A: Allocator + Copy> Search<'a, P, A> {
         let used = &prefix.partners[..prefix.level];
         let mut next = *matching;
         if takes(self.own, used, head, id, row, &mut next) {
-            self.join(self.longer(prefix, id), &next, tries)
+            self.join(&self.longer(prefix, id), &next, tries)
         } else {
             Ok(None)
         }
@@ -188,13 +188,13 @@ impl<'a, P: Past, A: Allocator + Copy> Search<'a, P, A> {
     /// The list of all partners, if it may fire.
     fn try_list(
         &self,
-        prefix: Prefix,
+        prefix: &Prefix,
         matching: &Match<'a, A>,
         tries: &mut u64,
     ) -> Result<Option<[u64; 8]>, Memory>
         requires few { vec_len self.now.rule.now.heads ≤ 8 }
-        requires inside { prefix.level ≡ vec_len self.now.rule.now.heads }
-        ensures { IfOk result (λ found. JoinFinds (P.history self.now.past.now) self.now prefix
+        requires inside { prefix.now.level ≡ vec_len self.now.rule.now.heads }
+        ensures { IfOk result (λ found. JoinFinds (P.history self.now.past.now) self.now prefix.now
             matching.now found tries.old tries.new) }
     {
         let _so_far = *tries;

@@ -16,10 +16,10 @@ use std::cmp::Ordering;
 /// Whether a list has a row with an identity that is not below `from`.
 pub(crate) fn has_new<A: Allocator + Copy>(
     part: &Part<'_, Place, Pointer<Row<A>, A>, A>,
-    list: List,
+    list: &List,
     from: u64,
 ) -> bool
-    ensures { result ≡ any_new from (walk list part.now) }
+    ensures { result ≡ any_new from (walk list.now part.now) }
 {
     let middle = match part.middle() {
         None => return false,
@@ -54,7 +54,8 @@ fn is_new_at<A: Allocator + Copy>(
     if level == place {
         own >= from
     } else {
-        has_new(&rows.entries(), List::Symbol(rule.heads[level].0), from)
+        let list = List::Symbol(rule.heads[level].0);
+        has_new(&rows.entries(), &list, from)
     }
 }
 

@@ -63,8 +63,8 @@ fn shorter<A: Allocator + Copy>(rows: &Rows<A>, one: List, other: List) -> List
 {
     match one {
         List::At(_, _, _) => {
-            let length = count(&rows.entries(), one);
-            if length <= 1 || length <= count(&rows.entries(), other) {
+            let length = count(&rows.entries(), &one);
+            if length <= 1 || length <= count(&rows.entries(), &other) {
                 one
             } else {
                 other

@@ -29,7 +29,7 @@ use Rattle.chr_find.proofs.join.Search.+join.Goals as goal
 pub join-returns-then-prefix-self : goal.join-returns-then-prefix-self
 join-returns-then-prefix-self g t c =
     let s = c.args.self.now in
-    let p = c.args.prefix in
+    let p = c.args.prefix.now in
     let rule = rule_view s.rule.now in
     let x : (x : Head) × _ = head_there rule.heads p.level (omega (arith, heads_length s.rule.now.heads.items s.rule.now.passive.items, c.if-prefix-len.false, c.len.ensures)) in
     ok_more _ _ c.join.result
@@ -42,14 +42,14 @@ join-returns-then-prefix-self g t c =
 pub join-visit-requires : goal.join-visit-requires
 join-visit-requires g t c κs within =
     let s = c.args.self.now in
-    let l : c.args.prefix.level < vec_len s.rule.now.heads = omega (arith, c.if-prefix-len.false, c.len.ensures) in
-    let smaller = level_less (vec_len s.rule.now.heads) c.args.prefix.level (length s.rows.now) (length c.entries.result) l (ap length c.entries.ensures.value) in
+    let l : c.args.prefix.now.level < vec_len s.rule.now.heads = omega (arith, c.if-prefix-len.false, c.len.ensures) in
+    let smaller = level_less (vec_len s.rule.now.heads) c.args.prefix.now.level (length s.rows.now) (length c.entries.result) l (ap length c.entries.ensures.value) in
     (omega (arith, smaller, c.decreases), (within.0, (within.1, ((omega arith), (c.requires.few, (c.requires.small, (l, (c.least-least.ensures.bound, c.least-least.ensures.quiet))))))))
 
 pub join-returns : goal.join-returns
 join-returns g t c =
     let s = c.args.self.now in
-    let p = c.args.prefix in
+    let p = c.args.prefix.now in
     let rule = rule_view s.rule.now in
     let lt : p.level < length s.rule.now.heads.items = omega (arith, c.if-prefix-len.false, c.len.ensures) in
     let x = head_at s.rule.now.heads.items s.rule.now.passive.items p.level c.index.result.now lt c.index.ensures in
@@ -65,13 +65,13 @@ join-returns g t c =
 pub try_row-takes-requires : goal.try_row-takes-requires
 try_row-takes-requires g t c =
     let s = c.args.self.now in
-    let x = head_at s.rule.now.heads.items s.rule.now.passive.items c.args.prefix.level c.index-head.result.now (omega (arith, c.requires.inside)) c.index-head.ensures in
-    (omega arith, subst (λ (h : Atom). AreBelow MAX_RULE_VARIABLES h.args) x.2 (All-got (λ (h : Head). AreBelow MAX_RULE_VARIABLES h.atom.args) (rule_view s.rule.now).heads c.args.prefix.level x.0 x.1 c.requires.small.below))
+    let x = head_at s.rule.now.heads.items s.rule.now.passive.items c.args.prefix.now.level c.index-head.result.now (omega (arith, c.requires.inside)) c.index-head.ensures in
+    (omega arith, subst (λ (h : Atom). AreBelow MAX_RULE_VARIABLES h.args) x.2 (All-got (λ (h : Head). AreBelow MAX_RULE_VARIABLES h.atom.args) (rule_view s.rule.now).heads c.args.prefix.now.level x.0 x.1 c.requires.small.below))
 
 pub try_row-returns-then-takes : goal.try_row-returns-then-takes
 try_row-returns-then-takes g t c =
     let s = c.args.self.now in
-    let p = c.args.prefix in
+    let p = c.args.prefix.now in
     let rule = rule_view s.rule.now in
     let row : semantics.Row = (c.args.id, row_atom c.args.row.now) in
     ok_more _ _ c.join.result
@@ -88,7 +88,7 @@ try_row-returns-then-takes g t c =
 pub try_row-returns-else-takes : goal.try_row-returns-else-takes
 try_row-returns-else-takes g t c x at rows shown =
     let s = c.args.self.now in
-    let p = c.args.prefix in
+    let p = c.args.prefix.now in
     let rule = rule_view s.rule.now in
     let row : semantics.Row = (c.args.id, row_atom c.args.row.now) in
     let head : x.atom ≡ atom_view c.index-head.result.now.0 c.index-head.result.now.1.items = head_is s.rule.now.heads.items s.rule.now.passive.items p.level c.index-head.result.now x (omega (arith, c.requires.inside)) c.index-head.ensures at in
@@ -100,30 +100,30 @@ try_row-returns-else-takes g t c x at rows shown =
 pub visit-returns-in-Less : goal.visit-returns-in-Less
 visit-returns-in-Less g t c =
     let m : Place × Row g.row.A.Denot = (c.in-Some.middle.key, c.in-Some.middle.value.now) in
-    let e = part_less c.args.list c.args.part.now c.in-Some.middle.before m c.in-Some.middle.after c.in-Some.ensures.some c.in-Some.ensures.ascending (sym c.cmp.ensures ∙ c.in-Less.is) in
+    let e = part_less c.args.list.now c.args.part.now c.in-Some.middle.before m c.in-Some.middle.after c.in-Some.ensures.some c.in-Some.ensures.ascending (sym c.cmp.ensures ∙ c.in-Less.is) in
     ok_more _ _ c.visit.result
-    (λ found w. subst (λ walked. WalkFinds (g.P.Past.history c.args.self.now.past.now) c.args.self.now c.args.prefix c.args.matching.now walked found c.args.tries.now c.visit.new.tries) (sym e) w)
+    (λ found w. subst (λ walked. WalkFinds (g.P.Past.history c.args.self.now.past.now) c.args.self.now c.args.prefix.now c.args.matching.now walked found c.args.tries.now c.visit.new.tries) (sym e) w)
     c.visit.ensures
 
 pub visit-returns-in-Greater : goal.visit-returns-in-Greater
 visit-returns-in-Greater g t c =
     let m : Place × Row g.row.A.Denot = (c.in-Some.middle.key, c.in-Some.middle.value.now) in
-    let e = part_greater c.args.list c.args.part.now c.in-Some.middle.before m c.in-Some.middle.after c.in-Some.ensures.some c.in-Some.ensures.ascending (sym c.cmp.ensures ∙ c.in-Greater.is) in
+    let e = part_greater c.args.list.now c.args.part.now c.in-Some.middle.before m c.in-Some.middle.after c.in-Some.ensures.some c.in-Some.ensures.ascending (sym c.cmp.ensures ∙ c.in-Greater.is) in
     ok_more _ _ c.visit-in-Greater.result
-    (λ found w. subst (λ walked. WalkFinds (g.P.Past.history c.args.self.now.past.now) c.args.self.now c.args.prefix c.args.matching.now walked found c.args.tries.now c.visit-in-Greater.new.tries) (sym e) w)
+    (λ found w. subst (λ walked. WalkFinds (g.P.Past.history c.args.self.now.past.now) c.args.self.now c.args.prefix.now c.args.matching.now walked found c.args.tries.now c.visit-in-Greater.new.tries) (sym e) w)
     c.visit-in-Greater.ensures
 
 pub visit-returns-then-id-least : goal.visit-returns-then-id-least
 visit-returns-then-id-least g t c =
     let s = c.args.self.now in
-    let p = c.args.prefix in
+    let p = c.args.prefix.now in
     let m : Place × Row g.row.A.Denot = (c.in-Some.middle.key, c.in-Some.middle.value.now) in
     let one : List semantics.Row = (m.0.id.0, row_atom m.1) ∷ [] in
-    let first : List semantics.Row = walk c.args.list c.in-Some.middle.before in
-    let last : List semantics.Row = walk c.args.list c.in-Some.middle.after in
-    let whole : List semantics.Row = walk c.args.list c.args.part.now in
-    let parts : whole ≡ (first ++ one) ++ last = part_passed c.args.list c.args.part.now c.in-Some.middle.before m c.in-Some.middle.after c.in-Some.ensures.some (sym c.cmp.ensures ∙ c.in-Equal.is) in
-    let under : AllUnder c.args.least (first ++ one) = part_under c.args.list c.args.part.now c.in-Some.middle.before m c.in-Some.middle.after c.args.least c.in-Some.ensures.some c.in-Some.ensures.ascending (sym c.cmp.ensures ∙ c.in-Equal.is) c.if-id-least.true in
+    let first : List semantics.Row = walk c.args.list.now c.in-Some.middle.before in
+    let last : List semantics.Row = walk c.args.list.now c.in-Some.middle.after in
+    let whole : List semantics.Row = walk c.args.list.now c.args.part.now in
+    let parts : whole ≡ (first ++ one) ++ last = part_passed c.args.list.now c.args.part.now c.in-Some.middle.before m c.in-Some.middle.after c.in-Some.ensures.some (sym c.cmp.ensures ∙ c.in-Equal.is) in
+    let under : AllUnder c.args.least (first ++ one) = part_under c.args.list.now c.args.part.now c.in-Some.middle.before m c.in-Some.middle.after c.args.least c.in-Some.ensures.some c.in-Some.ensures.ascending (sym c.cmp.ensures ∙ c.in-Equal.is) c.if-id-least.true in
     ok_more _ _ c.visit-then-id-least.result
     (λ found w x at rows shown.
     walk_on rows (g.P.Past.history s.past.now) s.number (rule_view s.rule.now) s.place s.own p.level p.partners c.args.matching.now s.from s.quiet (gate_at (g.P.Past.history s.past.now) s p) x.atom whole (first ++ one) last None found c.args.tries.now c.args.tries.now c.visit-then-id-least.new.tries parts refl
@@ -134,26 +134,26 @@ visit-returns-then-id-least g t c =
 pub visit-returns-then-is_some : goal.visit-returns-then-is_some
 visit-returns-then-is_some g t c x at rows shown =
     let s = c.args.self.now in
-    let p = c.args.prefix in
+    let p = c.args.prefix.now in
     let m : Place × Row g.row.A.Denot = (c.in-Some.middle.key, c.in-Some.middle.value.now) in
     let one : List semantics.Row = (m.0.id.0, row_atom m.1) ∷ [] in
-    let first : List semantics.Row = walk c.args.list c.in-Some.middle.before in
-    let last : List semantics.Row = walk c.args.list c.in-Some.middle.after in
-    let whole : List semantics.Row = walk c.args.list c.args.part.now in
-    let parts : whole ≡ first ++ (one ++ last) = part_equal c.args.list c.args.part.now c.in-Some.middle.before m c.in-Some.middle.after c.in-Some.ensures.some (sym c.cmp.ensures ∙ c.in-Equal.is) in
+    let first : List semantics.Row = walk c.args.list.now c.in-Some.middle.before in
+    let last : List semantics.Row = walk c.args.list.now c.in-Some.middle.after in
+    let whole : List semantics.Row = walk c.args.list.now c.args.part.now in
+    let parts : whole ≡ first ++ (one ++ last) = part_equal c.args.list.now c.args.part.now c.in-Some.middle.before m c.in-Some.middle.after c.in-Some.ensures.some (sym c.cmp.ensures ∙ c.in-Equal.is) in
     walk_found rows (g.P.Past.history s.past.now) s.number (rule_view s.rule.now) s.place s.own p.level p.partners c.args.matching.now s.from s.quiet (gate_at (g.P.Past.history s.past.now) s p) x.atom whole first (one ++ last) c.in_ok-found-in-Equal.found c.args.tries.now c.visit-in-Equal.new.tries parts (sym c.is_some.ensures ∙ c.if-is_some.true)
     (c.in_ok-found-in-Equal.ensures x at rows shown)
 
 pub visit-returns-then-is_some-2 : goal.visit-returns-then-is_some-2
 visit-returns-then-is_some-2 g t c x at rows shown =
     let s = c.args.self.now in
-    let p = c.args.prefix in
+    let p = c.args.prefix.now in
     let m : Place × Row g.row.A.Denot = (c.in-Some.middle.key, c.in-Some.middle.value.now) in
     let one : List semantics.Row = (m.0.id.0, row_atom m.1) ∷ [] in
-    let first : List semantics.Row = walk c.args.list c.in-Some.middle.before in
-    let last : List semantics.Row = walk c.args.list c.in-Some.middle.after in
-    let whole : List semantics.Row = walk c.args.list c.args.part.now in
-    let parts : whole ≡ first ++ (one ++ last) = part_equal c.args.list c.args.part.now c.in-Some.middle.before m c.in-Some.middle.after c.in-Some.ensures.some (sym c.cmp.ensures ∙ c.in-Equal.is) in
+    let first : List semantics.Row = walk c.args.list.now c.in-Some.middle.before in
+    let last : List semantics.Row = walk c.args.list.now c.in-Some.middle.after in
+    let whole : List semantics.Row = walk c.args.list.now c.args.part.now in
+    let parts : whole ≡ first ++ (one ++ last) = part_equal c.args.list.now c.args.part.now c.in-Some.middle.before m c.in-Some.middle.after c.in-Some.ensures.some (sym c.cmp.ensures ∙ c.in-Equal.is) in
     walk_on rows (g.P.Past.history s.past.now) s.number (rule_view s.rule.now) s.place s.own p.level p.partners c.args.matching.now s.from s.quiet (gate_at (g.P.Past.history s.past.now) s p) x.atom whole first (one ++ last) c.in_ok-found-in-Equal.found c.in_ok-found-in-Equal-2.found c.args.tries.now c.visit-in-Equal.new.tries c.try_row.new.tries parts (sym c.is_some.ensures ∙ c.if-is_some.false)
     (c.in_ok-found-in-Equal.ensures x at rows shown)
     (walk_found rows (g.P.Past.history s.past.now) s.number (rule_view s.rule.now) s.place s.own p.level p.partners c.args.matching.now s.from s.quiet (gate_at (g.P.Past.history s.past.now) s p) x.atom (one ++ last) one last c.in_ok-found-in-Equal-2.found c.visit-in-Equal.new.tries c.try_row.new.tries refl (sym c.is_some-in-Equal.ensures ∙ c.if-is_some-2.true)
@@ -162,13 +162,13 @@ visit-returns-then-is_some-2 g t c x at rows shown =
 pub visit-returns-else-is_some-2 : goal.visit-returns-else-is_some-2
 visit-returns-else-is_some-2 g t c =
     let s = c.args.self.now in
-    let p = c.args.prefix in
+    let p = c.args.prefix.now in
     let m : Place × Row g.row.A.Denot = (c.in-Some.middle.key, c.in-Some.middle.value.now) in
     let one : List semantics.Row = (m.0.id.0, row_atom m.1) ∷ [] in
-    let first : List semantics.Row = walk c.args.list c.in-Some.middle.before in
-    let last : List semantics.Row = walk c.args.list c.in-Some.middle.after in
-    let whole : List semantics.Row = walk c.args.list c.args.part.now in
-    let parts : whole ≡ first ++ (one ++ last) = part_equal c.args.list c.args.part.now c.in-Some.middle.before m c.in-Some.middle.after c.in-Some.ensures.some (sym c.cmp.ensures ∙ c.in-Equal.is) in
+    let first : List semantics.Row = walk c.args.list.now c.in-Some.middle.before in
+    let last : List semantics.Row = walk c.args.list.now c.in-Some.middle.after in
+    let whole : List semantics.Row = walk c.args.list.now c.args.part.now in
+    let parts : whole ≡ first ++ (one ++ last) = part_equal c.args.list.now c.args.part.now c.in-Some.middle.before m c.in-Some.middle.after c.in-Some.ensures.some (sym c.cmp.ensures ∙ c.in-Equal.is) in
     ok_more _ _ c.visit-in-Equal-2.result
     (λ found w x at rows shown.
     walk_on rows (g.P.Past.history s.past.now) s.number (rule_view s.rule.now) s.place s.own p.level p.partners c.args.matching.now s.from s.quiet (gate_at (g.P.Past.history s.past.now) s p) x.atom whole first (one ++ last) c.in_ok-found-in-Equal.found found c.args.tries.now c.visit-in-Equal.new.tries c.visit-in-Equal-2.new.tries parts (sym c.is_some.ensures ∙ c.if-is_some.false)
