@@ -48,6 +48,7 @@ use Rattle.chr_map.specs.contracts.node.Node as Node
 use Rattle.chr_find.specs.contracts.plan.Plan as Plan
 use Rattle.chr_find.proofs.plan.Plan.TheSendSync as plan_laws
 use Rattle.chr_find.specs.contracts.lists.Change as Change
+use Rattle.chr_find.specs.contracts.standing.Standing as Standing
 use Rattle.chr_workers.proofs.Crosses.{term, term_row, vec_of}
 
 module _ (A : RattleType) (g : Ghosts A.Denot) (s : IsSend A) (y : IsSync A) (f : Frees g g.dealloc_token) where
@@ -84,6 +85,11 @@ module _ (A : RattleType) (g : Ghosts A.Denot) (s : IsSend A) (y : IsSync A) (f 
 
   pub change : IsSync (Change.the_field A g).row
   change = let r : IsSync (Pointer.the_field (Row.the_row A g) A g).row = shared_row in struct_sync (struct.shape (Change.the_type A g)) (search (r, id_laws.the_field_sync, sendable) depth 20)
+
+  pub standing : IsSync (Standing.the_row A g)
+  standing =
+      let r : IsSync (Pointer.the_field (Row.the_row A g) A g).row = shared_row in
+      recorded_sync _ _ _ (Standing.the_type A g).to_one (struct_sync (struct.shape (Standing.the_type A g)) (search (r, id_laws.the_field_sync, sendable) depth 20))
 
   -- trees of keys and values
   module _ (K V : RattleType) (ks : IsSend K) (ky : IsSync K) (vs : IsSend V) (vy : IsSync V) where
@@ -150,7 +156,11 @@ module _ (A : RattleType) (g : Ghosts A.Denot) (s : IsSend A) (y : IsSync A) (f 
       struct_sync (struct.shape (Noted.the_type A g)) (search (shared_plan, rows, firings, notes, sendable) depth 20)
 
   pub table : IsSync (Table.the_field A g).row
-  table = let n = noted in let k = keyed in struct_sync (struct.shape (Table.the_type A g)) (search (n, k, sendable) depth 20)
+  table =
+      let n = noted in
+      let newest : IsSync (Option.the_field (Standing.the_row A g)).row = (let r = standing in search (sendable) depth 20) in
+      let k = keyed in
+      struct_sync (struct.shape (Table.the_type A g)) (search (n, newest, k, sendable) depth 20)
 
   pub snapshot : IsSync (Snapshot.the_field A g).row
   snapshot =
@@ -179,6 +189,11 @@ module _ (A : RattleType) (g : Ghosts A.Denot) (s : IsSend A) (y : IsSync A) (f 
 
   pub change_send : IsSend (Change.the_field A g).row
   change_send = let r : IsSend (Pointer.the_field (Row.the_row A g) A g).row = shared_row_send in struct_send (struct.shape (Change.the_type A g)) (search (r, id_laws.the_field_send, sendable) depth 20)
+
+  pub standing_send : IsSend (Standing.the_row A g)
+  standing_send =
+      let r : IsSend (Pointer.the_field (Row.the_row A g) A g).row = shared_row_send in
+      recorded_send _ _ _ (Standing.the_type A g).to_one (struct_send (struct.shape (Standing.the_type A g)) (search (r, id_laws.the_field_send, sendable) depth 20))
 
   pub fired_send : IsSend (Fired.the_field A g).row
   fired_send =
@@ -217,7 +232,11 @@ module _ (A : RattleType) (g : Ghosts A.Denot) (s : IsSend A) (y : IsSync A) (f 
       struct_send (struct.shape (Noted.the_type A g)) (search (shared_plan, rows_send, firings, notes, sendable) depth 20)
 
   pub table_send : IsSend (Table.the_field A g).row
-  table_send = let n = noted_send in let k = keyed_send in struct_send (struct.shape (Table.the_type A g)) (search (n, k, sendable) depth 20)
+  table_send =
+      let n = noted_send in
+      let newest : IsSend (Option.the_field (Standing.the_row A g)).row = (let r = standing_send in search (sendable) depth 20) in
+      let k = keyed_send in
+      struct_send (struct.shape (Table.the_type A g)) (search (n, newest, k, sendable) depth 20)
 
   pub snapshot_send : IsSend (Snapshot.the_field A g).row
   snapshot_send =
