@@ -168,11 +168,12 @@ fn first<A: Allocator + Copy>(
     program: &Program<A>,
     at: (u64, u32),
 ) -> Result<(Option<Vec<u64, A>>, u64), Memory> {
-    table.settle_for(Id(at.0))?;
+    table.settle()?;
     let active = match active_at(table, program, at) {
         None => return Ok((None, 0)),
         Some(active) => active,
     };
+    table.settle_for(active.id)?;
     let mut tries = 0;
     let ids = match table.first(&active, &mut tries)? {
         None => return Ok((None, tries)),

@@ -94,11 +94,11 @@ fn search_all(
         None => return Ok(0),
         Some(occurrence) => occurrence,
     };
-    table.settle_all()?;
     let mut count: u64 = 0;
     let mut tries = 0;
     for k in 0..pairs.count {
         let active = Active::at(program, occurrence, Id(pairs.first.saturating_add(k)));
+        table.settle_for(active.id)?;
         if table.first(&active, &mut tries)?.is_some() {
             count = count.saturating_add(1);
         }
@@ -120,7 +120,7 @@ fn fire_all(program: &Program, table: &mut Table, sym: Sym, id: u64) -> Result<u
     let mut count: u64 = 0;
     let mut tries = 0;
     for _ in 0..u64::MAX {
-        table.settle_all()?;
+        table.settle_for(active.id)?;
         let found = match table.next(&active, &cursor, &mut tries)? {
             None => return Ok(count),
             Some(found) => found,

@@ -9,11 +9,12 @@ pub(crate) fn go_on<A: Allocator + Copy>(
     next: u64,
 ) -> Result<(Option<Vec<u64, A>>, u64), Memory> {
     let table = &mut trial.table;
-    table.settle_for(Id(at.0))?;
+    table.settle()?;
     let active = match active_at(table, &trial.program, at) {
         None => return Ok((None, 0)),
         Some(active) => active,
     };
+    table.settle_for(active.id)?;
     let mut tries = 0;
     let after = match table.next(&active, &trial.cursor, &mut tries)? {
         None => return Ok((None, tries)),

@@ -10,6 +10,6 @@ add-requires-clause-absent c = c.in_ok-room.ensures.same 1 ∙ c.new-table.ensur
 pub of-requires-clause-free : goal.of-requires-clause-free
 of-requires-clause-free c = λ i le.
     c.in_ok-keep_keys.ensures.same i
-    ∙ (c.in_ok-settle.ensures.same i
+    ∙ (c.in_ok-settle_all.ensures.same i
     ∙ (c.add.ensures.atoms i
     ∙ (ap (λ (b : Bool). cond b (Some (row_atom c.args.row)) (atom_at c.room.new.self i)) (ne_eqb i 1 (λ e. omega (arith, e, le))) ∙ (c.in_ok-room.ensures.same i ∙ c.new-table.ensures.atoms i))))
