@@ -51,7 +51,7 @@ impl<K: Ord + Copy, V: Share, A: Allocator + Copy> Map<K, V, A> {
         ensures ok { OnOk result (self.new ≡ entry_put K.cmp self.old key value) }
         ensures err { OnErr result (self.new ≡ self.old) }
     {
-        put(&mut self.root, self.alloc, key, value)
+        put(&mut self.root, self.alloc, &key, value)
     }
 
     /// Changes the value at a key, if there is one. What other maps have in common with this one is copied first. A refused call leaves the

@@ -59,14 +59,19 @@ pub(crate) fn size<K: Drop, V: Drop, A: Allocator>(link: &Link<K, V, A>) -> u64 
     }
 }
 
+/// Whether a tree of so many entries is too heavy beside one of so many others. Sizes wrap, which no tree in memory comes to.
+fn is_heavy(one: u64, other: u64) -> bool {
+    one > other.wrapping_mul(3).wrapping_add(2)
+}
+
 impl<K: Copy, V: Share, A: Allocator + Copy> Node<K, V, A> {
     /// Counts the entries, where those of the trees below are counted.
     fn count(&mut self)
         ensures { node_entries self.new ≡ node_entries self.old }
     {
         self.size = size(&self.left)
-            .saturating_add(size(&self.right))
-            .saturating_add(1);
+            .wrapping_add(size(&self.right))
+            .wrapping_add(1);
     }
 
     /// Puts an entry in the place of its own.
@@ -114,7 +119,7 @@ impl<K: Copy, V: Share, A: Allocator + Copy> Node<K, V, A> {
         ensures { node_entries self.new ≡ node_entries self.old }
     {
         if let Some(link) = &mut self.left {
-            if size(&link.right) > size(&link.left).saturating_mul(2) {
+            if size(&link.right) > size(&link.left).wrapping_mul(2) {
                 if let Ok(top) = Arc::make_mut(link) {
                     top.turn_left();
                 }
@@ -128,7 +133,7 @@ impl<K: Copy, V: Share, A: Allocator + Copy> Node<K, V, A> {
         ensures { node_entries self.new ≡ node_entries self.old }
     {
         if let Some(link) = &mut self.right {
-            if size(&link.left) > size(&link.right).saturating_mul(2) {
+            if size(&link.left) > size(&link.right).wrapping_mul(2) {
                 if let Ok(top) = Arc::make_mut(link) {
                     top.turn_right();
                 }
@@ -137,17 +142,28 @@ impl<K: Copy, V: Share, A: Allocator + Copy> Node<K, V, A> {
         self.turn_left();
     }
 
-    /// Balances the trees below, of which one has an entry more or less than before.
+    /// Makes the heavier one of the trees below lighter.
+    fn lighten(&mut self)
+        ensures { node_entries self.new ≡ node_entries self.old }
+    {
+        if size(&self.left) > size(&self.right) {
+            self.lighten_left();
+        } else {
+            self.lighten_right();
+        }
+        self.count();
+    }
+
+    /// Balances the trees below, of which one has an entry more or less than before. Mostly they are in balance, and are only counted.
     fn balance(&mut self)
         ensures { node_entries self.new ≡ node_entries self.old }
     {
         let (left, right) = (size(&self.left), size(&self.right));
-        if left > right.saturating_mul(3).saturating_add(2) {
-            self.lighten_left();
-        } else if right > left.saturating_mul(3).saturating_add(2) {
-            self.lighten_right();
+        if is_heavy(left, right) || is_heavy(right, left) {
+            self.lighten();
+        } else {
+            self.size = left.wrapping_add(right).wrapping_add(1);
         }
-        self.count();
     }
 }
 
@@ -156,18 +172,18 @@ impl<K: Copy, V: Share, A: Allocator + Copy> Node<K, V, A> {
 pub(crate) fn put<K: Ord + Copy, V: Share, A: Allocator + Copy>(
     link: &mut Link<K, V, A>,
     alloc: A,
-    key: K,
+    key: &K,
     value: V,
 ) -> Result<(), Memory>
     ensures ok { OnOk result (Ascends K.cmp (link_entries link.old) → link_entries link.new
-        ≡ entry_put K.cmp (link_entries link.old) key value) }
+        ≡ entry_put K.cmp (link_entries link.old) key.now value) }
     ensures err { OnErr result (link_entries link.new ≡ link_entries link.old) }
 {
     match link {
         None => {
             let node = Node {
                 left: None,
-                key,
+                key: *key,
                 value,
                 right: None,
                 size: 1,
@@ -183,11 +199,11 @@ pub(crate) fn put<K: Ord + Copy, V: Share, A: Allocator + Copy>(
 fn put_below<K: Ord + Copy, V: Share, A: Allocator + Copy>(
     node: &mut Node<K, V, A>,
     alloc: A,
-    key: K,
+    key: &K,
     value: V,
 ) -> Result<(), Memory>
     ensures ok { OnOk result (Ascends K.cmp (node_entries node.old) → node_entries node.new
-        ≡ entry_put K.cmp (node_entries node.old) key value) }
+        ≡ entry_put K.cmp (node_entries node.old) key.now value) }
     ensures err { OnErr result (node_entries node.new ≡ node_entries node.old) }
 {
     let answer = match key.cmp(&node.key) {
