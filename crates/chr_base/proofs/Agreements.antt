@@ -1,8 +1,8 @@
 -- Changes that keep the table in agreement.
-use Rattle.std.proofs.Common.{◌≡◌, ◌∙◌, ◌<◌, ◌≤◌, ◌+◌, ◌==◌, ◌&&◌, ℕ, Bool, true, false, true≢false, cond, nat_lt, List, [], ◌∷◌, Option, Some, None, ap, refl, subst, sym, arith}
+use Rattle.std.proofs.Common.{◌≡◌, ◌∙◌, ◌<◌, ◌≤◌, ◌+◌, ◌==◌, ◌||◌, ℕ, Bool, true, false, true≢false, cond, nat_lt, List, [], ◌∷◌, Option, Some, None, ap, refl, subst, sym, arith}
 use Rattle.std.specs.List.{list_all}
-use Rattle.std.specs.Prelude.{is_some}
-use Rattle.std.proofs.lemmas.Bool.{and_from, and_parts, ne_eqb}
+use Rattle.std.specs.Prelude.{is_some, nat_le}
+use Rattle.std.proofs.lemmas.Bool.{and_from, and_parts, leb-false, lt-leb, ne_eqb}
 use Rattle.std.proofs.lemmas.Bool.Decides.{Decides-ltb}
 use Rattle.chr_semantics.specs.Changes.{Entries, Store, added, empty_store, no_entries, rebound}
 use Rattle.chr_semantics.specs.Program.{Atom}
@@ -11,13 +11,13 @@ use Rattle.chr_semantics.specs.State.{resolved_atom}
 use Rattle.chr_semantics.specs.Subst.{IsSolved, Solves, Subst, instances, value_at}
 use Rattle.chr_semantics.specs.Tree.{Trees, none, more}
 use Rattle.chr_semantics.proofs.Instances.{instance-solves}
-use Rattle.chr_semantics.proofs.Lists.{list_all-same}
+use Rattle.chr_semantics.proofs.Lists.{list_all-more}
 use Rattle.chr_semantics.proofs.SolvedLaw.{nothing_solved, solved_law}
 use Rattle.chr_find.specs.Shown.{Rises}
 use Rattle.chr_semantics.specs.Match.{Row}
 use Rattle.chr_find.specs.TableView.{atoms_with}
 use Rattle.chr_find.proofs.SnapshotGuest.{looked_guest, rises_guest}
-use Rattle.chr_base.specs.Agreement.{Agrees, is_alive, under}
+use Rattle.chr_base.specs.Agreement.{Agrees, is_alive, is_not_dead, under}
 
 -- terms under what solves the bindings
 instances-solve : (f : ℕ → _) (s : Subst) → Solves f s → (ts : Trees) → instances f (instances (value_at s) ts) ≡ instances f ts
@@ -54,7 +54,7 @@ agrees_empty m h s at fired store entries subst_is nothing f =
       solved = nothing_solved;
       shown = λ i. ap (under []) (nothing i);
       resolved = λ e i. nothing i;
-      alike = λ r ids short. f r ids;
+      alike = λ r ids short live. f r ids;
     })))
 
 module _ (m : Store) (h : Entries) (s : Subst) (at : ℕ → Option Atom) (fired : ℕ → List ℕ → Bool) (stale : Bool) (agrees : Agrees m h s at fired stale) where
@@ -67,7 +67,7 @@ module _ (m : Store) (h : Entries) (s : Subst) (at : ℕ → Option Atom) (fired
     solved = agrees.solved;
     shown = λ i. ap (under s) (same i) ∙ agrees.shown i;
     resolved = λ e i. same i ∙ agrees.resolved e i;
-    alike = λ r ids short. f r ids ∙ agrees.alike r ids short;
+    alike = λ r ids short live. f r ids ∙ agrees.alike r ids short live;
   }
 
   -- where the store has the same constraints and the same next identity
@@ -79,7 +79,7 @@ module _ (m : Store) (h : Entries) (s : Subst) (at : ℕ → Option Atom) (fired
     solved = agrees.solved;
     shown = λ i. agrees.shown i ∙ ap (λ (rows : List Row). under s (atom_of rows i)) (sym same);
     resolved = λ e i. agrees.resolved e i ∙ ap (λ (rows : List Row). under s (atom_of rows i)) (sym same);
-    alike = λ r ids short. agrees.alike r ids short ∙ ap (λ (rows : List Row). fired_before h.list r ids && list_all (λ i. is_some (atom_of rows i)) ids) (sym same);
+    alike = λ r ids short live. agrees.alike r ids short (list_all-more (is_not_dead n) (is_not_dead m) ids (λ i e. ap (λ (rows : List Row). is_some (atom_of rows i) || nat_le m.next_id i) (sym same) ∙ (ap (λ (k : ℕ). is_some (atom_of n.rows i) || nat_le k i) (sym next) ∙ e)) live);
   }
 
   -- where symbols are touched
@@ -108,7 +108,7 @@ module _ (m : Store) (h : Entries) (s : Subst) (at : ℕ → Option Atom) (fired
     solved = agrees.solved;
     shown = λ i. ap (under s) (same i) ∙ (under_twice s agrees.solved (at i) ∙ agrees.shown i);
     resolved = λ e i. same i ∙ agrees.shown i;
-    alike = λ r ids short. f r ids ∙ agrees.alike r ids short;
+    alike = λ r ids short live. f r ids ∙ agrees.alike r ids short live;
   }
 
   -- nothing stands where the store has nothing
@@ -147,17 +147,20 @@ module _ (m : Store) (h : Entries) (s : Subst) (at : ℕ → Option Atom) (fired
         let more : nat_lt i (n + 1) ≡ true = (Decides-ltb i (n + 1)).1 (omega (arith, lt)) in
         and_from (nat_lt i (n + 1)) (list_all (λ j. nat_lt j (n + 1)) ids) more (below_more ids parts.1)
 
-    alive_same : (i : ℕ) → nat_lt i n ≡ true → is_alive (added m a) i ≡ is_alive m i
-    alive_same i lt =
-        let less : i < n = (Decides-ltb i n).0 lt in
-        ap is_some (looked i ∙ ap (λ (b : Bool). cond b (Some a) (atom_of m.rows i)) (ne_eqb i n (λ e. impossible less e)))
+    was_not_dead : (i : ℕ) → is_not_dead (added m a) i ≡ true → is_not_dead m i ≡ true
+    was_not_dead i e = by_test (nat_le n i) refl
       where
-        impossible : i < n → i ≡ n → ⊥
-        impossible less e = omega (arith, less, e)
-
-    and_when : (b x y : Bool) → (b ≡ true → x ≡ y) → (b && x) ≡ (b && y)
-    and_when true x y e = e refl
-    and_when false x y e = refl
+        by_test : (b : Bool) → nat_le n i ≡ b → (is_alive m i || b) ≡ true
+        by_test true le = or_true (is_alive m i)
+          where
+            or_true : (c : Bool) → (c || true) ≡ true
+            or_true true = refl
+            or_true false = refl
+        by_test false le =
+            let lt : i < n = leb-false n i le in
+            let here : (i == n) ≡ false = ne_eqb i n (λ same. omega (arith, lt, same)) in
+            let later : nat_le (n + 1) i ≡ false = lt-leb (n + 1) i (omega (arith, lt)) in
+            ap (λ (c : Bool). is_some (cond c (Some a) (atom_of m.rows i)) || false) (sym here) ∙ (ap (λ (o : Option Atom). is_some o || false) (sym (looked i)) ∙ (ap (λ (c : Bool). is_alive (added m a) i || c) (sym later) ∙ e))
 
     -- a constraint is added
     pub agrees_added : (new : ℕ → Option Atom) (news : ℕ → List ℕ → Bool) → ((i : ℕ) → new i ≡ atoms_with at n (Some (resolved_atom s a)) i) → ((r : ℕ) (ids : List ℕ) → news r ids ≡ fired r ids) → Agrees (added m a) h s new news stale
@@ -168,6 +171,5 @@ module _ (m : Store) (h : Entries) (s : Subst) (at : ℕ → Option Atom) (fired
       solved = agrees.solved;
       shown = λ i. ap (under s) (same i) ∙ (under_conds (i == n) (at i) (atom_of m.rows i) (agrees.shown i) ∙ ap (under s) (sym (looked i)));
       resolved = λ e i. same i ∙ (ap (λ (o : Option Atom). cond (i == n) (Some (resolved_atom s a)) o) (agrees.resolved e i) ∙ (sym (under_cond (i == n) (atom_of m.rows i)) ∙ ap (under s) (sym (looked i))));
-      alike = λ r ids short. f r ids ∙ (agrees.alike r ids short
-          ∙ and_when (fired_before h.list r ids) (list_all (is_alive m) ids) (list_all (is_alive (added m a)) ids) (λ e. sym (list_all-same (λ i. nat_lt i n) (is_alive (added m a)) (is_alive m) ids alive_same (agrees.entered r ids e))));
+      alike = λ r ids short live. f r ids ∙ agrees.alike r ids short (list_all-more (is_not_dead (added m a)) (is_not_dead m) ids was_not_dead live);
     }

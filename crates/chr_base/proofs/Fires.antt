@@ -1,7 +1,9 @@
 -- A firing that is entered, and constraints that are removed, keep the table in agreement.
-use Rattle.std.proofs.Common.{◌≡◌, ◌∙◌, ◌+◌, ◌≤◌, ◌==◌, ◌&&◌, ◌||◌, ℕ, Bool, true, false, true≢false, not, cond, nat_lt, List, [], ◌∷◌, ◌++◌, Option, Some, None, ap, arith, refl, subst, sym, inl, inr, ◌⊎◌}
+use Rattle.std.proofs.Common.{◌≡◌, ◌∙◌, ◌+◌, ◌≤◌, ◌<◌, ◌==◌, ◌&&◌, ◌||◌, ℕ, Bool, true, false, true≢false, not, cond, nat_lt, List, [], ◌∷◌, ◌++◌, Option, Some, None, ap, arith, refl, subst, sym, inl, inr, ◌⊎◌}
 use Rattle.std.specs.List.{list_all}
-use Rattle.std.specs.Prelude.{filter, is_some}
+use Rattle.std.specs.Prelude.{filter, is_some, nat_le}
+use Rattle.std.proofs.lemmas.Bool.{eq-eqb, lt-leb}
+use Rattle.std.proofs.lemmas.Bool.Decides.{Decides-ltb}
 use Rattle.chr_semantics.proofs.Lists.{list_all-more}
 use Rattle.chr_semantics.proofs.Tests.{eqb_sym}
 use Rattle.chr_semantics.specs.Changes.{Entries, Store, entered, removed, removed_as}
@@ -14,7 +16,7 @@ use Rattle.chr_find.specs.Shown.{Rises}
 use Rattle.chr_find.specs.TableView.{atoms_with}
 use Rattle.chr_find.proofs.FiredHistory.{same_ids_Decides}
 use Rattle.chr_find.proofs.Lookups.{atom_if, filter_looked, rises_filter}
-use Rattle.chr_base.specs.Agreement.{Agrees, is_alive, under}
+use Rattle.chr_base.specs.Agreement.{Agrees, is_alive, is_not_dead, under}
 
 -- the list of entries with one more
 before_last : (l : History) (r : ℕ) (ids : List ℕ) (q : ℕ) (others : List ℕ) → fired_before (l ++ (r, ids) ∷ []) q others ≡ (fired_before l q others || r == q && same_ids ids others)
@@ -46,23 +48,6 @@ and_right : (b c : Bool) → (b && c) ≡ true → c ≡ true
 and_right true c e = e
 and_right false c e = absurd (true≢false (sym e))
 
--- both ways to say that a firing is there, where the last one has living constraints alone
-joined : (f l t u : Bool) → t ≡ u → (t ≡ true → l ≡ true) → (f && l || t) ≡ ((f || u) && l)
-joined true true t u e h = refl
-joined true false true u e h = absurd (true≢false (sym (h refl)))
-joined true false false u e h = refl
-joined false true t u e h = e ∙ and_one u
-  where
-    and_one : (b : Bool) → b ≡ (b && true)
-    and_one true = refl
-    and_one false = refl
-joined false false true u e h = absurd (true≢false (sym (h refl)))
-joined false false false u e h = and_none u
-  where
-    and_none : (b : Bool) → false ≡ (b && false)
-    and_none true = refl
-    and_none false = refl
-
 tests_turned : (q r : ℕ) (others ids : List ℕ) → (q == r && same_ids others ids) ≡ (r == q && same_ids ids others)
 tests_turned q r others ids = (λ k. eqb_sym q r k && same_turned others ids k)
 
@@ -87,11 +72,6 @@ module _ (m : Store) (h : Entries) (s : Subst) (at : ℕ → Option Atom) (fired
         let same : ids ≡ others = (same_ids_Decides ids others).0 (and_right (r == q) (same_ids ids others) e) in
         subst (λ (l : List ℕ). list_all (λ i. nat_lt i m.next_id) l ≡ true) same (list_all-more (is_alive m) (λ i. nat_lt i m.next_id) ids alive_below alive)
 
-    alive_too : (q : ℕ) (others : List ℕ) → (q == r && same_ids others ids) ≡ true → list_all (is_alive m) others ≡ true
-    alive_too q others e =
-        let same : others ≡ ids = (same_ids_Decides others ids).0 (and_right (q == r) (same_ids others ids) e) in
-        subst (λ (l : List ℕ). list_all (is_alive m) l ≡ true) (sym same) alive
-
     -- a firing is entered
     pub agrees_entered : (news : ℕ → List ℕ → Bool) → ((q : ℕ) (others : List ℕ) → news q others ≡ (fired q others || q == r && same_ids others ids)) → Agrees m (entered h r ids) s at news stale
     agrees_entered news f = record {
@@ -101,9 +81,8 @@ module _ (m : Store) (h : Entries) (s : Subst) (at : ℕ → Option Atom) (fired
       solved = agrees.solved;
       shown = agrees.shown;
       resolved = agrees.resolved;
-      alike = λ q others short. f q others ∙ (ap (λ (b : Bool). b || q == r && same_ids others ids) (agrees.alike q others short)
-          ∙ (joined (fired_before h.list q others) (list_all (is_alive m) others) (q == r && same_ids others ids) (r == q && same_ids ids others) (tests_turned q r others ids) (alive_too q others)
-          ∙ ap (λ (b : Bool). b && list_all (is_alive m) others) (sym (before_last h.list r ids q others) ∙ ap (λ (l : History). fired_before l q others) (sym list_is))));
+      alike = λ q others short live. f q others ∙ (cc (agrees.alike q others short live, tests_turned q r others ids)
+          ∙ (sym (before_last h.list r ids q others) ∙ ap (λ (l : History). fired_before l q others) (sym list_is)));
     }
 
   module _ (i : ℕ) (a : Atom) (there : atom_of m.rows i ≡ Some a) where
@@ -137,31 +116,28 @@ module _ (m : Store) (h : Entries) (s : Subst) (at : ℕ → Option Atom) (fired
     under_cond true x = refl
     under_cond false x = refl
 
-    alive_at : (b c : Bool) (o : Option Atom) (l k : Bool) → b ≡ c → (is_some (cond b None o) && (l && not k)) ≡ ((is_some o && l) && not (c || k))
-    alive_at true true o l k e = none (is_some o && l)
-      where
-        none : (b : Bool) → false ≡ (b && false)
-        none true = refl
-        none false = refl
-    alive_at false false o l k e = moved (is_some o) l (not k)
-      where
-        moved : (b c d : Bool) → (b && (c && d)) ≡ ((b && c) && d)
-        moved true c d = refl
-        moved false c d = refl
-    alive_at true false o l k e = absurd (true≢false e)
-    alive_at false true o l k e = absurd (true≢false (sym e))
+    some_either : (b : Bool) (o : Option Atom) → is_some (cond b None o) ≡ true → is_some o ≡ true
+    some_either true o e = absurd (true≢false (sym e))
+    some_either false o e = e
 
-    alive_without : (ids : List ℕ) → list_all (is_alive (removed m i)) ids ≡ (list_all (is_alive m) ids && not (has_number ids i))
-    alive_without [] = refl
-    alive_without (j ∷ ids) =
-        (λ k. is_some (looked j k) && alive_without ids k) ∙ alive_at (j == i) (i == j) (atom_of m.rows j) (list_all (is_alive m) ids) (has_number ids i) (eqb_sym j i)
+    -- the others are dead then if they were
+    was_not_dead : (j : ℕ) → is_not_dead (removed m i) j ≡ true → is_not_dead m j ≡ true
+    was_not_dead j e = or_more (is_alive (removed m i) j) (is_alive m j) (nat_le m.next_id j) (λ alive. some_either (j == i) (atom_of m.rows j) (ap is_some (sym (looked j)) ∙ alive)) (ap (λ (k : ℕ). is_alive (removed m i) j || nat_le k j) (sym next_is) ∙ e)
+      where
+        or_more : (b c d : Bool) → (b ≡ true → c ≡ true) → (b || d) ≡ true → (c || d) ≡ true
+        or_more true c d h e = ap (λ (x : Bool). x || d) (h refl)
+        or_more false true d h e = refl
+        or_more false false d h e = e
 
-    and_moved : (b c d : Bool) → ((b && c) && d) ≡ (b && (c && d))
-    and_moved true c d = refl
-    and_moved false c d = refl
+    -- and it is dead
+    pub is_dead : is_not_dead (removed m i) i ≡ false
+    is_dead =
+        let lt : i < m.next_id = (Decides-ltb i m.next_id).0 (alive_below i (ap is_some there)) in
+        ap (λ (o : Option Atom). is_some o || nat_le (removed m i).next_id i) (looked i)
+        ∙ (ap (λ (b : Bool). is_some (cond b None (atom_of m.rows i)) || nat_le (removed m i).next_id i) (eq-eqb i i refl) ∙ (ap (λ (k : ℕ). nat_le k i) next_is ∙ lt-leb m.next_id i lt))
 
     -- a constraint of the store is removed
-    pub agrees_removed : (new : ℕ → Option Atom) (news : ℕ → List ℕ → Bool) → ((j : ℕ) → new j ≡ atoms_with at i None j) → ((r : ℕ) (ids : List ℕ) → news r ids ≡ (fired r ids && not (has_number ids i))) → Agrees (removed m i) h s new news stale
+    pub agrees_removed : (new : ℕ → Option Atom) (news : ℕ → List ℕ → Bool) → ((j : ℕ) → new j ≡ atoms_with at i None j) → ((r : ℕ) (ids : List ℕ) → list_all (is_not_dead (removed m i)) ids ≡ true → news r ids ≡ fired r ids) → Agrees (removed m i) h s new news stale
     agrees_removed new news same f = record {
       rises = subst Rises (sym rows_are) (rises_filter (λ (r : Row). not (r.0 == i)) m.rows agrees.rises);
       given = λ j le. looked j ∙ none_given (j == i) (atom_of m.rows j) (agrees.given j (subst (λ (k : ℕ). k ≤ j) next_is le));
@@ -169,8 +145,7 @@ module _ (m : Store) (h : Entries) (s : Subst) (at : ℕ → Option Atom) (fired
       solved = agrees.solved;
       shown = λ j. ap (under s) (same j) ∙ (under_either (j == i) (at j) (atom_of m.rows j) (agrees.shown j) ∙ ap (under s) (sym (looked j)));
       resolved = λ e j. same j ∙ (ap (λ (o : Option Atom). cond (j == i) None o) (agrees.resolved e j) ∙ (under_cond (j == i) (atom_of m.rows j) ∙ ap (under s) (sym (looked j))));
-      alike = λ r ids short. f r ids ∙ (ap (λ (b : Bool). b && not (has_number ids i)) (agrees.alike r ids short)
-          ∙ (and_moved (fired_before h.list r ids) (list_all (is_alive m) ids) (not (has_number ids i)) ∙ ap (λ (b : Bool). fired_before h.list r ids && b) (sym (alive_without ids))));
+      alike = λ r ids short live. f r ids live ∙ agrees.alike r ids short (list_all-more (is_not_dead (removed m i)) (is_not_dead m) ids was_not_dead live);
     }
 
 -- what stands in the table stands in the store

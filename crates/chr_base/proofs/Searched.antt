@@ -1,9 +1,10 @@
 -- What a table that is fresh has of the constraints and the history of its base.
-use Rattle.std.proofs.Common.{◌≡◌, ◌∙◌, ◌==◌, ◌&&◌, ◌<◌, ℕ, Bool, true, false, cond, List, [], ◌∷◌, Option, Some, None, Result, Ok, Err, Vec, ap, length, map, refl, subst, sym, take}
-use Rattle.std.specs.Prelude.{All, IfOk, OnOk, is_some}
+use Rattle.std.proofs.Common.{◌≡◌, ◌∙◌, ◌==◌, ◌||◌, ◌<◌, ℕ, Bool, true, false, true≢false, cond, List, [], ◌∷◌, Option, Some, None, Result, Ok, Err, Vec, ap, length, map, refl, subst, sym, take}
+use Rattle.std.specs.Prelude.{All, IfOk, OnOk, is_some, nat_le}
 use Rattle.std.proofs.lemmas.List.Elements.{All-weaker}
 use Rattle.std.specs.List.{list_all}
 use Rattle.std.specs.declared.alloc.AllocError.{AllocError}
+use Rattle.chr_semantics.proofs.Lists.{list_all-more}
 use Rattle.chr_semantics.specs.Match.{Row, fits}
 use Rattle.chr_semantics.specs.Program.{Atom, Rule}
 use Rattle.chr_semantics.specs.Search.{atom_of, fired_before, ids_of}
@@ -18,7 +19,7 @@ use Rattle.chr_find.specs.Shown.{AllOver, Rises}
 use Rattle.chr_find.specs.TableView.{HasHistory, HasRows, atom_at, fired_at, lives}
 use Rattle.chr_find.specs.declared.active.Active.{Active}
 use Rattle.chr_find.specs.declared.active.Cursor.{Cursor}
-use Rattle.chr_base.specs.Agreement.{is_alive, under}
+use Rattle.chr_base.specs.Agreement.{is_alive, is_not_dead, under}
 use Rattle.chr_base.specs.BaseView.{BaseModel, IsFresh, base_view}
 use Rattle.chr_base.specs.Searching.{FindsFirst, FindsNext, IsBodyFor, rows_of}
 use Rattle.chr_base.specs.declared.base.Base.{Base}
@@ -45,13 +46,9 @@ some_under : (s : Subst) (o : Option Atom) → is_some (under s o) ≡ is_some o
 some_under s None = refl
 some_under s (Some a) = refl
 
-all_agree : (p q : ℕ → Bool) (ids : List ℕ) → ((i : ℕ) → p i ≡ q i) → list_all p ids ≡ list_all q ids
-all_agree p q [] same = refl
-all_agree p q (i ∷ ids) same = (λ k. same i k && all_agree p q ids same k)
-
-and_true : (b c : Bool) → c ≡ true → (b && c) ≡ b
-and_true true c e = e
-and_true false c e = refl
+or_left : (b c d : Bool) → b ≡ c → b ≡ true → (c || d) ≡ true
+or_left b true d same e = refl
+or_left b false d same e = absurd (true≢false (sym e ∙ same))
 
 -- a fact of an answer
 pub on_ok : {T E : Type 0} (P : Type 0) (r : Result T E) → P → OnOk r P
@@ -72,13 +69,12 @@ module _ {A : Type 0} (b : Base A) (fresh : IsFresh b) where
     same = λ i. looked_resolved b.bindings.subst (base_view b).store.rows i ∙ sym (table_atom i);
   }
 
-  table_lives : (i : ℕ) → lives b.table i ≡ is_alive (base_view b).store i
+  pub table_lives : (i : ℕ) → lives b.table i ≡ is_alive (base_view b).store i
   table_lives i = ap is_some (table_atom i) ∙ some_under b.bindings.subst (atom_of (base_view b).store.rows i)
 
   table_history : HasHistory b.table (base_view b).entries.list
   table_history r ids short alive =
-      let living : list_all (is_alive (base_view b).store) ids ≡ true = sym (all_agree (lives b.table) (is_alive (base_view b).store) ids table_lives) ∙ alive in
-      sym (b.agrees.alike r ids short ∙ and_true (fired_before (base_view b).entries.list r ids) (list_all (is_alive (base_view b).store) ids) living)
+      sym (b.agrees.alike r ids short (list_all-more (lives b.table) (is_not_dead (base_view b).store) ids (λ i e. or_left (lives b.table i) (is_alive (base_view b).store i) (nat_le (base_view b).store.next_id i) (table_lives i) e) alive))
 
   table_own : (i : ℕ) (a : Atom) → atom_of (rows_of (base_view b)) i ≡ Some a → atom_at b.table i ≡ Some a
   table_own i a e = sym (table_rows.same i) ∙ e

@@ -1,5 +1,5 @@
 -- How a table stands to the constraints, their bindings and the history of a run.
-use Rattle.std.specs.Prelude.{◌≡◌, ◌≤◌, ◌&&◌, ℕ, Bool, true, false, nat_lt, List, [], ◌∷◌, Option, None, is_some, option_map}
+use Rattle.std.specs.Prelude.{◌≡◌, ◌≤◌, ◌||◌, ℕ, Bool, true, false, nat_le, nat_lt, List, [], ◌∷◌, Option, None, is_some, option_map}
 use Rattle.std.specs.Coded.{×_prop, Unit-prop, le_prop}
 use Rattle.std.specs.List.{list_all}
 use Rattle.std.proofs.Props.{props}
@@ -17,12 +17,16 @@ use Rattle.chr_semantics.specs.Match.{Row}
 abbrev pub is_alive : Store → ℕ → Bool
 is_alive m i = is_some (atom_of m.rows i)
 
+-- or is yet to come
+abbrev pub is_not_dead : Store → ℕ → Bool
+is_not_dead m i = is_alive m i || nat_le m.next_id i
+
 -- with the bindings applied
 abbrev pub under : Subst → Option Atom → Option Atom
 under s = option_map (resolved_atom s)
 
 -- The identities of the store ascend and are below the next one, and so are those of the history. The table has the constraints, which
--- the bindings bring to what the store has, and has brought there already unless it is stale; and what has fired with living ones.
+-- the bindings bring to what the store has, and has brought there already unless it is stale; and what has fired, but for the dead.
 pub record Agrees (m : Store) (h : Entries) (s : Subst) (at : ℕ → Option Atom) (fired : ℕ → List ℕ → Bool) (stale : Bool) : Type 0 where
   pub rises : Rises m.rows
   pub given : (i : ℕ) → m.next_id ≤ i → atom_of m.rows i ≡ None
@@ -30,7 +34,7 @@ pub record Agrees (m : Store) (h : Entries) (s : Subst) (at : ℕ → Option Ato
   pub solved : IsSolved s
   pub shown : (i : ℕ) → under s (at i) ≡ under s (atom_of m.rows i)
   pub resolved : stale ≡ false → (i : ℕ) → at i ≡ under s (atom_of m.rows i)
-  pub alike : (r : ℕ) (ids : List ℕ) → fits ids ≡ true → fired r ids ≡ (fired_before h.list r ids && list_all (is_alive m) ids)
+  pub alike : (r : ℕ) (ids : List ℕ) → fits ids ≡ true → list_all (is_not_dead m) ids ≡ true → fired r ids ≡ fired_before h.list r ids
 
 -- each of these facts has one proof at most
 AllOver-prop : (n : ℕ) (rows : List Row) → IsProp (AllOver n rows)

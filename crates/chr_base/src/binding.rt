@@ -13,7 +13,6 @@ use chr_bind::Unified;
 use chr_store::Id;
 use chr_term::Term;
 use std::alloc::Allocator;
-use std::mem;
 
 impl<A: Allocator + Copy> Base<A> {
     ghost use Rattle.chr_base.specs.BaseView.{IsFresh, base_view};
@@ -26,10 +25,7 @@ impl<A: Allocator + Copy> Base<A> {
             (λ ids. numbers ids.items ≡ woken (base_view self.new).store (base_view self.new).subst) }
         ensures fresh { OnOk result (IsFresh self.new) }
     {
-        self.table.settle_all()?;
-        let mut rebound = self.table.rebound(&self.bindings)?;
-        let woken = mem::replace(&mut rebound.woken, Vec::new(self.alloc));
-        self.table.rebind(rebound);
+        let woken = self.table.rebind(&self.bindings)?;
         self.is_stale = false;
         self.table.settle()?;
         Ok(woken)

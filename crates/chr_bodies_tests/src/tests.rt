@@ -243,16 +243,14 @@ fn goals_of_bodies(rt: HostRuntime) -> Result<(), Fail> {
     Ok(())
 }
 
-/// Binds the variable 0 to 5, and notes that in the table.
+/// Binds the variable 0 to 5, also in the table.
 fn rebind(rt: &impl Abort, alloc: Global, table: &mut Table<Global>) -> Result<(), Memory> {
     let mut bindings = Bindings::new(alloc);
     bindings.fresh(1)?;
     let (left, right) = (Term::Var(0), Term::Int(5));
     assert!(rt; is_below(bindings.len(), &left) && is_below(bindings.len(), &right));
     bindings.unify(&left, &right)?;
-    table.settle_all()?;
-    let rebound = table.rebound(&bindings)?;
-    table.rebind(rebound);
+    table.rebind(&bindings)?;
     Ok(())
 }
 

@@ -3,7 +3,6 @@ pub mod Barren
 pub mod Collected
 pub mod EnoughRows
 pub mod FiredHistory
-pub mod FiredIndex
 pub mod FiringMaps
 pub mod FoundLaw
 pub mod FoundLists
@@ -13,7 +12,6 @@ pub mod Held
 pub mod JoinEnds
 pub mod JoinSteps
 pub mod Kept
-pub mod KeyedMaps
 pub mod KeyedRows
 pub mod KeyedTables
 pub mod LiveFirings
@@ -23,6 +21,7 @@ pub mod Made
 pub mod MadeWhole
 pub mod NewRows
 pub mod Newest
+pub mod NotDead
 pub mod NoteSteps
 pub mod Numbers
 pub mod OwnFirst

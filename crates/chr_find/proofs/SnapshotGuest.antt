@@ -60,3 +60,7 @@ looked_guest = looked_last
 
 pub seen_guest : (q : snapshots.Snapshot) (i : ℕ) (a : Atom) → i ≡ q.next_id → q.guest ≡ Some a → rows_seen q i ≡ q.rows ++ (q.next_id, a) ∷ []
 seen_guest q i a at e = ap (λ (b : Bool). cond b (with_last q.rows q.next_id q.guest) q.rows) (eq-eqb i q.next_id at) ∙ ap (with_last q.rows q.next_id) e
+
+-- no other constraint is the guest
+pub seen_other : (q : snapshots.Snapshot) (i : ℕ) → (i == q.next_id) ≡ false → rows_seen q i ≡ q.rows
+seen_other q i e = ap (λ (b : Bool). cond b (with_last q.rows q.next_id q.guest) q.rows) e

@@ -1,18 +1,14 @@
 -- The firings of a table after its calls.
-use Rattle.std.proofs.Common.{◌≡◌, ◌∙◌, ◌==◌, ◌&&◌, ◌||◌, ◌<◌, ◌≤◌, ℕ, Bool, true, false, not, cond, List, ap, arith, length, refl, sym, true≢false}
+use Rattle.std.proofs.Common.{◌≡◌, ◌∙◌, ◌==◌, ◌&&◌, ◌||◌, ◌<◌, ◌≤◌, ℕ, Bool, true, false, cond, List, ap, arith, length, refl, sym, true≢false}
 use Rattle.std.proofs.lemmas.Bool.{and_parts}
 use Rattle.std.proofs.lemmas.Bool.Decides.{Decides-and, Decides-eqb, Decides-like, Decides-ltb, same_from_decides}
-use Rattle.chr_semantics.specs.Search.{has_number, same_ids}
+use Rattle.chr_semantics.specs.Search.{same_ids}
 use Rattle.chr_find.specs.Firings.{firing_of, fits, ids_in, same_firing}
 use Rattle.chr_find.specs.NotedView.{fired_in}
 use Rattle.chr_find.specs.declared.firings.Firing.{Firing}
 use Rattle.chr_find.specs.declared.noted.Noted.{Noted}
 use Rattle.chr_find.proofs.FiredHistory.{ids_of_firing, same_ids_Decides}
 use Rattle.chr_find.proofs.FiringMaps.{same_Decides}
-
-with_fits : (a b c : Bool) → (a && (b && c)) ≡ ((a && b) && c)
-with_fits true b c = refl
-with_fits false b c = refl
 
 -- two rules with their identities
 pub same_asked : (r s : ℕ) (xs ys : List ℕ) → same_firing (firing_of r xs) (firing_of s ys) ≡ (r == s && same_ids xs ys)
@@ -38,12 +34,6 @@ too_long ids others r s true le out e =
 module _ {A : Type 0} (n m : Noted A) where
   pub fired_same : ((x : Firing) → fired_in n x ≡ fired_in m x) → (r : ℕ) (ids : List ℕ) → (fits ids && fired_in n (firing_of r ids)) ≡ (fits ids && fired_in m (firing_of r ids))
   fired_same h r ids = ap (λ (b : Bool). fits ids && b) (h (firing_of r ids))
-
-  pub fired_without : (i : ℕ) → ((x : Firing) → fired_in n x ≡ (fired_in m x && not (has_number (ids_in x) i))) → (r : ℕ) (ids : List ℕ)
-      → (fits ids && fired_in n (firing_of r ids)) ≡ (fits ids && fired_in m (firing_of r ids) && not (has_number ids i))
-  fired_without i h r ids =
-      ap (λ (b : Bool). fits ids && b) (h (firing_of r ids) ∙ ap (λ (l : List ℕ). fired_in m (firing_of r ids) && not (has_number l i)) (ids_of_firing r ids))
-      ∙ with_fits (fits ids) (fired_in m (firing_of r ids)) (not (has_number ids i))
 
   pub fired_more : (s : ℕ) (ids : List ℕ) → length ids ≤ 8 → ((x : Firing) → fired_in n x ≡ cond (same_firing x (firing_of s ids)) true (fired_in m x)) → (r : ℕ) (others : List ℕ)
       → (fits others && fired_in n (firing_of r others)) ≡ (fits others && fired_in m (firing_of r others) || (r == s && same_ids others ids))

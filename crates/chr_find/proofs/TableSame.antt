@@ -48,12 +48,7 @@ module _ {A : Type 0} (t : Table A) (n : Noted A) where
     pub shown_enlisted : n.plan ≡ t.noted.plan → AreShown n
     shown_enlisted plan = shown_changed n t.noted (put_at s.id s.row) rows t.shown (t.apart s is) plan
 
-  -- a constraint taken out, which was the newest
-  module _ (i₀ : ℕ) (the : IsThe t.newest i₀) (rows : (q : Place) → row_at n q ≡ row_at t.noted q) where
-    pub atoms_gone : (i : ℕ) → noted_atom n i ≡ atoms_with (atom_at t) i₀ None i
-    atoms_gone i = atoms_same n t.noted rows i ∙ newest_gone t.newest the.newest i₀ (noted_atom t.noted) the.is the.id t.apart i
-
-  -- or was not
+  -- a constraint taken out, which was not the newest
   module _ (id : Id) (r : Row A) (other : IsNot t.newest id.0) (there : atom_at t id.0 ≡ Some (row_atom r)) (rows : (q : Place) → row_at n q ≡ changed_at t.noted.plan (out_at id r) (row_at t.noted) q) where
     in_lists : noted_atom t.noted id.0 ≡ Some (row_atom r)
     in_lists = sym (newest_not t.newest id.0 (noted_atom t.noted) other) ∙ there
@@ -85,3 +80,7 @@ module _ {A : Type 0} (t : Table A) (n : Noted A) where
 
     pub apart_over : IsApart t.newest (noted_atom n)
     apart_over = apart_none t.newest (noted_atom n) (for_all t all)
+
+-- a constraint taken out, which was the newest
+pub atoms_gone : {A : Type 0} (t : Table A) (i₀ : ℕ) → IsThe t.newest i₀ → (i : ℕ) → noted_atom t.noted i ≡ atoms_with (atom_at t) i₀ None i
+atoms_gone t i₀ the = newest_gone t.newest the.newest i₀ (noted_atom t.noted) the.is the.id t.apart

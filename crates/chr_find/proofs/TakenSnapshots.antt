@@ -58,7 +58,7 @@ module _ {A : Type 0} (st : Store A) (m : Subst) (h : History A) where
         rises = subst Rises (sym same) (rises 1 ((store_view st).next_id) (rows_kept scope m stored) (kept_ascends scope m 1 ((store_view st).next_id) stored ascending));
         same = λ i. ap (λ (l : List semantics.Row). atom_of l i) same ∙ sym (is.atoms i);
       };
-      history = λ r ids short. ap (λ (l : Entries). fired_before l r ids) entries ∙ sym (is.fired r ids short);
+      history = λ r ids short alive. ap (λ (l : Entries). fired_before l r ids) entries ∙ sym (is.fired r ids short);
       next = next;
       tasks = tasks;
       guest = guest;

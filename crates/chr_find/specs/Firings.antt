@@ -1,26 +1,17 @@
 -- Firings that a table keeps.
-use Rattle.std.specs.Prelude.{◌≡◌, ℕ, Bool, true, false, cond, ◌&&◌, nat_lt, List, [], ◌∷◌, ◌++◌, Option, Some, None, is_some, drop, take, length}
+use Rattle.std.specs.Prelude.{ℕ, Bool, cond, ◌&&◌, nat_lt, List, [], ◌∷◌, ◌++◌, is_some, drop, take, length}
 use Rattle.std.specs.declared.cmp.Ordering.{Ordering}
 use Rattle.chr_map.specs.Order.{value_of}
-use Rattle.chr_semantics.specs.Search.{History, has_number}
+use Rattle.chr_semantics.specs.Search.{History}
 use Rattle.chr_find.specs.contracts.firings.FiringOrd.TheImpl.{ghosts}
 use Rattle.chr_find.specs.contracts.firings.FiringPartialEq.TheImpl.{ghosts as equality}
-use Rattle.chr_find.specs.contracts.firings.EntryOrd.TheImpl.{ghosts as entries}
-use Rattle.chr_find.specs.contracts.firings.EntryPartialEq.TheImpl.{ghosts as entry_equality}
 use Rattle.chr_find.specs.declared.firings.Firing.{Firing}
-use Rattle.chr_find.specs.declared.firings.Entry.{Entry}
 
 abbrev pub firing_cmp : Firing → Firing → Ordering
 firing_cmp = ghosts.cmp
 
 abbrev pub same_firing : Firing → Firing → Bool
 same_firing = equality.eq
-
-abbrev pub entry_cmp : Entry → Entry → Ordering
-entry_cmp = entries.cmp
-
-abbrev pub same_entry : Entry → Entry → Bool
-same_entry = entry_equality.eq
 
 abbrev pub ids_in : Firing → List ℕ
 ids_in f = take f.heads f.places
@@ -38,15 +29,6 @@ firing_of r ids = record { rule = r; heads = length ids; places = ids ++ drop (l
 abbrev pub is_in : List (Firing × Unit {0}) → Firing → Bool
 is_in all f = is_some (value_of firing_cmp all f)
 
--- the firing stands under the identity
-abbrev pub is_under : List (Entry × Unit {0}) → ℕ → Firing → Bool
-is_under by_id i f = is_some (value_of entry_cmp by_id (record { id = i; firing = f }))
-
--- each firing stands under each of its identities, and no other stands there
-pub record IsIndexed (all : List (Firing × Unit {0})) (by_id : List (Entry × Unit {0})) : Type 0 where
-  pub each : (f : Firing) (i : ℕ) → is_in all f ≡ true → has_number (ids_in f) i ≡ true → is_under by_id i f ≡ true
-  pub under : (f : Firing) (i : ℕ) → is_under by_id i f ≡ true → has_number (ids_in f) i ≡ true
-
 -- the rule has fired with the identities
 abbrev pub stands : List (Firing × Unit {0}) → ℕ → List ℕ → Bool
 stands all r ids = fits ids && is_in all (firing_of r ids)
@@ -61,8 +43,3 @@ history_in all (e ∷ es) = cond (is_in all e.0 && is_plain e.0) ((e.0.rule, ids
 
 abbrev pub history_of : List (Firing × Unit {0}) → History
 history_of all = history_in all all
-
--- a firing that stands under the identity, or there is none
-abbrev pub OneUnder : List (Entry × Unit {0}) → ℕ → Option Firing → Type 0
-OneUnder es id None = (f : Firing) → is_under es id f ≡ false
-OneUnder es id (Some f) = is_under es id f ≡ true

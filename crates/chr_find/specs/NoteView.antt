@@ -1,20 +1,15 @@
 -- What stands in a table after what is noted.
-use Rattle.std.specs.Prelude.{ℕ, Bool, true, cond, not, ◌&&◌, Option}
-use Rattle.chr_semantics.specs.Search.{has_number}
+use Rattle.std.specs.Prelude.{Bool, true, cond, Option}
 use Rattle.chr_store.specs.declared.row.Row.{Row}
-use Rattle.chr_find.specs.Firings.{ids_in, same_firing}
+use Rattle.chr_find.specs.Firings.{same_firing}
 use Rattle.chr_find.specs.Places.{is_place, row_if}
 use Rattle.chr_find.specs.PlanView.{positions_of}
 use Rattle.chr_find.specs.declared.firings.Firing.{Firing}
 use Rattle.chr_find.specs.declared.list.Place.{Place}
 use Rattle.chr_find.specs.declared.lists.Change.{Change}
 use Rattle.chr_find.specs.declared.note.Note.{Note}
-use Rattle.chr_find.specs.declared.note.Note.TheVariants.{Changed, Dead, Entered, Replaced}
+use Rattle.chr_find.specs.declared.note.Note.TheVariants.{Changed, Entered, Replaced}
 use Rattle.chr_find.specs.declared.plan.Plan.{Plan}
-
--- without the firings of the identity
-abbrev pub forgotten : ℕ → (Firing → Bool) → Firing → Bool
-forgotten i f x = f x && not (has_number (ids_in x) i)
 
 module _ {A : Type 0} where
   -- the rows after a change of them
@@ -25,12 +20,10 @@ module _ {A : Type 0} where
   abbrev pub rows_after : Plan A → Note A → (Place → Option (Row A)) → Place → Option (Row A)
   rows_after p (Changed c) f q = changed_at p c f q
   rows_after p (Replaced c d) f q = changed_at p d (changed_at p c f) q
-  rows_after p (Dead i) f q = f q
   rows_after p (Entered x) f q = f q
 
   -- the firings after what is noted
   abbrev pub fired_after : Note A → (Firing → Bool) → Firing → Bool
-  fired_after (Changed c) f x = cond c.is_there (f x) (forgotten c.id.0 f x)
+  fired_after (Changed c) f x = f x
   fired_after (Replaced c d) f x = f x
-  fired_after (Dead i) f x = forgotten i f x
   fired_after (Entered g) f x = cond (same_firing x g) true (f x)

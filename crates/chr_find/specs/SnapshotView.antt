@@ -1,6 +1,7 @@
 -- A snapshot as the definitions have it.
-use Rattle.std.specs.Prelude.{◌≡◌, ℕ, true, List, Option, map, option_map}
+use Rattle.std.specs.Prelude.{◌≡◌, ◌||◌, ℕ, Bool, true, List, Option, map, nat_le, option_map}
 use Rattle.std.specs.Borrow.{Bor}
+use Rattle.std.specs.List.{list_all}
 use Rattle.chr_semantics.specs.Program.{Atom}
 use Rattle.chr_semantics.specs.Search.{fired_before}
 use Rattle.chr_semantics.specs.Snapshot as semantics
@@ -10,7 +11,7 @@ use Rattle.chr_term.specs.TermView.{atom_view}
 use Rattle.chr_term.specs.declared.term.Sym.{Sym}
 use Rattle.chr_term.specs.declared.term.Term.{Term}
 use Rattle.chr_find.specs.Firings.{fits}
-use Rattle.chr_find.specs.TableView.{HasRows, fired_at}
+use Rattle.chr_find.specs.TableView.{HasRows, fired_at, lives}
 use Rattle.chr_find.specs.declared.snapshot.Snapshot.{Snapshot}
 use Rattle.chr_find.specs.declared.snapshot.Task.{Task}
 use Rattle.chr_find.specs.declared.table.Table.{Table}
@@ -25,10 +26,14 @@ tasks_view ts = map task_view ts
 abbrev pub guest_view : {A : Type 0} → Option (Sym × Bor (List (Term A))) → Option Atom
 guest_view g = option_map (λ p. atom_view p.0 p.1.now) g
 
--- these constraints and firings, as far as rules have heads, with the next identity, tasks and guest
+-- the constraint of the identity lives, or is yet to come, where n is the next identity
+abbrev pub is_not_dead : {A : Type 0} → Table A → ℕ → ℕ → Bool
+is_not_dead t n i = lives t i || nat_le n i
+
+-- these constraints, and the firings of which no constraint has died, as far as rules have heads, with the next identity, tasks and guest
 pub record IsTaken {A : Type 0} (t : Table A) (n : ℕ) (ts : List tasks.Task) (g : Option Atom) (q : semantics.Snapshot) : Type 0 where
   pub rows : HasRows t q.rows
-  pub history : (r : ℕ) (ids : List ℕ) → fits ids ≡ true → fired_before q.history r ids ≡ fired_at t r ids
+  pub history : (r : ℕ) (ids : List ℕ) → fits ids ≡ true → list_all (is_not_dead t n) ids ≡ true → fired_before q.history r ids ≡ fired_at t r ids
   pub next : q.next_id ≡ n
   pub tasks : q.tasks ≡ ts
   pub guest : q.guest ≡ g

@@ -13,7 +13,7 @@ pub(crate) struct Firing {
 }
 
 impl Firing {
-    ghost use Rattle.chr_find.specs.Firings.{firing_of, ids_in};
+    ghost use Rattle.chr_find.specs.Firings.{firing_of};
 
     /// Of a rule with these identities.
     pub(crate) fn new(rule: u64, ids: &[u64]) -> Firing
@@ -28,18 +28,4 @@ impl Firing {
             places,
         }
     }
-
-    /// The identities.
-    pub(crate) fn ids(&self) -> &[u64]
-        ensures { result.now ≡ ids_in self.now }
-    {
-        &self.places[..self.heads.min(8)]
-    }
-}
-
-/// The place of a firing under one of its identities.
-#[derive(Clone, Copy, PartialEq, Eq, PartialOrd, Ord, Drop)]
-pub(crate) struct Entry {
-    pub(crate) id: u64,
-    pub(crate) firing: Firing,
 }

@@ -36,6 +36,5 @@ pub use answer::{Found, find, find_few};
 pub use chr_term::Memory;
 pub use few::Few;
 pub use plan::Plan;
-pub use rebinding::Rebound;
 pub use snapshot::{Snapshot, Task};
 pub use table::Table;

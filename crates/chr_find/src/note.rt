@@ -17,12 +17,9 @@ use std::alloc::Allocator;
 /// A change of a table.
 #[derive(Drop)]
 pub(crate) enum Note<A: Allocator> {
-    /// With a row that is taken out, the firings of its identity go.
     Changed(Change<A>),
     /// A row is taken out, and another put in its place.
     Replaced(Change<A>, Change<A>),
-    /// The firings of an identity go.
-    Dead(u64),
     Entered(Firing),
 }
 
@@ -59,18 +56,11 @@ impl<A: Allocator + Copy> Note<A> {
     {
         match self {
             Note::Entered(firing) => fired.enter(*firing),
-            Note::Dead(id) => fired.forget(*id),
             Note::Replaced(out, into) => {
                 make(out, plan, rows)?;
                 make(into, plan, rows)
             }
-            Note::Changed(change) => {
-                make(change, plan, rows)?;
-                if change.is_there {
-                    return Ok(());
-                }
-                fired.forget(change.id.0)
-            }
+            Note::Changed(change) => make(change, plan, rows),
         }
     }
 }

@@ -1,6 +1,8 @@
 //! Bindings, and the rows that they change.
-ghost use Rattle.std.specs.Prelude.{◌≡◌, ◌+◌, [], IfOk, List, OnOk, Some, ℕ, false, vec_len};
-ghost use Rattle.chr_semantics.specs.Subst.{Subst};
+ghost use Rattle.std.specs.Prelude.{◌≡◌, ◌+◌, [], IfOk, List, OnErr, OnOk, Some, ℕ, option_map, vec_len};
+ghost use Rattle.chr_semantics.specs.Match as semantics;
+ghost use Rattle.chr_semantics.specs.State.{resolved_atom};
+ghost use Rattle.chr_store.specs.Numbers.{numbers};
 ghost use Rattle.chr_store.specs.Rows.{row_atom};
 
 use crate::Memory;
@@ -26,17 +28,17 @@ pub(crate) struct Replaced<A: Allocator> {
 
 /// What bindings change in a table.
 #[derive(Drop)]
-pub struct Rebound<A: Allocator = Global> {
+pub(crate) struct Rebound<A: Allocator> {
     /// By ascending identity.
     replaced: Vec<Replaced<A>, A>,
     /// The constraints that have variables still, by ascending identity.
-    pub woken: Vec<Id, A>,
+    woken: Vec<Id, A>,
 }
 
 impl<A: Allocator + Copy> Rebound<A> {
     ghost use Rattle.chr_find.specs.Rebinding.{Adds};
 
-    /// Nothing, where no constraint has variables.
+    /// Nothing.
     fn none(alloc: A) -> Rebound<A>
         ensures replaced { result.replaced.items ≡ [] }
         ensures woken { result.woken.items ≡ [] }
@@ -77,12 +79,12 @@ impl<A: Allocator + Copy> Rebound<A> {
 }
 
 impl<A: Allocator + Copy> Table<A> {
-    ghost use Rattle.chr_find.specs.Rebinding.{Replaces, new_rows, over};
+    ghost use Rattle.chr_find.specs.Rebinding.{Replaces, new_rows, open_ids, over};
     ghost use Rattle.chr_find.specs.Rebound.{IsRebound};
-    ghost use Rattle.chr_find.specs.TableView.{HasRoom, IsForAll, IsWhole, atom_at, atoms_with, fired_at};
+    ghost use Rattle.chr_find.specs.TableView.{HasRoom, HasRows, IsForAll, IsWhole, atom_at, atoms_with, fired_at};
 
-    /// What bindings change where some constraints may have variables.
-    fn rebound_open(&mut self, bindings: &Bindings<A>) -> Result<Rebound<A>, Memory>
+    /// What bindings change: the constraints that have variables, with the bindings applied. Makes the room to note it.
+    fn rebound(&mut self, bindings: &Bindings<A>) -> Result<Rebound<A>, Memory>
         requires { IsWhole self.old }
         ensures same { (i : ℕ) → atom_at self.new i ≡ atom_at self.old i }
         ensures fired { (r : ℕ) (ids : List ℕ) → fired_at self.new r ids ≡ fired_at self.old r ids }
@@ -98,34 +100,6 @@ impl<A: Allocator + Copy> Table<A> {
         }
         self.room(rebound.replaced.len())?;
         Ok(rebound)
-    }
-
-    /// Where none has, they change nothing.
-    fn rebound_none(&mut self) -> Result<Rebound<A>, Memory>
-        requires all { IsForAll self.old }
-        requires ground { self.old.may_open ≡ false }
-        ensures same { (i : ℕ) → atom_at self.new i ≡ atom_at self.old i }
-        ensures fired { (r : ℕ) (ids : List ℕ) → fired_at self.new r ids ≡ fired_at self.old r ids }
-        ensures all { IsForAll self.new }
-        ensures ok { IfOk result (λ rebound. (s : Subst) → IsRebound s self.new rebound) }
-    {
-        self.room(0)?;
-        Ok(Rebound::none(self.alloc))
-    }
-
-    /// What bindings change: the constraints that have variables, with the bindings applied. Makes the room to note it.
-    pub fn rebound(&mut self, bindings: &Bindings<A>) -> Result<Rebound<A>, Memory>
-        requires { IsWhole self.old }
-        ensures same { (i : ℕ) → atom_at self.new i ≡ atom_at self.old i }
-        ensures fired { (r : ℕ) (ids : List ℕ) → fired_at self.new r ids ≡ fired_at self.old r ids }
-        ensures all { IsForAll self.new }
-        ensures ok { IfOk result (IsRebound bindings.now.subst self.new) }
-    {
-        if self.may_open {
-            self.rebound_open(bindings)
-        } else {
-            self.rebound_none()
-        }
     }
 
     /// Notes a row in the place of another.
@@ -155,20 +129,35 @@ impl<A: Allocator + Copy> Table<A> {
         self.noted.note(Note::Replaced(out, into));
     }
 
-    /// Notes what bindings change, as `rebound` answered it.
-    pub fn rebind(&mut self, rebound: Rebound<A>)
+    /// Notes rows in the place of others, for which there is room.
+    fn replace_all(&mut self, mut left: Vec<Replaced<A>, A>)
         requires all { IsForAll self.old }
-        requires room { HasRoom (vec_len rebound.replaced) self.old }
-        requires there { Replaces (atom_at self.old) rebound.replaced.items }
-        ensures atoms { (i : ℕ) → atom_at self.new i
-            ≡ over (new_rows rebound.replaced.items) (atom_at self.old) i }
+        requires room { HasRoom (vec_len left) self.old }
+        requires there { Replaces (atom_at self.old) left.items }
+        ensures atoms { (i : ℕ) → atom_at self.new i ≡ over (new_rows left.items) (atom_at self.old) i }
         ensures fired { (r : ℕ) (ids : List ℕ) → fired_at self.new r ids ≡ fired_at self.old r ids }
-        ensures room { (n : ℕ) → HasRoom (n + vec_len rebound.replaced) self.old → HasRoom n self.new }
-        ensures all { IsForAll self.new }
     {
-        let mut left = rebound.replaced;
         while let Some(replaced) = left.pop() {
             self.replace(replaced);
         }
+    }
+
+    /// Applies bindings to the constraints. It answers which have variables still, by ascending identity. Where memory is refused, contracts
+    /// see the same constraints, to which they can be applied again. A table where none has variables stays as it is, and takes no memory.
+    pub fn rebind(&mut self, bindings: &Bindings<A>) -> Result<Vec<Id, A>, Memory>
+        ensures atoms { OnOk result ((i : ℕ) → atom_at self.new i
+            ≡ option_map (resolved_atom bindings.now.subst) (atom_at self.old i)) }
+        ensures woken { IfOk result (λ ids. (rows : List semantics.Row) → HasRows self.old rows →
+            numbers ids.items ≡ open_ids bindings.now.subst rows) }
+        ensures fired { (r : ℕ) (ids : List ℕ) → fired_at self.new r ids ≡ fired_at self.old r ids }
+        ensures err { OnErr result ((i : ℕ) → atom_at self.new i ≡ atom_at self.old i) }
+    {
+        if !self.may_open {
+            return Ok(Vec::new(self.alloc));
+        }
+        self.settle_all()?;
+        let Rebound { replaced, woken } = self.rebound(bindings)?;
+        self.replace_all(replaced);
+        Ok(woken)
     }
 }

@@ -1,6 +1,6 @@
 //! Tables: the living constraints and what has fired with them, to be searched.
 ghost use Rattle.std.specs.Prelude.{◌≡◌, ◌+◌, ◌≤◌, ◌&&◌, ◌||◌, ◌==◌, IfOk, List, None, OnOk, Some, ℕ, false, length, not, option_map, true};
-ghost use Rattle.chr_semantics.specs.Search.{has_number, same_ids};
+ghost use Rattle.chr_semantics.specs.Search.{same_ids};
 ghost use Rattle.chr_semantics.specs.Tree.{is_ground_trees};
 ghost use Rattle.chr_store.specs.Rows.{row_atom};
 ghost use Rattle.chr_find.specs.AtomCode.{atoms};
@@ -26,8 +26,8 @@ use chr_term::are_ground;
 use std::alloc::{Allocator, Global};
 use std::mem;
 
-/// The living constraints with their resolved arguments, by symbol and by what they have at their positions, and the firings whose
-/// constraints all live. A change takes two calls: one makes room, which may be refused, and the other notes it, which takes no memory.
+/// The living constraints with their resolved arguments, by symbol and by what they have at their positions, and what has fired: a search
+/// looks up firings of living constraints alone, so those of dead ones may stay. A change takes two calls: one makes room, which may be refused, and the other notes it, which takes no memory.
 /// Before the next search `settle` makes what was noted. Contracts see the constraint of each identity and the firings, as when all is made.
 ///
 /// The constraint that was added last stands beside the lists until another is added, or searched for: it is no partner of itself, and
@@ -127,19 +127,17 @@ impl<A: Allocator + Copy> Table<A> {
         self.newest = Some(Standing { id, row });
     }
 
-    /// Notes that a constraint lives no more, and forgets its firings. Its row is the one that stands there.
+    /// Notes that a constraint lives no more. Its row is the one that stands there.
     pub fn remove(&mut self, id: Id, row: Pointer<Row<A>, A>)
         requires room { HasRoom 1 self.old }
         requires there { atom_at self.old id.0 ≡ Some (row_atom row) }
         ensures atoms { (i : ℕ) → atom_at self.new i ≡ atoms_with (atom_at self.old) id.0 None i }
-        ensures fired { (r : ℕ) (ids : List ℕ) → fired_at self.new r ids
-            ≡ (fired_at self.old r ids && not (has_number ids id.0)) }
+        ensures fired { (r : ℕ) (ids : List ℕ) → fired_at self.new r ids ≡ fired_at self.old r ids }
         ensures room { (n : ℕ) → HasRoom (n + 1) self.old → HasRoom n self.new }
     {
         self.keyed.leave(id, row.value());
         if is_newest(&self.newest, id) {
             self.newest = None;
-            self.noted.note(Note::Dead(id.0));
         } else {
             self.noted.note(Note::Changed(Change {
                 id,

@@ -106,19 +106,16 @@ fn bind<A: Allocator + Copy>(
     Ok(false)
 }
 
-/// Notes what the bindings change. The identities of the constraints that have variables still.
+/// Applies the bindings. The identities of the constraints that have variables still.
 fn rebind<A: Allocator + Copy>(
     alloc: A,
     table: &mut Table<A>,
     bindings: &Bindings<A>,
 ) -> Result<Vec<u64, A>, Memory> {
-    table.settle_all()?;
-    let rebound = table.rebound(bindings)?;
     let mut woken = Vec::new(alloc);
-    for id in &rebound.woken {
+    for id in &table.rebind(bindings)? {
         woken.push(id.0)?;
     }
-    table.rebind(rebound);
     Ok(woken)
 }
 
@@ -238,9 +235,9 @@ fn history_goes_on(rt: HostRuntime) -> Result<(), Fail> {
     )
 }
 
-/// The firings of a constraint are forgotten when it is removed, and no others.
+/// What has fired with others does not fire again when one that fired with them is removed, and one like it fires under its own identity.
 #[test]
-fn removed_with_its_firings(rt: HostRuntime) -> Result<(), Fail> {
+fn removed_after_firings(rt: HostRuntime) -> Result<(), Fail> {
     assert_steps(
         &rt,
         rt.alloc(),
@@ -250,14 +247,14 @@ fn removed_with_its_firings(rt: HostRuntime) -> Result<(), Fail> {
             Step::Fires(&[3, 2]),
             Step::Removes(2),
             Step::Finds(3, 1, &[]),
-            Step::AddsLike(1, 2),
-            Step::Finds(3, 1, &[3, 2]),
+            Step::AddsLike(1, 4),
+            Step::Finds(3, 1, &[3, 4]),
             Step::Finds(1, 1, &[]),
         ],
     )
 }
 
-/// The constraint that was added last finds the others, and they find it. One that is removed at once is found by none, and leaves no firing.
+/// The constraint that was added last finds the others, and they find it. One that is removed at once is found by none.
 #[test]
 fn newest_constraint(rt: HostRuntime) -> Result<(), Fail> {
     assert_steps(
@@ -275,14 +272,14 @@ fn newest_constraint(rt: HostRuntime) -> Result<(), Fail> {
             Step::Removes(4),
             Step::Finds(4, 1, &[]),
             Step::Finds(2, 1, &[2, 3]),
-            Step::AddsLike(3, 4),
-            Step::Finds(4, 1, &[2, 4]),
-            Step::AddsLike(4, 5),
-            Step::Removes(4),
+            Step::AddsLike(3, 5),
             Step::Finds(5, 1, &[2, 5]),
-            Step::Shares,
+            Step::AddsLike(5, 6),
             Step::Removes(5),
-            Step::Differs(&[5]),
+            Step::Finds(6, 1, &[2, 6]),
+            Step::Shares,
+            Step::Removes(6),
+            Step::Differs(&[6]),
         ],
     )
 }

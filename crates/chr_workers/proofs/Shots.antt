@@ -22,11 +22,9 @@ use Rattle.std.specs.declared.cmp.PartialEq as eq
 use Rattle.std.specs.declared.cmp.PartialOrd as partial
 use Rattle.chr_find.specs.contracts.fired.Fired as Fired
 use Rattle.chr_find.specs.contracts.firings.Firing as Firing
-use Rattle.chr_find.specs.contracts.firings.Entry as Entry
 use Rattle.chr_find.specs.contracts.list.Place as Place
 use Rattle.chr_find.specs.contracts.note.Note as Note
 use Rattle.chr_find.proofs.firings.Firing.TheSendSync as firing_laws
-use Rattle.chr_find.proofs.firings.Entry.TheSendSync as entry_laws
 use Rattle.chr_find.proofs.list.Place.TheSendSync as place_laws
 use Rattle.chr_keys.specs.contracts.key_lists.KeyLists as KeyLists
 use Rattle.chr_keys.specs.contracts.noted_keys.NotedKeys as NotedKeys
@@ -122,8 +120,7 @@ module _ (A : RattleType) (g : Ghosts A.Denot) (s : IsSend A) (y : IsSync A) (f 
   pub fired : IsSync (Fired.the_field A g).row
   fired =
       let all = map_field Firing.the_row denote.Builtin.unit firing_laws.the_send firing_laws.the_sync (search sendable) (search sendable) in
-      let by_id = map_field Entry.the_row denote.Builtin.unit entry_laws.the_send entry_laws.the_sync (search sendable) (search sendable) in
-      struct_sync (struct.shape (Fired.the_type A g)) (search (all, by_id, sendable) depth 20)
+      struct_sync (struct.shape (Fired.the_type A g)) (search (all, sendable) depth 20)
 
   pub note : IsSync (Note.the_field A g).row
   note = let c = change in enum_sync (enum.shape (Note.the_type A g)) (search (c, firing_laws.the_field_sync, sendable) depth 20)
@@ -198,8 +195,7 @@ module _ (A : RattleType) (g : Ghosts A.Denot) (s : IsSend A) (y : IsSync A) (f 
   pub fired_send : IsSend (Fired.the_field A g).row
   fired_send =
       let all = map_field_send Firing.the_row denote.Builtin.unit firing_laws.the_send firing_laws.the_sync (search sendable) (search sendable) in
-      let by_id = map_field_send Entry.the_row denote.Builtin.unit entry_laws.the_send entry_laws.the_sync (search sendable) (search sendable) in
-      struct_send (struct.shape (Fired.the_type A g)) (search (all, by_id, sendable) depth 20)
+      struct_send (struct.shape (Fired.the_type A g)) (search (all, sendable) depth 20)
 
   pub note_send : IsSend (Note.the_field A g).row
   note_send = let c = change_send in enum_send (enum.shape (Note.the_type A g)) (search (c, firing_laws.the_field_send, sendable) depth 20)

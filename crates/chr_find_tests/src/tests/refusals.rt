@@ -203,22 +203,6 @@ fn is_made<A: Allocator + Copy>(
     Ok(!is_refused)
 }
 
-/// Whether `settle_all` meets no refusal with so many growths, where it forgets the firing of a constraint that is removed. Were the constraint
-/// there again, it would fire again.
-fn is_forgotten<A: Allocator + Copy>(
-    rt: &impl Abort,
-    meter: &Meter,
-    trial: &mut Trial<A>,
-    left: u64,
-) -> Result<bool, Memory> {
-    trial.take(rt, Step::Shares)?;
-    trial.take(rt, Change::Remove.step())?;
-    let is_refused = is_refused(rt, meter, &mut trial.table, left);
-    trial.take(rt, Step::AddsFrom(3, 3))?;
-    trial.assert_found(rt, (1, 1), &[1, 3])?;
-    Ok(!is_refused)
-}
-
 /// Whether `share` goes through with so many growths. The other table is the shared one, in the end.
 fn is_other<A: Allocator + Copy>(
     rt: &impl Abort,
@@ -257,26 +241,24 @@ fn is_shared<A: Allocator + Copy>(
     Ok(is_done)
 }
 
-/// Whether `rebound` goes through with so many growths. What it answers is noted, with no memory.
-fn is_noted<A: Allocator + Copy>(
+/// Whether `rebind` goes through with so many growths.
+fn is_bound<A: Allocator + Copy>(
     rt: &impl Abort,
     meter: &Meter,
     trial: &mut Trial<A>,
     left: u64,
 ) -> Result<bool, Memory> {
-    trial.table.settle_all()?;
     meter.allow(left);
-    let is_done = match trial.table.rebound(&trial.bindings) {
-        Ok(rebound) => {
-            assert!(rt; rebound.woken.as_slice() == [Id(5)].as_slice());
-            trial.table.rebind(rebound);
-            true
-        }
-        Err(_) => false,
-    };
-    assert_eq!(rt; meter.asked() > left, !is_done, "{left}");
+    let answer = trial.table.rebind(&trial.bindings);
+    assert_eq!(rt; meter.asked() > left, answer.is_err(), "{left}");
     meter.allow(AMPLE);
-    Ok(is_done)
+    match answer {
+        Ok(woken) => {
+            assert!(rt; woken.as_slice() == [Id(5)].as_slice());
+            Ok(true)
+        }
+        Err(_) => Ok(false),
+    }
 }
 
 /// The same. A refused one leaves the table as it was, and can be called again.
@@ -286,7 +268,7 @@ fn is_rebound<A: Allocator + Copy>(
     trial: &mut Trial<A>,
     left: u64,
 ) -> Result<bool, Memory> {
-    let is_done = is_noted(rt, meter, trial, left)?;
+    let is_done = is_bound(rt, meter, trial, left)?;
     assert_after(rt, trial, is_done.then_some(Change::Rebind))?;
     trial.take(rt, Step::Rebinds)?;
     assert_after(rt, trial, Some(Change::Rebind))?;
@@ -300,8 +282,6 @@ enum Call {
     Rooms,
     /// After a change.
     Settles(Change),
-    /// After a removal, where a firing is forgotten.
-    Forgets,
     Shares,
     Rebounds,
 }
@@ -320,7 +300,6 @@ impl Call {
             Call::Plans => is_planned(rt, meter, trial, left),
             Call::Rooms => is_there_room(rt, meter, trial, left),
             Call::Settles(change) => is_made(rt, meter, trial, change, left),
-            Call::Forgets => is_forgotten(rt, meter, trial, left),
             Call::Shares => is_shared(rt, meter, trial, left),
             Call::Rebounds => is_rebound(rt, meter, trial, left),
         }
@@ -386,20 +365,14 @@ fn settle_refused(rt: HostRuntime) -> Result<(), Fail> {
     Ok(())
 }
 
-/// All firings of a removed constraint are forgotten in the end, wherever `settle_all` was refused before.
-#[test]
-fn forgetting_refused(rt: HostRuntime) -> Result<(), Fail> {
-    assert_refused(&rt, rt.alloc(), Call::Forgets, 1)
-}
-
 /// A shared table is refused or whole. It need not ask for any growth.
 #[test]
 fn share_refused(rt: HostRuntime) -> Result<(), Fail> {
     assert_refused(&rt, rt.alloc(), Call::Shares, 0)
 }
 
-/// A refused `rebound` leaves the table as it was, and can be called again.
+/// A refused `rebind` leaves the table as it was, and can be called again.
 #[test]
-fn rebound_refused(rt: HostRuntime) -> Result<(), Fail> {
+fn rebind_refused(rt: HostRuntime) -> Result<(), Fail> {
     assert_refused(&rt, rt.alloc(), Call::Rebounds, 1)
 }

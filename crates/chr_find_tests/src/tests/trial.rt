@@ -97,7 +97,7 @@ impl<A: Allocator + Copy> Trial<A> {
 
     /// Which rows differ.
     fn assert_differs(&mut self, rt: &impl Abort, wanted: &[u64]) -> Result<(), Memory> {
-        for id in 0..6u64 {
+        for id in 0..8u64 {
             let is_same = same_row(&mut self.table, &mut self.other, id)?;
             assert!(rt; is_same != wanted.contains(&id), "{id}");
         }

@@ -1,6 +1,5 @@
-use Rattle.std.proofs.Common.{◌≡◌, ◌∙◌, ap, ℕ}
+use Rattle.std.proofs.Common.{◌≡◌, ◌∙◌, ℕ}
 use Rattle.chr_semantics.specs.Search.{atom_of}
-use Rattle.chr_store.specs.Numbers.{numbers}
 use Rattle.chr_store.specs.StoreView.{store_view}
 use Rattle.chr_find.specs.TableView.{atom_at, fired_at}
 use Rattle.chr_base.specs.Agreement.{under}
@@ -9,30 +8,18 @@ use Rattle.chr_base.proofs.Seen.{rises_seen, seen, seen_atoms, woken_seen}
 use Rattle.chr_base.proofs.base.Base.refresh.Goals as goal
 
 pub invariant_of-self : goal.invariant_of-self
-invariant_of-self g c = record { agrees = agrees_same _ _ _ _ _ _ c.args.self.now.agrees (atom_at c.settle_all.new.self) (fired_at c.settle_all.new.self) c.settle_all.ensures.same c.settle_all.ensures.fired }
-
-pub invariant_of-self-in-Break-branch-2 : goal.invariant_of-self-in-Break-branch-2
-invariant_of-self-in-Break-branch-2 g c = record {
-  agrees = agrees_same _ _ _ _ _ _ c.args.self.now.agrees (atom_at c.rebound.new.self) (fired_at c.rebound.new.self) (λ i. c.rebound.ensures.same i ∙ c.settle_all.ensures.same i)
-      (λ r ids. c.rebound.ensures.fired r ids ∙ c.settle_all.ensures.fired r ids);
-}
+invariant_of-self g c = record { agrees = agrees_same _ _ _ _ _ _ c.args.self.now.agrees (atom_at c.rebind.new.self) (fired_at c.rebind.new.self) c.in_err-woken.ensures.err c.rebind.ensures.fired }
 
 pub invariant_of-self-2 : goal.invariant_of-self-2
 invariant_of-self-2 g c =
     let b = c.args.self.now in
-    record {
-      agrees = agrees_fresh _ _ _ _ _ _ b.agrees (atom_at c.settle.new.self) (fired_at c.settle.new.self)
-          (λ i. c.settle.ensures.same i ∙ (c.rebind.ensures.atoms i ∙ (c.in_ok-rebound.ensures.ok.atoms i ∙ ap (under b.bindings.subst) (c.rebound.ensures.same i ∙ c.settle_all.ensures.same i))))
-          (λ r ids. c.settle.ensures.fired r ids ∙ (c.rebind.ensures.fired r ids ∙ (c.rebound.ensures.fired r ids ∙ c.settle_all.ensures.fired r ids)));
-    }
+    record { agrees = agrees_fresh _ _ _ _ _ _ b.agrees (atom_at c.settle.new.self) (fired_at c.settle.new.self) (λ i. c.settle.ensures.same i ∙ c.in_ok-woken.ensures.atoms i) (λ r ids. c.settle.ensures.fired r ids ∙ c.rebind.ensures.fired r ids) }
 
 pub returns-clause-woken : goal.returns-clause-woken
 returns-clause-woken g c =
     let b = c.args.self.now in
     let s = b.bindings.subst in
     let m = store_view b.store in
-    let at = atom_at c.rebound.new.self in
-    let shown : (i : ℕ) → under s (at i) ≡ under s (atom_of m.rows i) = λ i. ap (under s) (c.rebound.ensures.same i ∙ c.settle_all.ensures.same i) ∙ b.agrees.shown i in
-    ap (λ v. numbers v.items) c.replace-woken.ensures.value
-    ∙ (c.in_ok-rebound.ensures.ok.woken (seen at m.rows) (record { rises = rises_seen at m.rows b.agrees.rises; same = seen_atoms s at m.rows shown })
-    ∙ woken_seen s at m b.agrees.rises shown)
+    let at = atom_at b.table in
+    let shown : (i : ℕ) → under s (at i) ≡ under s (atom_of m.rows i) = b.agrees.shown in
+    c.in_ok-woken.ensures.woken (seen at m.rows) (record { rises = rises_seen at m.rows b.agrees.rises; same = seen_atoms s at m.rows shown }) ∙ woken_seen s at m b.agrees.rises shown

@@ -16,5 +16,5 @@ invariant_of-self g c =
     let there = standing_there b.bindings.subst (atom_at b.table id) (atom_of (store_view b.store).rows id) (row_atom c.args.leaving.row) (b.agrees.shown id) c.requires.there in
     record {
       agrees = subst (λ (m : Store). Agrees m (entries_view b.history) b.bindings.subst (atom_at c.remove-2.new.self) (fired_at c.remove-2.new.self) b.is_stale) (sym c.remove.ensures.store)
-          (agrees_removed _ _ _ _ _ _ b.agrees id there.0 there.1 (atom_at c.remove-2.new.self) (fired_at c.remove-2.new.self) c.remove-2.ensures.atoms c.remove-2.ensures.fired);
+          (agrees_removed _ _ _ _ _ _ b.agrees id there.0 there.1 (atom_at c.remove-2.new.self) (fired_at c.remove-2.new.self) c.remove-2.ensures.atoms (λ r ids live. c.remove-2.ensures.fired r ids));
     }

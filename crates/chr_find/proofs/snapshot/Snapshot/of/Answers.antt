@@ -1,4 +1,5 @@
 use Rattle.std.proofs.Common.{◌∙◌, sym}
+use Rattle.chr_find.proofs.NotDead.{not_dead_alike}
 use Rattle.chr_find.proofs.snapshot.Snapshot.of.Goals as goal
 
 pub invariant_of-result : goal.invariant_of-result
@@ -7,7 +8,7 @@ invariant_of-result g c = record { whole = c.in_ok-table.ensures.whole; keyed = 
 pub returns : goal.returns
 returns g c = λ q is. record {
   rows = record { rises = is.rows.rises; same = λ i. is.rows.same i ∙ sym (c.in_ok-table.ensures.atoms i) };
-  history = λ r ids short. is.history r ids short ∙ sym (c.in_ok-table.ensures.fired r ids);
+  history = λ r ids short alive. is.history r ids short (not_dead_alike c.args.table.now c.args.next.0 c.in_ok-table.table c.in_ok-table.ensures.atoms ids alive) ∙ sym (c.in_ok-table.ensures.fired r ids);
   next = is.next;
   tasks = is.tasks;
   guest = is.guest;

@@ -11,12 +11,29 @@ use Rattle.chr_store.specs.Rows.{row_atom}
 use Rattle.chr_store.specs.declared.row.Row.{Row}
 use Rattle.chr_find.specs.SearchedView.{IsSearched}
 use Rattle.chr_find.specs.TableView.{HasRows, atom_at}
-use Rattle.chr_find.proofs.SnapshotGuest.{looked_guest, rises_guest, seen_guest}
+use Rattle.chr_find.proofs.NotDead.{guest_not_dead, live_not_dead}
+use Rattle.chr_find.proofs.SnapshotGuest.{looked_guest, rises_guest, seen_guest, seen_other}
 use Rattle.chr_find.proofs.snapshot.Snapshot.search.Goals as goal
 
 was_true : (b : Bool) → false ≡ not b → b ≡ true
 was_true true e = refl
 was_true false e = cc
+
+was_false : (b : Bool) → true ≡ not b → b ≡ false
+was_false true e = cc
+was_false false e = refl
+
+pub returns-then-ne : goal.returns-then-ne
+returns-then-ne g c =
+    let s = c.args.self.now in
+    let p = rules_of c.args.program.now in
+    let i = c.args.task.goal.0 in
+    let j = c.args.task.occurrence in
+    if_more _ _ c.search.result c.search.ensures
+    (λ found f q is.
+    let other : (i == q.next_id) ≡ false = ap (λ (n : ℕ). i == n) is.next ∙ was_false _ c.if-ne.ensures in
+    subst (λ (l : List semantics.Row). IsSearched (first p l q.history i j) (tries_bounds p l q.history i j) found) (sym (seen_other q i other))
+    (f q.rows is.rows q.history (λ r ids short live. is.history r ids short (live_not_dead s.table s.next.0 ids live))))
 
 pub search-requires-clause-own : goal.search-requires-clause-own
 search-requires-clause-own g c = c.args.self.now.whole.all c.args.task.goal.0
@@ -51,6 +68,12 @@ returns g c =
     ∙ (ap (λ (r : Row g.row.A.Denot). cond (k == i) (Some (row_atom r)) (atom_at c.room.new.self k)) (sym c.in_ok-share.ensures)
     ∙ sym (c.in_ok-settle_for.ensures.same k ∙ c.add.ensures.atoms k))))
     in
+    let guest_rows : (k : ℕ) → atom_at t k ≡ cond (k == i) (Some a) (atom_at s.table k) =
+    λ k. c.in_ok-settle_for.ensures.same k
+    ∙ (c.add.ensures.atoms k
+    ∙ (ap (λ (r : Row g.row.A.Denot). cond (k == i) (Some (row_atom r)) (atom_at c.room.new.self k)) c.in_ok-share.ensures
+    ∙ ap (λ (o : Option Atom). cond (k == i) (Some a) o) (c.in_ok-room.ensures.same k ∙ c.in_ok-table.ensures.atoms k)))
+    in
     let has : HasRows t rows = record { rises = rises_guest q.next_id a q.rows is.rows.rises free; same = same } in
     subst (λ (l : List semantics.Row). IsSearched (first p l q.history i j) (tries_bounds p l q.history i j) found) (sym (seen_guest q i a here has_guest))
-    (f rows has q.history (λ r ids short live. is.history r ids short ∙ sym (c.in_ok-settle_for.ensures.fired r ids ∙ (c.add.ensures.fired r ids ∙ (c.in_ok-room.ensures.fired r ids ∙ c.in_ok-table.ensures.fired r ids))))))
+    (f rows has q.history (λ r ids short live. is.history r ids short (guest_not_dead s.table s.next.0 t i a at guest_rows ids live) ∙ sym (c.in_ok-settle_for.ensures.fired r ids ∙ (c.add.ensures.fired r ids ∙ (c.in_ok-room.ensures.fired r ids ∙ c.in_ok-table.ensures.fired r ids))))))

@@ -1,41 +1,30 @@
-use Rattle.std.proofs.Common.{◌∙◌, ◌+◌, ◌≤◌, arith, length}
-use Rattle.chr_find.specs.TableView.{HasRoom, atom_at}
-use Rattle.std.specs.Prelude.{vec_len}
-use Rattle.chr_find.proofs.KeyedTables.{room_within}
-use Rattle.chr_find.proofs.Rebinds.{last_there, next_on, none_left, one_less}
+use Rattle.std.proofs.Common.{◌∙◌, ap, sym}
+use Rattle.std.specs.Prelude.{option_map}
+use Rattle.chr_semantics.specs.Search.{atom_of}
+use Rattle.chr_semantics.specs.State.{resolved_atom}
+use Rattle.chr_store.specs.Numbers.{numbers}
+use Rattle.chr_find.specs.TableView.{atom_at}
+use Rattle.chr_find.proofs.GroundRows.{ground_alike, ground_none_open, ground_stays}
 use Rattle.chr_find.proofs.table.Table.rebind.Goals as goal
 
-pub replace-requires-clause-there : goal.replace-requires-clause-there
-replace-requires-clause-there g c = last_there (atom_at c.args.self.now) (atom_at c.loop-replaced.self) c.loop-replaced.left.items c.args.rebound.replaced.items c.pop.new.self.items c.in-Some.replaced c.loop-replaced.invariant.0 c.in-Some.ensures.items
+pub returns-then-not-self-clause-atoms : goal.returns-then-not-self-clause-atoms
+returns-then-not-self-clause-atoms g c = let t = c.args.self.now in ground_stays c.args.bindings.now.subst (atom_at t) (t.ground c.if-not-self.true)
 
-pub loop-replaced-preserved : goal.loop-replaced-preserved
-loop-replaced-preserved g c =
-    let rs = c.pop.new.self.items in
-    let less = one_less c.loop-replaced.left.items rs c.in-Some.replaced c.in-Some.ensures.items in (
-      next_on (atom_at c.args.self.now) (atom_at c.loop-replaced.self) c.loop-replaced.left.items c.args.rebound.replaced.items rs c.in-Some.replaced c.loop-replaced.invariant.0 c.in-Some.ensures.items (atom_at c.replace.new.self) c.replace.ensures.atoms,
-      (
-        (λ r ids. c.replace.ensures.fired r ids ∙ c.loop-replaced.invariant.1.0 r ids),
-        (
-          (λ n h.
-              let room : HasRoom (n + length rs + 1) c.loop-replaced.self = room_within (n + length rs + 1) (n + length c.loop-replaced.left.items) c.loop-replaced.self (omega (arith, less)) (c.loop-replaced.invariant.1.1.0 n h) in
-              c.replace.ensures.room (n + length rs) room),
-          c.replace.ensures.all,
-        ),
-      ),
-    )
+pub returns-then-not-self-clause-woken : goal.returns-then-not-self-clause-woken
+returns-then-not-self-clause-woken g c rows has =
+    let t = c.args.self.now in
+    ap numbers c.new.ensures.items ∙ sym (ground_none_open c.args.bindings.now.subst rows has.rises (ground_alike (atom_at t) (atom_of rows) has.same (t.ground c.if-not-self.true)))
+
+pub returns-in_err-replaced-clause-fired : goal.returns-in_err-replaced-clause-fired
+returns-in_err-replaced-clause-fired g c r ids = c.rebound.ensures.fired r ids ∙ c.settle_all.ensures.fired r ids
+
+pub returns-clause-fired : goal.returns-clause-fired
+returns-clause-fired g c r ids = c.replace_all.ensures.fired r ids ∙ (c.rebound.ensures.fired r ids ∙ c.settle_all.ensures.fired r ids)
 
 pub returns-clause-atoms : goal.returns-clause-atoms
-returns-clause-atoms g c = none_left (atom_at c.args.self.now) (atom_at c.loop-replaced.self) c.loop-replaced.left.items c.args.rebound.replaced.items c.loop-replaced.invariant.0 (omega (arith, c.in_default.ensures.cases.0))
+returns-clause-atoms g c i =
+    c.replace_all.ensures.atoms i
+    ∙ (c.in_ok-replaced.ensures.ok.atoms i ∙ ap (option_map (resolved_atom c.args.bindings.now.subst)) (c.rebound.ensures.same i ∙ c.settle_all.ensures.same i))
 
-pub replace-requires-clause-room : goal.replace-requires-clause-room
-replace-requires-clause-room g c =
-    let less = one_less c.loop-replaced.left.items c.pop.new.self.items c.in-Some.replaced c.in-Some.ensures.items in
-    let counted : 0 + length c.args.rebound.replaced.items ≤ vec_len c.args.rebound.replaced = omega (arith, c.args.rebound.replaced.ok.0) in
-    let all : HasRoom (0 + length c.args.rebound.replaced.items) c.args.self.now = room_within (0 + length c.args.rebound.replaced.items) (vec_len c.args.rebound.replaced) c.args.self.now counted c.requires.room in
-    room_within 1 (0 + length c.loop-replaced.left.items) c.loop-replaced.self (omega (arith, less)) (c.loop-replaced.invariant.1.1.0 0 all)
-
-pub returns-clause-room : goal.returns-clause-room
-returns-clause-room g c n h =
-    let counted : n + length c.args.rebound.replaced.items ≤ n + vec_len c.args.rebound.replaced = omega (arith, c.args.rebound.replaced.ok.0) in
-    let all : HasRoom (n + length c.args.rebound.replaced.items) c.args.self.now = room_within (n + length c.args.rebound.replaced.items) (n + vec_len c.args.rebound.replaced) c.args.self.now counted h in
-    room_within n (n + length c.loop-replaced.left.items) c.loop-replaced.self (omega arith) (c.loop-replaced.invariant.1.1.0 n all)
+pub returns-clause-woken : goal.returns-clause-woken
+returns-clause-woken g c rows has = c.in_ok-replaced.ensures.ok.woken rows (record { rises = has.rises; same = λ i. has.same i ∙ sym (c.rebound.ensures.same i ∙ c.settle_all.ensures.same i) })
