@@ -1,4 +1,4 @@
--- Matching, as the slots have it.
+-- Matching, as the code has it.
 use Rattle.std.proofs.Common.{◌≡◌, ◌≢◌, ◌↔◌, ℕ, zero, suc, ◌+◌, ◌<◌, ◌≤◌, Bool, true, false, cond, ◌==◌, IsTrue, MatchBool, Option, Some, None, List, [], ◌∷◌, length, slice_get, set, replicate, drop, get_or, option_and_then, ap, refl, ◌∙◌, sym, inl, inr, arith}
 use Rattle.std.proofs.lemmas.Bool.Decides.{Decides-eqb, eqb_tells}
 use Rattle.std.proofs.lemmas.List.{drop_all}
@@ -11,38 +11,27 @@ use Rattle.chr_semantics.proofs.SameLaw.{same_law}
 use Rattle.chr_term.specs.TermView.{view, trees_view}
 use Rattle.chr_term.specs.declared.term.Term.{Term}
 use Rattle.chr_term.proofs.Dropped.{trees_view-drop}
-use Rattle.chr_bind.specs.Matching.{Agrees, Slots, slot_tree}
-use Rattle.chr_bind.proofs.Changed.{slice_get-set_other, slice_get-set_same}
+use Rattle.chr_bind.specs.Matching.{AgreesWith, matched_tree}
+use Rattle.chr_bind.specs.declared.matching.Match.{Match}
 
-fit_known : {A : Type 0} (slots : Slots A) (m : Subst) (t u : Tree) (b c : Bool) → Agrees slots m → same u t ≡ c → (IsTrue b ↔ (u ≡ t)) → MatchBool b ((n : Subst) × (cond c (Some m) None ≡ Some n) × Agrees slots n) (cond c (Some m) None ≡ None)
-fit_known slots m t u true true h e d = (m, refl, h)
-fit_known slots m t u true false h e d = let is : same u t ≡ true = (same_law.terms u t).1 (d.0 refl) in cc
-fit_known slots m t u false true h e d = let no : IsTrue false = d.1 ((same_law.terms u t).0 e) in cc
-fit_known slots m t u false false h e d = refl
+fit_known : {A : Type 0} (h : Match A) (m : Subst) (t u : Tree) (b c : Bool) → AgreesWith h m → same u t ≡ c → (IsTrue b ↔ (u ≡ t)) → MatchBool b ((n : Subst) × (cond c (Some m) None ≡ Some n) × AgreesWith h n) (cond c (Some m) None ≡ None)
+fit_known h m t u true true a e d = (m, refl, a)
+fit_known h m t u true false a e d = let is : same u t ≡ true = (same_law.terms u t).1 (d.0 refl) in cc
+fit_known h m t u false true a e d = let no : IsTrue false = d.1 ((same_law.terms u t).0 e) in cc
+fit_known h m t u false false a e d = refl
 
 -- a variable that is matched is compared
-pub fit_matched : {A : Type 0} (slots : Slots A) (m : Subst) (x : ℕ) (t u : Tree) (b : Bool) → Agrees slots m → slot_tree (slice_get slots x) ≡ Some u → (IsTrue b ↔ (u ≡ t))
-    → MatchBool b ((n : Subst) × (fit_var m x t (match_at m x) ≡ Some n) × Agrees slots n) (fit_var m x t (match_at m x) ≡ None)
-fit_matched slots m x t u b h e d =
-    let is : match_at m x ≡ Some u = sym (h x) ∙ e in
-    rw is (fit_known slots m t u b (same u t) h refl d)
+pub fit_matched : {A : Type 0} (h : Match A) (m : Subst) (x : ℕ) (t u : Tree) (b : Bool) → AgreesWith h m → matched_tree h x ≡ Some u → (IsTrue b ↔ (u ≡ t))
+    → MatchBool b ((n : Subst) × (fit_var m x t (match_at m x) ≡ Some n) × AgreesWith h n) (fit_var m x t (match_at m x) ≡ None)
+fit_matched h m x t u b a e d =
+    let is : match_at m x ≡ Some u = sym (a x) ∙ e in
+    rw is (fit_known h m t u b (same u t) a refl d)
 
 -- one that is not is matched
-pub fit_new : {A : Type 0} (slots : Slots A) (m : Subst) (x : ℕ) (t : Bor (Term A)) → Agrees slots m → x < length slots → slot_tree (slice_get slots x) ≡ None
-    → (n : Subst) × (fit_var m x (view t.now) (match_at m x) ≡ Some n) × Agrees (set slots x (Some t)) n
-fit_new slots m x t h within e =
-    let is : match_at m x ≡ None = sym (h x) ∙ e in (
-      (x, view t.now) ∷ m,
-      rw is refl,
-      (λ y. elim (eqb_tells y x) [
-        | inl p ↦
-            let same_var : (x == y) ≡ true = grind (arith, Decides-eqb x y, p.1) in
-            ap slot_tree (ap (slice_get (set slots x (Some t))) p.1 ∙ slice_get-set_same slots x (Some t) within) ∙ sym (ap (λ (b : Bool). cond b (Some (view t.now)) (match_at m y)) same_var)
-        | inr p ↦
-            let other : (x == y) ≡ false = grind (arith, Decides-eqb x y, p.1) in
-            ap slot_tree (slice_get-set_other slots x y (Some t) p.1) ∙ h y ∙ sym (ap (λ (b : Bool). cond b (Some (view t.now)) (match_at m y)) other)
-      ]),
-    )
+pub fit_new : {A : Type 0} (old new : Match A) (m : Subst) (x : ℕ) (t : Tree) → AgreesWith old m → matched_tree old x ≡ None → AgreesWith new ((x, t) ∷ m) → (n : Subst) × (fit_var m x t (match_at m x) ≡ Some n) × AgreesWith new n
+fit_new old new m x t a e next =
+    let is : match_at m x ≡ None = sym (a x) ∙ e in
+    ((x, t) ∷ m, rw is refl, next)
 
 -- lists of different lengths do not fit
 pub fit_all-lengths : {A B : Type 0} (ps : List (Term A)) (ts : List (Term B)) (m : Subst) → length ps ≢ length ts → fit_all (trees_view ps) (trees_view ts) m ≡ None
@@ -65,12 +54,3 @@ fit_nodes p t f g ps ts m ep et e = rw (ep, et, (Decides-eqb f g).1 e) refl
 
 pub fit_end : {A B : Type 0} (ps : List (Term A)) (ts : List (Term B)) (i : ℕ) (n : Subst) → length ps ≤ i → length ps ≡ length ts → fit_all (trees_view (drop i ps)) (trees_view (drop i ts)) n ≡ Some n
 fit_end ps ts i n h e = rw (drop_all i ps h, drop_all i ts (omega (arith, h, e))) refl
-
-empty_get : (A : Type 0) (n x : ℕ) → slot_tree {A = A} (slice_get (replicate n None) x) ≡ None
-empty_get A zero x = refl
-empty_get A (suc n) zero = refl
-empty_get A (suc n) (suc x) = empty_get A n x
-
--- nothing is matched in slots that are all empty
-pub empty_slots : (A : Type 0) (x : ℕ) → slot_tree {A = A} (slice_get (replicate MAX_RULE_VARIABLES None) x) ≡ None
-empty_slots A x = empty_get A MAX_RULE_VARIABLES x

@@ -1,5 +1,5 @@
 -- Patterns under a match.
-use Rattle.std.proofs.Common.{◌≡◌, ◌↔◌, ℕ, ℤ, Bool, IsTrue, true, false, not, cond, ◌==◌, Option, Some, None, is_some, is_none, option_map, [], ◌∷◌, slice_get, ap, refl, sym, ◌∙◌}
+use Rattle.std.proofs.Common.{◌≡◌, ◌↔◌, ℕ, ℤ, Bool, IsTrue, true, false, not, cond, ◌==◌, Option, Some, None, is_some, is_none, option_map, [], ◌∷◌, ap, refl, sym, ◌∙◌}
 use Rattle.std.specs.Borrow.{Bor}
 use Rattle.chr_semantics.specs.Tree.{Tree, var, int, same}
 use Rattle.chr_semantics.specs.Subst.{Subst, apply, value_at}
@@ -8,7 +8,7 @@ use Rattle.chr_semantics.specs.Mgu.{mgu}
 use Rattle.chr_semantics.proofs.SameLaw.{same_law}
 use Rattle.chr_term.specs.TermView.{view}
 use Rattle.chr_term.specs.declared.term.Term.{Term}
-use Rattle.chr_bind.specs.Matching.{AgreesWith, slot_tree}
+use Rattle.chr_bind.specs.Matching.{AgreesWith, matched_tree}
 use Rattle.chr_bind.specs.declared.matching.Match.{Match}
 
 matched_step : (b : Bool) (u t w : Tree) (o : Option Tree) → (o ≡ Some t → w ≡ t) → cond b (Some u) o ≡ Some t → cond b u w ≡ t
@@ -28,16 +28,16 @@ free_value [] x e = refl
 free_value (p ∷ m) x e = free_step (p.0 == x) p.1 (var x) (value_at m x) (match_at m x) (free_value m x) e
 
 -- a variable that is matched is what it is matched to
-pub instance_matched : {A : Type 0} (h : Match A) (m : Subst) (x : ℕ) (p : Tree) (o : Option (Bor (Term A))) (t : Bor (Term A)) → AgreesWith h m → p ≡ var x → option_map (λ (r : Bor (Term A)). view r.now) o ≡ slot_tree (slice_get h.slots x) → o ≡ Some t
+pub instance_matched : {A : Type 0} (h : Match A) (m : Subst) (x : ℕ) (p : Tree) (o : Option (Bor (Term A))) (t : Bor (Term A)) → AgreesWith h m → p ≡ var x → option_map (λ (r : Bor (Term A)). view r.now) o ≡ matched_tree h x → o ≡ Some t
     → view t.now ≡ apply m p
 instance_matched h m x p o t a ep eo et =
-    let slot : slot_tree (slice_get h.slots x) ≡ Some (view t.now) = sym eo ∙ ap (option_map (λ (r : Bor (Term _)). view r.now)) et in
+    let slot : matched_tree h x ≡ Some (view t.now) = sym eo ∙ ap (option_map (λ (r : Bor (Term _)). view r.now)) et in
     sym (ap (apply m) ep ∙ matched_value m x (view t.now) (sym (a x) ∙ slot))
 
 -- one that is not stays
-pub instance_free : {A : Type 0} (h : Match A) (m : Subst) (x : ℕ) (p : Tree) (o : Option (Bor (Term A))) → AgreesWith h m → p ≡ var x → option_map (λ (r : Bor (Term A)). view r.now) o ≡ slot_tree (slice_get h.slots x) → o ≡ None → p ≡ apply m p
+pub instance_free : {A : Type 0} (h : Match A) (m : Subst) (x : ℕ) (p : Tree) (o : Option (Bor (Term A))) → AgreesWith h m → p ≡ var x → option_map (λ (r : Bor (Term A)). view r.now) o ≡ matched_tree h x → o ≡ None → p ≡ apply m p
 instance_free h m x p o a ep eo et =
-    let slot : slot_tree (slice_get h.slots x) ≡ None = sym eo ∙ ap (option_map (λ (r : Bor (Term _)). view r.now)) et in
+    let slot : matched_tree h x ≡ None = sym eo ∙ ap (option_map (λ (r : Bor (Term _)). view r.now)) et in
     ep ∙ sym (ap (apply m) ep ∙ free_value m x (sym (a x) ∙ slot))
 
 pub shown_number : (m : Subst) (p : Tree) (z : ℤ) → p ≡ int z → p ≡ apply m p

@@ -10,6 +10,7 @@ mod Eliminations
 mod Fresh
 mod Values
 mod Fits
+pub mod Marked
 mod Instances
 mod Guards
 mod Renamed

@@ -6,6 +6,7 @@ pub mod Agenda
 pub mod Unified
 pub mod Code
 pub mod BindingsModel
+pub mod Slots
 pub mod Matching
 pub mod Comparison
 pub mod Guards

@@ -1,44 +1,49 @@
--- What the slots of a match are as a match of the definitions, and what matching does to them.
-use Rattle.std.specs.Prelude.{◌≡◌, ℕ, Bool, false, List, Option, Some, None, MatchBool, slice_get}
-use Rattle.std.specs.Borrow.{Bor}
+-- What a match of the code is as a match of the definitions, and what matching does to it.
+use Rattle.std.specs.Prelude.{◌≡◌, ℕ, Bool, true, false, cond, Option, Some, None, MatchBool, is_some}
 use Rattle.chr_semantics.specs.Tree.{Tree, Trees}
 use Rattle.chr_semantics.specs.Subst.{Subst}
 use Rattle.chr_semantics.specs.Match.{match_at, fit, fit_all}
-use Rattle.chr_term.specs.TermView.{view}
-use Rattle.chr_term.specs.declared.term.Term.{Term}
+use Rattle.chr_bind.specs.Slots.{is_marked, tree_at}
+use Rattle.chr_bind.specs.declared.matching.Marks.{Marks}
 use Rattle.chr_bind.specs.declared.matching.Match.{Match}
 
-abbrev pub Slots : Type 0 → Type 0
-Slots A = List (Option (Bor (Term A)))
+module _ {A : Type 0} where
+  -- what a variable is matched to, if it is
+  abbrev pub matched_tree : Match A → ℕ → Option Tree
+  matched_tree h x = cond (is_marked h.marks.marks x) (tree_at h.slots.terms x) None
 
-abbrev pub slot_tree : {A : Type 0} → Option (Option (Bor (Term A))) → Option Tree
-slot_tree None = None
-slot_tree (Some None) = None
-slot_tree (Some (Some t)) = Some (view t.now)
+  -- the match is that of the definitions
+  abbrev pub AgreesWith : Match A → Subst → Type 0
+  AgreesWith h m = (x : ℕ) → matched_tree h x ≡ match_at m x
 
--- each variable is matched to what its slot has
-abbrev pub Agrees : {A : Type 0} → Slots A → Subst → Type 0
-Agrees slots m = (x : ℕ) → slot_tree (slice_get slots x) ≡ match_at m x
+  -- both match the same variables to the same
+  abbrev pub IsSame : Match A → Match A → Type 0
+  IsSame g h = (x : ℕ) → matched_tree h x ≡ matched_tree g x
 
--- what a variable is matched to, if it is
-abbrev pub matched_tree : {A : Type 0} → Match A → ℕ → Option Tree
-matched_tree h x = slot_tree (slice_get h.slots x)
+  -- what was matched is matched to the same
+  abbrev pub Keeps : Match A → Match A → Type 0
+  Keeps old new = (x : ℕ) (t : Tree) → matched_tree old x ≡ Some t → matched_tree new x ≡ Some t
 
--- the match is that of the definitions
-abbrev pub AgreesWith : {A : Type 0} → Match A → Subst → Type 0
-AgreesWith h m = (x : ℕ) → matched_tree h x ≡ match_at m x
+  -- these are the variables that are matched
+  abbrev pub AreMarksOf : Marks → Match A → Type 0
+  AreMarksOf marks h = marks ≡ h.marks
 
--- Where the old slots are a match, the new ones are its extension, or there is none.
-abbrev pub FitsTo : {A : Type 0} → Bool → Trees → Trees → Slots A → Slots A → Type 0
-FitsTo result ps ts old new = (m : Subst) → Agrees old m → MatchBool result ((n : Subst) × (fit_all ps ts m ≡ Some n) × Agrees new n) (fit_all ps ts m ≡ None)
+  -- all variables with a mark are matched
+  abbrev pub Covers : Match A → Marks → Type 0
+  Covers h marks = (x : ℕ) → is_marked marks.marks x ≡ true → is_some (matched_tree h x) ≡ true
 
-abbrev pub FitsTermTo : {A : Type 0} → Bool → Tree → Tree → Slots A → Slots A → Type 0
-FitsTermTo result p t old new = (m : Subst) → Agrees old m → MatchBool result ((n : Subst) × (fit p t m ≡ Some n) × Agrees new n) (fit p t m ≡ None)
+  -- where the marks are those of an earlier match, the new one is the same as that
+  abbrev pub GoesBack : Marks → Match A → Match A → Type 0
+  GoesBack marks old new = (h : Match A) → AreMarksOf marks h → Keeps h old → IsSame h new
 
--- where there is an extension of the match, it is the new match
-abbrev pub FitsOrSpoils : {A : Type 0} → Bool → Trees → Trees → Match A → Match A → Type 0
-FitsOrSpoils result ps ts old new = (m : Subst) → AgreesWith old m → MatchBool result ((n : Subst) × (fit_all ps ts m ≡ Some n) × AgreesWith new n) (fit_all ps ts m ≡ None)
+  -- Where the old match is one of the definitions, the new one is its extension, or there is none.
+  abbrev pub FitsTermTo : Bool → Tree → Tree → Match A → Match A → Type 0
+  FitsTermTo result p t old new = (m : Subst) → AgreesWith old m → MatchBool result ((n : Subst) × (fit p t m ≡ Some n) × AgreesWith new n) (fit p t m ≡ None)
 
--- the same, and where there is none, the match is as it was
-abbrev pub FitsAs : {A : Type 0} → Bool → Trees → Trees → Match A → Match A → Type 0
-FitsAs result ps ts old new = FitsOrSpoils result ps ts old new × (result ≡ false → new ≡ old)
+  -- the same for patterns and terms
+  abbrev pub FitsOrSpoils : Bool → Trees → Trees → Match A → Match A → Type 0
+  FitsOrSpoils result ps ts old new = (m : Subst) → AgreesWith old m → MatchBool result ((n : Subst) × (fit_all ps ts m ≡ Some n) × AgreesWith new n) (fit_all ps ts m ≡ None)
+
+  -- the same, and where there is none, the match is as it was
+  abbrev pub FitsAs : Bool → Trees → Trees → Match A → Match A → Type 0
+  FitsAs result ps ts old new = FitsOrSpoils result ps ts old new × (result ≡ false → IsSame old new)

@@ -24,7 +24,7 @@ use Rattle.chr_semantics.specs.Search.{ids_of}
 use Rattle.chr_semantics.specs.Subst.{Subst}
 use Rattle.chr_semantics.specs.Tree.{Trees}
 use Rattle.chr_semantics.specs.declared.limits.TheConstants.{MAX_RULE_VARIABLES}
-use Rattle.chr_bind.specs.Matching.{AgreesWith, FitsAs}
+use Rattle.chr_bind.specs.Matching.{AgreesWith, FitsOrSpoils}
 use Rattle.chr_bind.specs.declared.matching.Match.{Match}
 use Rattle.chr_term.specs.TermView.{atom_view}
 use Rattle.chr_term.specs.declared.term.Sym.{Sym}
@@ -56,11 +56,11 @@ pub fit_arguments : (h a : Atom) (m n : Subst) → fit_atom h a m ≡ Some n →
 fit_arguments h a m n e = (tested (h.sym == a.sym) (fit_all h.args a.args m) n e).1
 
 -- the match after arguments that fit
-fitted : {A : Type 0} (b : Bool) (ps ts : Trees) (old new : Match A) (m n : Subst) → FitsAs b ps ts old new → AgreesWith old m → fit_all ps ts m ≡ Some n → AgreesWith new n
+fitted : {A : Type 0} (b : Bool) (ps ts : Trees) (old new : Match A) (m n : Subst) → FitsOrSpoils b ps ts old new → AgreesWith old m → fit_all ps ts m ≡ Some n → AgreesWith new n
 fitted true ps ts old new m n f a e =
-    let k : (k : Subst) × (fit_all ps ts m ≡ Some k) × AgreesWith new k = f.0 m a in
+    let k : (k : Subst) × (fit_all ps ts m ≡ Some k) × AgreesWith new k = f m a in
     subst (λ (s : Subst). AgreesWith new s) (same_Some k.0 n (sym k.1 ∙ e)) k.2
-fitted false ps ts old new m n f a e = absurd (none-some n (sym (f.0 m a) ∙ e))
+fitted false ps ts old new m n f a e = absurd (none-some n (sym (f m a) ∙ e))
 
 -- where no head or no row is left, the match is whole
 whole : (hs : List Head) (t : List Row) (n m : Subst) → (hs ≡ []) ⊎ (t ≡ []) → fit_rows hs t n ≡ Some m → n ≡ m
@@ -89,7 +89,7 @@ module _ {A : Type 0} (table : Table A) (heads : List Head) (ids : List ℕ) whe
 
   -- one head more
   pub matched_more : (i : ℕ) (x : Head) (h : Atom) (id : ℕ) (found : Atom) (ps ts : Trees) (b : Bool) (old new : Match A) → slice_get heads i ≡ Some x → x.atom ≡ h → h.args ≡ ps → i < length ids → id ≡ get_or ids i id → Some found ≡ atom_at table id → found.args ≡ ts
-      → FitsAs b ps ts old new → IsMatchedTo i old → IsMatchedTo (i + 1) new
+      → FitsOrSpoils b ps ts old new → IsMatchedTo i old → IsMatchedTo (i + 1) new
   matched_more i x h id found ps ts b old new here is args lt at stands terms fit so t e standing m whole =
       let n : (n : Subst) × (fit_rows (drop i heads) (drop i t) n ≡ Some m) × AgreesWith old n = so t e standing m whole in
       let a : (a : Row) × (drop i t ≡ a ∷ drop (i + 1) t) × (a.0 ≡ get_or ids i id) × (atom_at table a.0 ≡ Some a.1) = row_at t i (id, found) e standing lt in

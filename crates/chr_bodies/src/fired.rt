@@ -1,5 +1,5 @@
 //! The goals of the body of a rule that fires with constraints of a table.
-ghost use Rattle.std.specs.Prelude.{◌≡◌, ◌≤◌, ◌^◌, IfOk, List, Some, map};
+ghost use Rattle.std.specs.Prelude.{◌≡◌, ◌≤◌, ◌^◌, [], IfOk, List, Some, map};
 ghost use Rattle.chr_semantics.specs.Bounds.{IsBounded};
 ghost use Rattle.chr_semantics.specs.Match.{Row, fits};
 ghost use Rattle.chr_semantics.specs.Search.{ids_of};
@@ -12,35 +12,32 @@ ghost use Rattle.chr_rules.specs.RuleView.{goal_view, rule_view};
 ghost use Rattle.chr_bodies.specs.Standing.{AreStanding};
 
 use crate::body::build_body;
-use chr_bind::{Match, fit};
+use chr_bind::{Match, fit_or_spoil};
 use chr_find::Table;
 use chr_rules::{Goal, Rule};
 use chr_store::Id;
 use chr_term::Memory;
 use std::alloc::Allocator;
 
-/// The match of the heads with the constraints of these identities.
-fn matched<'t, A: Allocator + Copy>(
+/// Matches the heads with the constraints of these identities, where nothing is matched yet.
+fn match_heads<'t, A: Allocator + Copy>(
     table: &'t Table<A>,
     rule: &Rule<A>,
     ids: &[u64],
-) -> Match<'t, A>
+    matching: &mut Match<'t, A>,
+)
     requires settled { IsSettled table.now }
     requires bounded { IsBounded (rule_view rule.now) }
+    requires empty { AgreesWith matching.old [] }
     ensures { (t : List Row) → ids_of t ≡ ids.now → AreStanding table.now t →
-        (m : Subst) → fits (rule_view rule.now).heads t ≡ Some m → AgreesWith result m }
+        (m : Subst) → fits (rule_view rule.now).heads t ≡ Some m → AgreesWith matching.new m }
 {
-    let mut matching = Match::new();
     for (head, id) in rule.heads.iter().zip(ids) {
         if let Some(row) = table.row(Id(*id)) {
-            let _fits = fit(
-                head.1.as_slice(),
-                row.value().args.as_slice(),
-                &mut matching,
-            );
+            let args = row.value().args.as_slice();
+            let _fits = fit_or_spoil(head.1.as_slice(), args, matching);
         }
     }
-    matching
 }
 
 /// The goals of the body of a rule that fires with constraints of a table, which are given by their identities in head order: the same as
@@ -59,5 +56,7 @@ pub fn build_fired<A: Allocator + Copy>(
         (m : Subst) → fits (rule_view rule.now).heads t ≡ Some m →
         map (λ g. goal (goal_view g)) built.items ≡ body_of (rule_view rule.now) t next) }
 {
-    build_body(alloc, rule, &matched(table, rule, ids), next)
+    let mut matching = Match::new();
+    match_heads(table, rule, ids, &mut matching);
+    build_body(alloc, rule, &matching, next)
 }

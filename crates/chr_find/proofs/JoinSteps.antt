@@ -1,10 +1,9 @@
 -- The steps of the join.
 use Rattle.std.proofs.Common.{◌≡◌, ◌^◌, ◌<◌, append-nil, ℕ, ◌+◌, Bool, true, false, ◌||◌, ◌==◌, List, [], ◌∷◌, ◌++◌, map, Option, Some, None, length, take, drop, subst, ap, refl, ◌∙◌, sym, ◌⊎◌, inl, inr}
-use Rattle.std.specs.Option.{is_some}
 use Rattle.std.specs.Prelude.{flat_map}
 use Rattle.std.proofs.lemmas.List.Concat.{flat_map-append}
 use Rattle.std.proofs.lemmas.List.Folds.{list_any-append}
-use Rattle.chr_bind.specs.Matching.{AgreesWith}
+use Rattle.chr_bind.specs.Matching.{AgreesWith, IsSame}
 use Rattle.chr_bind.specs.declared.matching.Match.{Match}
 use Rattle.chr_semantics.specs.Join.{Joined, after_row, branch, joined}
 use Rattle.chr_semantics.specs.Match.{Row, fit_atom}
@@ -14,6 +13,7 @@ use Rattle.chr_semantics.specs.Subst.{Subst}
 use Rattle.chr_find.specs.Enough.{TakesAs}
 use Rattle.chr_find.specs.Gate.{Gate, next_gate, passed}
 use Rattle.chr_find.specs.Joins.{JoinIs, WalkIs, step_of}
+use Rattle.chr_find.specs.SearchIs.{if_found}
 use Rattle.chr_find.proofs.FoundLists.{finds_after, finds_first_part, finds_none, finds_same, finds_second_part}
 use Rattle.chr_find.proofs.Gates.{passed-after}
 
@@ -72,16 +72,21 @@ module _ {A : Type 0} (rows : List Row) (h : History) (r : ℕ) (rule : Rule) (p
       finds_same h r rule.guard (take level partners) (length rule.heads) (flat_map f (xs ++ ys)) (flat_map f xs ++ flat_map f ys) result told now (flat_map-append f xs ys)
       (finds_second_part h r rule.guard (take level partners) (length rule.heads) (flat_map f xs) (flat_map f ys) result told mid now (v a used m owns known agrees q) (w a used m owns known agrees q))
 
-  -- the same of a walk that is made of both
-  pub walk_found : (walked xs ys : List Row) (found : Option (List ℕ)) (told now : ℕ) → walked ≡ xs ++ ys → is_some found ≡ true → WalkIs rows h r rule place own level partners matching from quiet gate head xs found told now
-      → WalkIs rows h r rule place own level partners matching from quiet gate head walked found told now
-  walk_found walked xs ys None told now is e w = absurd (let no : false ≡ true = e in cc)
-  walk_found walked xs ys (Some l) told now is e w = subst (λ (cs : List Row). WalkIs rows h r rule place own level partners matching from quiet gate head cs (Some l) told now) (sym is) (walk_first xs ys l told now w)
+  -- the same for a match that is the same
+  pub walk_same : (old : Match A) (xs : List Row) (result : Option (List ℕ)) (told now : ℕ) → IsSame old matching → WalkIs rows h r rule place own level partners matching from quiet gate head xs result told now
+      → WalkIs rows h r rule place own level partners old from quiet gate head xs result told now
+  walk_same old xs result told now same w a used m owns known agrees q = w a used m owns known (λ x. same x ∙ agrees x) q
 
-  pub walk_on : (walked xs ys : List Row) (found result : Option (List ℕ)) (told mid now : ℕ) → walked ≡ xs ++ ys → is_some found ≡ false → WalkIs rows h r rule place own level partners matching from quiet gate head xs found told mid
+  -- the same of a walk that is made of both
+  pub walk_found : (walked xs ys : List Row) (b : Bool) (l : List ℕ) (told now : ℕ) → walked ≡ xs ++ ys → b ≡ true → WalkIs rows h r rule place own level partners matching from quiet gate head xs (if_found b l) told now
+      → WalkIs rows h r rule place own level partners matching from quiet gate head walked (Some l) told now
+  walk_found walked xs ys true l told now is e w = subst (λ (cs : List Row). WalkIs rows h r rule place own level partners matching from quiet gate head cs (Some l) told now) (sym is) (walk_first xs ys l told now w)
+  walk_found walked xs ys false l told now is e w = absurd (let no : false ≡ true = e in cc)
+
+  pub walk_on : (walked xs ys : List Row) (b : Bool) (l : List ℕ) (result : Option (List ℕ)) (told mid now : ℕ) → walked ≡ xs ++ ys → b ≡ false → WalkIs rows h r rule place own level partners matching from quiet gate head xs (if_found b l) told mid
       → WalkIs rows h r rule place own level partners matching from quiet gate head ys result mid now → WalkIs rows h r rule place own level partners matching from quiet gate head walked result told now
-  walk_on walked xs ys None result told mid now is e v w = subst (λ (cs : List Row). WalkIs rows h r rule place own level partners matching from quiet gate head cs result told now) (sym is) (walk_second xs ys result told mid now v w)
-  walk_on walked xs ys (Some l) result told mid now is e v w = absurd (let no : true ≡ false = e in cc)
+  walk_on walked xs ys true l result told mid now is e v w = absurd (let no : true ≡ false = e in cc)
+  walk_on walked xs ys false l result told mid now is e v w = subst (λ (cs : List Row). WalkIs rows h r rule place own level partners matching from quiet gate head cs result told now) (sym is) (walk_second xs ys result told mid now v w)
 
   -- a row that is left out
   pub row_out : (c : Row) (next : Match A) (told : ℕ) → told < 2 ^ 64 → TakesAs false (own ∷ take level partners) head c matching next → WalkIs rows h r rule place own level partners matching from quiet gate head (c ∷ []) None told told

@@ -1,5 +1,5 @@
 -- What the parts of a search answer.
-use Rattle.std.proofs.Common.{◌≡◌, ℕ, ◌+◌, ◌-◌, ◌*◌, ◌∙◌, ◌<◌, List, [], ◌∷◌, ◌++◌, Option, Some, length, drop, ap, refl, subst, arith, zero, suc}
+use Rattle.std.proofs.Common.{◌≡◌, Bool, ℕ, ◌+◌, ◌-◌, ◌*◌, ◌∙◌, ◌<◌, ◌≤◌, List, [], ◌∷◌, ◌++◌, Option, Some, length, drop, ap, refl, subst, arith, zero, suc}
 use Rattle.std.proofs.Math.Nat.{add-mul}
 use Rattle.std.proofs.lemmas.List.{length-append}
 use Rattle.std.specs.Prelude.{IfOk, Result, Ok, Err, slice_get}
@@ -10,11 +10,16 @@ use Rattle.chr_semantics.specs.Search.{History}
 use Rattle.chr_find.specs.Gate.{Gate}
 use Rattle.chr_find.specs.Joins.{JoinIs}
 use Rattle.chr_find.specs.ModeView.{gate_of}
+use Rattle.chr_find.specs.SearchIs.{if_found}
 use Rattle.chr_find.specs.declared.mode.Mode.{Mode}
 
 pub ok_more : {X E : Type 0} (P Q : X → Type 0) (r : Result X E) → ((x : X) → P x → Q x) → IfOk r P → IfOk r Q
 ok_more P Q (Ok x) f h = f x h
 ok_more P Q (Err e) f h = h
+
+-- what is found, where it is known whether something is
+pub found_so : (b d : Bool) → b ≡ d → (l : List ℕ) (P : Option (List ℕ) → Type 0) → P (if_found b l) → P (if_found d l)
+found_so b d e l P h = subst (λ (x : Bool). P (if_found x l)) e h
 
 -- there is a head at a level that is not the last
 pub head_there : (heads : List Head) (k : ℕ) → k < length heads → (x : Head) × (slice_get heads k ≡ Some x)
@@ -30,11 +35,14 @@ join_longer rows h r rule place own level longer_level longer next from quiet mo
     (subst (λ (k : ℕ). JoinIs rows h r rule place own k longer next from quiet (gate_of mode (drop k after)) result told now) e j)
 
 -- The measure falls where all entries are visited for a level, and where those after a middle are.
-pub level_less : (h l r n : ℕ) → l < h → n ≡ r → (h - l - 1) * (r + 3) + n + 2 < (h - l) * (r + 3)
+pub level_less : (h l r n : ℕ) → l < h → n ≤ r → (h - l - 1) * (r + 4) + n + 3 < (h - l) * (r + 4)
 level_less h l r n lt e =
     let one_more : h - l ≡ (h - l - 1) + 1 = omega (arith, lt) in
-    let whole : (h - l) * (r + 3) ≡ (h - l - 1) * (r + 3) + 1 * (r + 3) = ap (λ (x : ℕ). x * (r + 3)) one_more ∙ add-mul (h - l - 1) 1 (r + 3) in
+    let whole : (h - l) * (r + 4) ≡ (h - l - 1) * (r + 4) + 1 * (r + 4) = ap (λ (x : ℕ). x * (r + 4)) one_more ∙ add-mul (h - l - 1) 1 (r + 4) in
     omega (arith, whole, e)
+
+pub before_shorter : {X : Type 0} (part xs : List X) (m : X) (ys : List X) → part ≡ xs ++ m ∷ ys → length xs < length part
+before_shorter part xs m ys e = let whole : length part ≡ length xs + length (m ∷ ys) = ap length e ∙ length-append xs (m ∷ ys) in omega (arith, whole)
 
 pub after_shorter : {X : Type 0} (part xs : List X) (m : X) (ys : List X) → part ≡ xs ++ m ∷ ys → length ys < length part
 after_shorter part xs m ys e = let whole : length part ≡ length xs + length (m ∷ ys) = ap length e ∙ length-append xs (m ∷ ys) in omega (arith, whole)

@@ -1,5 +1,6 @@
 -- What a search finds from its partners so far.
-use Rattle.std.specs.Prelude.{◌≡◌, ℕ, List, [], Option, Some, drop, length, slice_get}
+use Rattle.std.specs.Prelude.{◌≡◌, ◌∷◌, ℕ, Bool, false, cond, List, [], Option, Some, None, drop, length, slice_get}
+use Rattle.chr_bind.specs.Matching.{IsSame, Keeps}
 use Rattle.chr_bind.specs.declared.matching.Match.{Match}
 use Rattle.chr_rules.specs.RuleView.{rule_view}
 use Rattle.chr_semantics.specs.Match as semantics
@@ -13,8 +14,13 @@ use Rattle.chr_find.specs.ModeView.{gate_of}
 use Rattle.chr_find.specs.PlanView.{positions_of}
 use Rattle.chr_find.specs.Shown.{ForRows}
 use Rattle.chr_find.specs.declared.join.Prefix.{Prefix}
+use Rattle.chr_find.specs.declared.join.Reached.{Reached}
 use Rattle.chr_find.specs.declared.join.Search.{Search}
 use Rattle.chr_find.specs.declared.mode.Mode.{Mode}
+
+-- the partners, where they are found
+abbrev pub if_found : Bool → List ℕ → Option (List ℕ)
+if_found found partners = cond found (Some partners) None
 
 module _ {P A : Type 0} (h : History) (s : Search P A) where
   -- for all heads, the own constraint at its own
@@ -39,3 +45,14 @@ module _ {P A : Type 0} (h : History) (s : Search P A) (p : Prefix) where
   WalkFinds matching walked found told now =
       (x : Head) → slice_get (rule_view s.rule.now).heads p.level ≡ Some x
       → ForRows (positions_of s.plan.now) s.rows.now (λ rows. WalkIs rows h s.number (rule_view s.rule.now) s.place s.own p.level p.partners matching s.from s.quiet gate_at x.atom walked found told now)
+
+  -- the same, with what the search has come to, and with the match as before where nothing is found
+  abbrev pub JoinLeads : Match A → Match A → Reached → Reached → Bool → Type 0
+  JoinLeads old new before after found = JoinFinds old (if_found found after.partners) before.tries after.tries × (found ≡ false → IsSame old new)
+
+  abbrev pub WalkLeads : List semantics.Row → Match A → Match A → Reached → Reached → Bool → Type 0
+  WalkLeads walked old new before after found = WalkFinds old walked (if_found found after.partners) before.tries after.tries × (found ≡ false → IsSame old new)
+
+  -- the same with one row, where what was matched stays
+  abbrev pub RowLeads : semantics.Row → Match A → Match A → Reached → Reached → Bool → Type 0
+  RowLeads row old new before after found = WalkFinds old (row ∷ []) (if_found found after.partners) before.tries after.tries × (found ≡ false → Keeps old new)

@@ -10,7 +10,7 @@ ghost use Rattle.chr_find.specs.SearchView.{AreSmall};
 ghost use Rattle.chr_find.specs.Shown.{ForRows};
 
 use crate::Memory;
-use crate::join::{Prefix, Search};
+use crate::join::{Prefix, Reached, Search};
 use crate::mode::Mode;
 use crate::past::Past;
 use crate::quiet::has_new;
@@ -28,7 +28,7 @@ impl<'a, P: Past, A: Allocator + Copy> Search<'a, P, A> {
     {
         let (sym, args) = &self.rule.heads[level];
         let list = some_list_for(self.plan, *sym, args.as_slice(), matching);
-        !has_new(&self.rows.entries(), &list, 0)
+        !has_new(self.rows.entries(), &list, 0)
     }
 
     /// Whether that is so of some head but the own one, which tells at once that nothing is found.
@@ -71,6 +71,16 @@ impl<'a, P: Past, A: Allocator + Copy> Search<'a, P, A> {
             partners: [0; 8],
             mode,
         };
-        self.join(&start, &matching, tries)
+        let mut reached = Reached {
+            partners: [0; 8],
+            tries: *tries,
+        };
+        let is_found = self.join(&start, &mut matching, &mut reached)?;
+        *tries = reached.tries;
+        if is_found {
+            Ok(Some(reached.partners))
+        } else {
+            Ok(None)
+        }
     }
 }

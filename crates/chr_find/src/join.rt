@@ -4,7 +4,7 @@ ghost use Rattle.chr_rules.specs.RuleView.{rule_view};
 ghost use Rattle.chr_store.specs.Rows.{row_atom};
 ghost use Rattle.chr_find.specs.Gate.{gate_bound, next_gate};
 ghost use Rattle.chr_find.specs.ModeView.{gate_of};
-ghost use Rattle.chr_find.specs.SearchIs.{JoinFinds, WalkFinds, gate_at};
+ghost use Rattle.chr_find.specs.SearchIs.{JoinLeads, RowLeads, WalkLeads};
 ghost use Rattle.chr_find.specs.SearchView.{AreSmall};
 ghost use Rattle.chr_find.specs.Shown.{walk};
 
@@ -12,6 +12,7 @@ use crate::Memory;
 use crate::list::{List, Place};
 use crate::lists::Rows;
 use crate::mode::Mode;
+use crate::narrowed::narrowed;
 use crate::past::Past;
 use crate::plan::Plan;
 use crate::search::{list_for, takes};
@@ -53,6 +54,15 @@ pub(crate) struct Prefix {
     pub(crate) mode: Mode,
 }
 
+/// What a search has come to.
+#[derive(Clone, Copy, Drop)]
+pub(crate) struct Reached {
+    /// The partners, where they are found.
+    pub(crate) partners: [u64; 8],
+    /// How many complete lists were looked at.
+    pub(crate) tries: u64,
+}
+
 impl<'a, P: Past, A: Allocator + Copy> Search<'a, P, A> {
     /// With one more partner.
     fn longer(&self, prefix: &Prefix, id: u64) -> Prefix
@@ -85,31 +95,32 @@ impl<'a, P: Past, A: Allocator + Copy> Search<'a, P, A> {
         }
     }
 
-    /// The first list that begins with the partners so far, fits and may fire, and one try more for each complete list.
+    /// The first list that begins with the partners so far, fits and may fire, and one try more for each complete list. Where none is
+    /// found, the match is as before.
     #[cycle(join)]
     pub(crate) fn join(
         &self,
         prefix: &Prefix,
-        matching: &Match<'a, A>,
-        tries: &mut u64,
-    ) -> Result<Option<[u64; 8]>, Memory>
+        matching: &mut Match<'a, A>,
+        reached: &mut Reached,
+    ) -> Result<bool, Memory>
         requires few { vec_len self.now.rule.now.heads ≤ 8 }
         requires small { AreSmall (rule_view self.now.rule.now).heads }
         requires inside { prefix.now.level ≤ vec_len self.now.rule.now.heads }
-        ensures { IfOk result (λ found. JoinFinds (P.history self.now.past.now) self.now prefix.now
-            matching.now found tries.old tries.new) }
+        ensures { IfOk result (JoinLeads (P.history self.now.past.now) self.now prefix.now
+            matching.old matching.new reached.old reached.new) }
     {
-        let _so_far = *tries;
         if prefix.level >= self.rule.heads.len() {
-            return self.try_list(prefix, matching, tries);
+            return self.try_list(prefix, matching, reached);
         }
         if prefix.level == self.place {
-            return self.join(&self.longer(prefix, self.own), matching, tries);
+            return self.join(&self.longer(prefix, self.own), matching, reached);
         }
         let (sym, args) = &self.rule.heads[prefix.level];
         let list = list_for(self.plan, self.rows, *sym, args.as_slice(), matching);
         let least = self.least(prefix);
-        self.visit(&self.rows.entries(), &list, least, prefix, matching, tries)
+        let part = narrowed(self.rows.entries(), &list);
+        self.visit(&part, &list, least, prefix, matching, reached)
     }
 
     /// The same with the rows of a part that are in a list, but for those with identities below `least`.
@@ -120,40 +131,38 @@ impl<'a, P: Past, A: Allocator + Copy> Search<'a, P, A> {
         list: &List,
         least: u64,
         prefix: &Prefix,
-        matching: &Match<'a, A>,
-        tries: &mut u64,
-    ) -> Result<Option<[u64; 8]>, Memory>
+        matching: &mut Match<'a, A>,
+        reached: &mut Reached,
+    ) -> Result<bool, Memory>
         requires few { vec_len self.now.rule.now.heads ≤ 8 }
         requires small { AreSmall (rule_view self.now.rule.now).heads }
         requires inside { prefix.now.level < vec_len self.now.rule.now.heads }
         requires bound { least ≤ gate_bound self.now.from
             (gate_of prefix.now.mode (drop prefix.now.level self.now.after.now)) }
         requires quiet { 0 < least → self.now.quiet < prefix.now.level + 2 }
-        ensures { IfOk result (λ found. WalkFinds (P.history self.now.past.now) self.now prefix.now
-            matching.now (walk list.now part.now) found tries.old tries.new) }
+        ensures { IfOk result (WalkLeads (P.history self.now.past.now) self.now prefix.now
+            (walk list.now part.now) matching.old matching.new reached.old reached.new) }
     {
-        let _so_far = *tries;
+        let _so_far = reached.tries;
         let middle = match part.middle() {
-            None => return Ok(None),
+            None => return Ok(false),
             Some(middle) => middle,
         };
         let id = middle.key.id.0;
         match list.cmp(&middle.key.list) {
-            Ordering::Less => self.visit(&middle.before, list, least, prefix, matching, tries),
-            Ordering::Greater => self.visit(&middle.after, list, least, prefix, matching, tries),
+            Ordering::Less => self.visit(&middle.before, list, least, prefix, matching, reached),
+            Ordering::Greater => self.visit(&middle.after, list, least, prefix, matching, reached),
             Ordering::Equal => {
                 if id < least {
-                    return self.visit(&middle.after, list, least, prefix, matching, tries);
+                    return self.visit(&middle.after, list, least, prefix, matching, reached);
                 }
-                let found = self.visit(&middle.before, list, least, prefix, matching, tries)?;
-                if found.is_some() {
-                    return Ok(found);
+                if self.visit(&middle.before, list, least, prefix, matching, reached)? {
+                    return Ok(true);
                 }
-                let found = self.try_row(id, middle.value.value(), prefix, matching, tries)?;
-                if found.is_some() {
-                    return Ok(found);
+                if self.try_row(id, middle.value.value(), prefix, matching, reached)? {
+                    return Ok(true);
                 }
-                self.visit(&middle.after, list, least, prefix, matching, tries)
+                self.visit(&middle.after, list, least, prefix, matching, reached)
             }
         }
     }
@@ -165,23 +174,46 @@ impl<'a, P: Past, A: Allocator + Copy> Search<'a, P, A> {
         id: u64,
         row: &'a Row<A>,
         prefix: &Prefix,
-        matching: &Match<'a, A>,
-        tries: &mut u64,
-    ) -> Result<Option<[u64; 8]>, Memory>
+        matching: &mut Match<'a, A>,
+        reached: &mut Reached,
+    ) -> Result<bool, Memory>
         requires few { vec_len self.now.rule.now.heads ≤ 8 }
         requires small { AreSmall (rule_view self.now.rule.now).heads }
         requires inside { prefix.now.level < vec_len self.now.rule.now.heads }
-        ensures { IfOk result (λ found. WalkFinds (P.history self.now.past.now) self.now prefix.now
-            matching.now ((id, row_atom row.now) ∷ []) found tries.old tries.new) }
+        ensures { IfOk result (WalkLeads (P.history self.now.past.now) self.now prefix.now
+            ((id, row_atom row.now) ∷ []) matching.old matching.new reached.old reached.new) }
     {
-        let _so_far = *tries;
+        let marks = matching.marks();
+        if self.join_row(id, row, prefix, matching, reached)? {
+            return Ok(true);
+        }
+        matching.back_to(&marks);
+        Ok(false)
+    }
+
+    /// The same, but where nothing is found, some variables more may be matched.
+    #[cycle(join)]
+    fn join_row(
+        &self,
+        id: u64,
+        row: &'a Row<A>,
+        prefix: &Prefix,
+        matching: &mut Match<'a, A>,
+        reached: &mut Reached,
+    ) -> Result<bool, Memory>
+        requires few { vec_len self.now.rule.now.heads ≤ 8 }
+        requires small { AreSmall (rule_view self.now.rule.now).heads }
+        requires inside { prefix.now.level < vec_len self.now.rule.now.heads }
+        ensures { IfOk result (RowLeads (P.history self.now.past.now) self.now prefix.now
+            (id, row_atom row.now) matching.old matching.new reached.old reached.new) }
+    {
+        let _so_far = reached.tries;
         let head = &self.rule.heads[prefix.level];
         let used = &prefix.partners[..prefix.level];
-        let mut next = *matching;
-        if takes(self.own, used, head, id, row, &mut next) {
-            self.join(&self.longer(prefix, id), &next, tries)
+        if takes(self.own, used, head, id, row, matching) {
+            self.join(&self.longer(prefix, id), matching, reached)
         } else {
-            Ok(None)
+            Ok(false)
         }
     }
 
@@ -190,27 +222,28 @@ impl<'a, P: Past, A: Allocator + Copy> Search<'a, P, A> {
         &self,
         prefix: &Prefix,
         matching: &Match<'a, A>,
-        tries: &mut u64,
-    ) -> Result<Option<[u64; 8]>, Memory>
+        reached: &mut Reached,
+    ) -> Result<bool, Memory>
         requires few { vec_len self.now.rule.now.heads ≤ 8 }
         requires inside { prefix.now.level ≡ vec_len self.now.rule.now.heads }
-        ensures { IfOk result (λ found. JoinFinds (P.history self.now.past.now) self.now prefix.now
-            matching.now found tries.old tries.new) }
+        ensures { IfOk result (JoinLeads (P.history self.now.past.now) self.now prefix.now
+            matching.now matching.now reached.old reached.new) }
     {
-        let _so_far = *tries;
+        let _so_far = reached.tries;
         if !prefix.mode.is_free() {
-            return Ok(None);
+            return Ok(false);
         }
-        *tries = tries.saturating_add(1);
+        reached.tries = reached.tries.saturating_add(1);
         if self
             .past
             .was_fired(self.number, &prefix.partners[..prefix.level])
         {
-            return Ok(None);
+            return Ok(false);
         }
         if guard_holds(self.alloc, self.rule.guard.as_slice(), matching)? {
-            return Ok(Some(prefix.partners));
+            reached.partners = prefix.partners;
+            return Ok(true);
         }
-        Ok(None)
+        Ok(false)
     }
 }

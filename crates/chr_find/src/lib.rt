@@ -14,6 +14,7 @@ mod keyed;
 mod list;
 mod lists;
 mod mode;
+mod narrowed;
 mod note;
 mod noted;
 mod past;

@@ -7,7 +7,7 @@ ghost use Rattle.chr_find.specs.Shown.{ForAllRows, any_new, walk};
 
 use crate::list::{List, Place};
 use crate::lists::Rows;
-use chr_map::{Part, Pointer};
+use chr_map::{Middle, Part, Pointer};
 use chr_rules::Rule;
 use chr_store::Row;
 use std::alloc::Allocator;
@@ -15,26 +15,34 @@ use std::cmp::Ordering;
 
 /// Whether a list has a row with an identity that is not below `from`.
 pub(crate) fn has_new<A: Allocator + Copy>(
-    part: &Part<'_, Place, Pointer<Row<A>, A>, A>,
+    part: Part<'_, Place, Pointer<Row<A>, A>, A>,
     list: &List,
     from: u64,
 ) -> bool
-    ensures { result ≡ any_new from (walk list.now part.now) }
+    ensures { result ≡ any_new from (walk list.now part.entry) }
 {
-    let middle = match part.middle() {
-        None => return false,
-        Some(middle) => middle,
-    };
-    match list.cmp(&middle.key.list) {
-        Ordering::Less => has_new(&middle.before, list, from),
-        Ordering::Greater => has_new(&middle.after, list, from),
-        Ordering::Equal => {
-            if middle.key.id.0 >= from {
-                return true;
+    let mut left = part;
+    while let Some(
+        Middle {
+            before,
+            key,
+            value: _,
+            after,
+        },
+    ) = left.middle()
+    {
+        match list.cmp(&key.list) {
+            Ordering::Less => left = before,
+            Ordering::Greater => left = after,
+            Ordering::Equal => {
+                if key.id.0 >= from {
+                    return true;
+                }
+                left = after;
             }
-            has_new(&middle.after, list, from)
         }
     }
+    false
 }
 
 /// Whether a constraint for the head at a level may be new.
@@ -55,7 +63,7 @@ fn is_new_at<A: Allocator + Copy>(
         own >= from
     } else {
         let list = List::Symbol(rule.heads[level].0);
-        has_new(&rows.entries(), &list, from)
+        has_new(rows.entries(), &list, from)
     }
 }
 
@@ -70,8 +78,10 @@ pub(crate) fn quiet_from<A: Allocator + Copy>(
     ensures { ForAllRows rows.now
         (λ shown. IsQuiet shown (rule_view rule.now).heads place own from result) }
 {
+    // The heads up to the first one with a partner are not asked for.
+    let asked = if place == 0 { 2 } else { 1 };
     let mut quiet = rule.heads.len();
-    while quiet > 0 && !is_new_at(rows, rule, place, own, from, quiet - 1) {
+    while quiet > asked && !is_new_at(rows, rule, place, own, from, quiet - 1) {
         quiet -= 1;
     }
     quiet

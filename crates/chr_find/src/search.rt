@@ -1,6 +1,6 @@
 //! The search for the first tuple of a rule that can fire.
 ghost use Rattle.std.specs.Prelude.{◌≡◌, ◌∷◌, IfSome};
-ghost use Rattle.chr_bind.specs.Matching.{AgreesWith};
+ghost use Rattle.chr_bind.specs.Matching.{AgreesWith, Keeps};
 ghost use Rattle.chr_semantics.specs.Bounds.{AreBelow};
 ghost use Rattle.chr_semantics.specs.Keys.{pattern_root};
 ghost use Rattle.chr_semantics.specs.Search.{has_number};
@@ -63,8 +63,8 @@ fn shorter<A: Allocator + Copy>(rows: &Rows<A>, one: List, other: List) -> List
 {
     match one {
         List::At(_, _, _) => {
-            let length = count(&rows.entries(), &one);
-            if length <= 1 || length <= count(&rows.entries(), &other) {
+            let length = count(rows.entries(), &one);
+            if length <= 1 || length <= count(rows.entries(), &other) {
                 one
             } else {
                 other
@@ -141,15 +141,16 @@ fn is_among(ids: &[u64], id: u64) -> bool
     false
 }
 
-/// Extends the match by a row that fits the head. Where it does not, nothing is known of the match any more.
+/// Extends the match by a row that fits the head. Where it does not, some variables more may be matched.
 pub(crate) fn fits<'a, A: Allocator + Copy>(
     head: &(Sym, Vec<Term<A>, A>),
     row: &'a Row<A>,
     matching: &mut Match<'a, A>,
 ) -> bool
     requires { AreBelow MAX_RULE_VARIABLES (trees_view head.now.1.items) }
-    ensures { FitsHead result (atom_view head.now.0 head.now.1.items)
+    ensures fits { FitsHead result (atom_view head.now.0 head.now.1.items)
         (row_atom row.now) matching.old matching.new }
+    ensures kept { Keeps matching.old matching.new }
 {
     let (sym, args) = head;
     if *sym == row.sym {
@@ -159,7 +160,7 @@ pub(crate) fn fits<'a, A: Allocator + Copy>(
     }
 }
 
-/// Extends the match by a row that was not used and fits the head. Where it is not taken, nothing is known of the match any more. The own
+/// Extends the match by a row that was not used and fits the head. Where it is not taken, some variables more may be matched. The own
 /// constraint is used.
 pub(crate) fn takes<'a, A: Allocator + Copy>(
     own: u64,
@@ -170,8 +171,9 @@ pub(crate) fn takes<'a, A: Allocator + Copy>(
     matching: &mut Match<'a, A>,
 ) -> bool
     requires { AreBelow MAX_RULE_VARIABLES (trees_view head.now.1.items) }
-    ensures { TakesAs result (own ∷ used.now) (atom_view head.now.0 head.now.1.items)
+    ensures takes { TakesAs result (own ∷ used.now) (atom_view head.now.0 head.now.1.items)
         (id, row_atom row.now) matching.old matching.new }
+    ensures kept { Keeps matching.old matching.new }
 {
     if id == own || is_among(used, id) {
         return false;

@@ -27,8 +27,9 @@ use std::alloc::{Allocator, Global};
 use std::mem;
 
 /// The living constraints with their resolved arguments, by symbol and by what they have at their positions, and what has fired: a search
-/// looks up firings of living constraints alone, so those of dead ones may stay. A change takes two calls: one makes room, which may be refused, and the other notes it, which takes no memory.
-/// Before the next search `settle` makes what was noted. Contracts see the constraint of each identity and the firings, as when all is made.
+/// looks up firings of living constraints alone, so those of dead ones may stay. A change takes two calls: one makes room, which may be
+/// refused, and the other notes it, which takes no memory. Before the next search `settle` makes what was noted. Contracts see the
+/// constraint of each identity and the firings, as when all is made.
 ///
 /// The constraint that was added last stands beside the lists until another is added, or searched for: it is no partner of itself, and
 /// many constraints live no longer than that.

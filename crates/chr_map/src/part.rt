@@ -30,7 +30,7 @@ impl<'a, K: Ord + Copy, V: Share, A: Allocator> Model for Part<'a, K, V, A> {
 #[derive(Drop)]
 pub struct Middle<'a, K: Ord + Copy, V: Share, A: Allocator = Global> {
     pub before: Part<'a, K, V, A>,
-    pub key: K,
+    pub key: &'a K,
     pub value: &'a V,
     pub after: Part<'a, K, V, A>,
 }
@@ -53,7 +53,7 @@ impl<'a, K: Ord + Copy, V: Share, A: Allocator> Part<'a, K, V, A> {
     /// An entry from about the middle, where there is one, and the parts before and after it.
     pub fn middle(&self) -> Option<Middle<'a, K, V, A>>
         ensures some { IfSome result
-            (λ m. self.now ≡ m.before ++ (m.key, m.value.now) ∷ m.after) }
+            (λ m. self.now ≡ m.before ++ (m.key.now, m.value.now) ∷ m.after) }
         ensures none { IfNone result (self.now ≡ []) }
         ensures ascending { Ascends K.cmp self.now }
     {
@@ -63,7 +63,7 @@ impl<'a, K: Ord + Copy, V: Share, A: Allocator> Part<'a, K, V, A> {
         };
         Some(Middle {
             before: Part::new(&node.left),
-            key: node.key,
+            key: &node.key,
             value: &node.value,
             after: Part::new(&node.right),
         })

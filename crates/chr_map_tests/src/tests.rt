@@ -37,7 +37,7 @@ fn collect<A: Allocator + Copy>(
         None => Ok(0),
         Some(middle) => {
             let before = collect(&middle.before, depth - 1, keys)?;
-            keys.push(middle.key)?;
+            keys.push(*middle.key)?;
             let after = collect(&middle.after, depth - 1, keys)?;
             Ok(before.max(after).saturating_add(1))
         }

@@ -7,5 +7,5 @@ use Rattle.chr_bodies.proofs.fired.build_fired.Goals as goal
 pub returns : goal.returns
 returns g c =
     IfOk-weaker c.build_body.result _ _
-    (λ built body t same standing m fit. body t (subst (λ (o : Option Subst). AgreesWith c.matched.result (unwrap_or o [])) (sym fit) (c.matched.ensures t same standing m fit)))
+    (λ built body t same standing m fit. body t (subst (λ (o : Option Subst). AgreesWith c.match_heads.new.matching (unwrap_or o [])) (sym fit) (c.match_heads.ensures t same standing m fit)))
     c.build_body.ensures.body

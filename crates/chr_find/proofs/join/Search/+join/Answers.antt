@@ -1,4 +1,4 @@
-use Rattle.std.proofs.Common.{◌≡◌, ◌∙◌, ◌<◌, ◌∷◌, ◌++◌, [], Bool, List, None, ap, arith, false, length, refl, subst, sym, take, true, vec_len}
+use Rattle.std.proofs.Common.{◌≡◌, ◌∙◌, ◌<◌, ◌∷◌, ◌++◌, [], Bool, List, None, Some, ap, arith, false, length, refl, subst, sym, take, true, vec_len}
 use Rattle.std.proofs.lemmas.Bool.{eq-eqb, ne_eqb}
 use Rattle.chr_semantics.specs.Bounds.{AreBelow}
 use Rattle.chr_rules.specs.RuleView.{rule_view}
@@ -15,10 +15,12 @@ use Rattle.chr_find.specs.Enough.{TakesAs}
 use Rattle.chr_find.specs.Joins.{WalkIs}
 use Rattle.chr_find.specs.PlanView.{positions_of}
 use Rattle.chr_find.specs.Places.{has_list}
-use Rattle.chr_find.specs.SearchIs.{WalkFinds, gate_at}
+use Rattle.chr_find.specs.SearchIs.{WalkFinds, WalkLeads, gate_at, if_found}
+use Rattle.chr_bind.specs.Matching.{IsSame}
+use Rattle.chr_bind.proofs.Marked.{marks_covered}
 use Rattle.chr_find.specs.Shown.{AllUnder, walk}
 use Rattle.chr_find.proofs.JoinEnds.{at_own, from_walk}
-use Rattle.chr_find.proofs.JoinSteps.{row_out, row_taken, walk_found, walk_on}
+use Rattle.chr_find.proofs.JoinSteps.{row_out, row_taken, walk_found, walk_none, walk_on, walk_same}
 use Rattle.chr_find.proofs.PassedRows.{rows_passed}
 use Rattle.chr_find.proofs.RuleHeads.{head_at, head_is, heads_length}
 use Rattle.chr_find.proofs.SearchParts.{after_shorter, head_there, join_longer, level_less, ok_more}
@@ -33,91 +35,119 @@ join-returns-then-prefix-self g t c =
     let rule = rule_view s.rule.now in
     let x : (x : Head) × _ = head_there rule.heads p.level (omega (arith, heads_length s.rule.now.heads.items s.rule.now.passive.items, c.if-prefix-len.false, c.len.ensures)) in
     ok_more _ _ c.join.result
-    (λ found j rows shown.
-    at_own rows _ s.number rule s.place s.own p.level p.partners c.args.matching.now s.from s.quiet (gate_at (g.P.Past.history s.past.now) s p) x.0 x.1 c.longer.result.partners found c.args.tries.now c.join.new.tries (subst (λ k. take k c.longer.result.partners ≡ take p.level p.partners ++ s.own ∷ []) refl c.longer.ensures.partners)
-    (eq-eqb p.level s.place c.if-prefix-self.true)
-    (join_longer rows _ s.number rule s.place s.own p.level c.longer.result.level c.longer.result.partners c.args.matching.now s.from s.quiet c.longer.result.mode s.after.now _ found c.args.tries.now c.join.new.tries c.longer.ensures.level c.longer.ensures.gate (j rows shown)))
+    (λ found j. (
+      λ rows shown.
+          at_own rows (g.P.Past.history s.past.now) s.number (rule_view s.rule.now) s.place s.own p.level p.partners c.args.matching.now s.from s.quiet (gate_at (g.P.Past.history s.past.now) s p) x.0 x.1 c.longer.result.partners (if_found found c.join.new.reached.partners) c.args.reached.now.tries c.join.new.reached.tries
+          (subst (λ k. take k c.longer.result.partners ≡ take p.level p.partners ++ s.own ∷ []) refl c.longer.ensures.partners) (eq-eqb p.level s.place c.if-prefix-self.true)
+          (join_longer rows (g.P.Past.history s.past.now) s.number rule s.place s.own p.level c.longer.result.level c.longer.result.partners c.args.matching.now s.from s.quiet c.longer.result.mode s.after.now _ (if_found found c.join.new.reached.partners) c.args.reached.now.tries c.join.new.reached.tries c.longer.ensures.level c.longer.ensures.gate (j.0 rows shown)),
+      j.1,
+    ))
     c.join.ensures
 
 pub join-visit-requires : goal.join-visit-requires
 join-visit-requires g t c κs within =
     let s = c.args.self.now in
     let l : c.args.prefix.now.level < vec_len s.rule.now.heads = omega (arith, c.if-prefix-len.false, c.len.ensures) in
-    let smaller = level_less (vec_len s.rule.now.heads) c.args.prefix.now.level (length s.rows.now) (length c.entries.result) l (ap length c.entries.ensures.value) in
+    let entries : length c.entries.result ≡ length s.rows.now = ap length c.entries.ensures.value in
+    let smaller = level_less (vec_len s.rule.now.heads) c.args.prefix.now.level (length s.rows.now) (length c.narrowed-part.result) l (omega (arith, entries, c.narrowed-part.ensures.short)) in
     (omega (arith, smaller, c.decreases), (within.0, (within.1, ((omega arith), (c.requires.few, (c.requires.small, (l, (c.least-least.ensures.bound, c.least-least.ensures.quiet))))))))
 
 pub join-returns : goal.join-returns
 join-returns g t c =
     let s = c.args.self.now in
     let p = c.args.prefix.now in
-    let rule = rule_view s.rule.now in
     let lt : p.level < length s.rule.now.heads.items = omega (arith, c.if-prefix-len.false, c.len.ensures) in
     let x = head_at s.rule.now.heads.items s.rule.now.passive.items p.level c.index.result.now lt c.index.ensures in
     ok_more _ _ c.visit.result
-    (λ found w rows shown.
-    from_walk rows _ s.number rule s.place s.own p.level p.partners c.args.matching.now s.from s.quiet (gate_at (g.P.Past.history s.past.now) s p) x.0 x.1
-    (λ row. has_list (positions_of s.plan.now row.1.sym) row.1 c.list_for-list.result) found c.args.tries.now c.visit.new.tries (ne_eqb p.level s.place c.if-prefix-self.false)
-    (λ m agrees row out. ap (λ (h : Atom). fit_atom h row.1 m) (x.2 ∙ ap (atom_view c.index.result.now.0) (sym c.as_slice.ensures.value)) ∙ c.list_for-list.ensures m agrees row out)
-    (subst (λ (walked : List semantics.Row). WalkIs rows (g.P.Past.history s.past.now) s.number rule s.place s.own p.level p.partners c.args.matching.now s.from s.quiet (gate_at (g.P.Past.history s.past.now) s p) x.0.atom walked found c.args.tries.now c.visit.new.tries)
-    (ap (walk c.list_for-list.result) c.entries.ensures.value ∙ walk_shown (positions_of s.plan.now) c.list_for-list.result s.rows.now rows c.entries.ensures.ascending shown.rises shown.shows) (w x.0 x.1 rows shown)))
+    (λ found w. (
+      λ rows shown.
+          from_walk rows (g.P.Past.history s.past.now) s.number (rule_view s.rule.now) s.place s.own p.level p.partners c.args.matching.now s.from s.quiet (gate_at (g.P.Past.history s.past.now) s p) x.0 x.1 (λ row. has_list (positions_of s.plan.now row.1.sym) row.1 c.list_for-list.result) (if_found found c.visit.new.reached.partners) c.args.reached.now.tries c.visit.new.reached.tries
+          (ne_eqb p.level s.place c.if-prefix-self.false)
+          (λ m agrees row out. ap (λ (h : Atom). fit_atom h row.1 m) (x.2 ∙ ap (atom_view c.index.result.now.0) (sym c.as_slice.ensures.value)) ∙ c.list_for-list.ensures m agrees row out)
+          (subst (λ (walked : List semantics.Row). WalkIs rows (g.P.Past.history s.past.now) s.number (rule_view s.rule.now) s.place s.own p.level p.partners c.args.matching.now s.from s.quiet (gate_at (g.P.Past.history s.past.now) s p) x.0.atom walked (if_found found c.visit.new.reached.partners) c.args.reached.now.tries c.visit.new.reached.tries)
+          (c.narrowed-part.ensures.rows ∙ (ap (walk c.list_for-list.result) c.entries.ensures.value ∙ walk_shown (positions_of s.plan.now) c.list_for-list.result s.rows.now rows c.entries.ensures.ascending shown.rises shown.shows)) (w.0 x.0 x.1 rows shown)),
+      w.1,
+    ))
     c.visit.ensures
 
-pub try_row-takes-requires : goal.try_row-takes-requires
-try_row-takes-requires g t c =
+pub join_row-takes-requires : goal.join_row-takes-requires
+join_row-takes-requires g t c =
     let s = c.args.self.now in
     let x = head_at s.rule.now.heads.items s.rule.now.passive.items c.args.prefix.now.level c.index-head.result.now (omega (arith, c.requires.inside)) c.index-head.ensures in
     (omega arith, subst (λ (h : Atom). AreBelow MAX_RULE_VARIABLES h.args) x.2 (All-got (λ (h : Head). AreBelow MAX_RULE_VARIABLES h.atom.args) (rule_view s.rule.now).heads c.args.prefix.now.level x.0 x.1 c.requires.small.below))
 
-pub try_row-returns-then-takes : goal.try_row-returns-then-takes
-try_row-returns-then-takes g t c =
+pub join_row-returns-then-takes : goal.join_row-returns-then-takes
+join_row-returns-then-takes g t c =
     let s = c.args.self.now in
     let p = c.args.prefix.now in
-    let rule = rule_view s.rule.now in
     let row : semantics.Row = (c.args.id, row_atom c.args.row.now) in
     ok_more _ _ c.join.result
-    (λ found j x at rows shown.
-    let head : x.atom ≡ atom_view c.index-head.result.now.0 c.index-head.result.now.1.items = head_is s.rule.now.heads.items s.rule.now.passive.items p.level c.index-head.result.now x (omega (arith, c.requires.inside)) c.index-head.ensures at in
-    let taken : TakesAs true (s.own ∷ take p.level p.partners) x.atom row c.args.matching.now c.takes.new.matching =
-    subst (λ (h : Atom). TakesAs true (s.own ∷ take p.level p.partners) h row c.args.matching.now c.takes.new.matching) (sym head)
-    (subst (λ (b : Bool). TakesAs b (s.own ∷ take p.level p.partners) (atom_view c.index-head.result.now.0 c.index-head.result.now.1.items) row c.args.matching.now c.takes.new.matching) c.if-takes.true c.takes.ensures) in
-    row_taken rows (g.P.Past.history s.past.now) s.number rule s.place s.own p.level p.partners c.args.matching.now s.from s.quiet (gate_at (g.P.Past.history s.past.now) s p) x.atom row c.longer.result.partners c.takes.new.matching found c.args.tries.now c.join.new.tries
-    c.longer.ensures.partners taken
-    (join_longer rows (g.P.Past.history s.past.now) s.number rule s.place s.own p.level c.longer.result.level c.longer.result.partners c.takes.new.matching s.from s.quiet c.longer.result.mode s.after.now _ found c.args.tries.now c.join.new.tries c.longer.ensures.level c.longer.ensures.gate (j rows shown)))
+    (λ found j. (
+      λ x at rows shown.
+          let head : x.atom ≡ atom_view c.index-head.result.now.0 c.index-head.result.now.1.items = head_is s.rule.now.heads.items s.rule.now.passive.items p.level c.index-head.result.now x (omega (arith, c.requires.inside)) c.index-head.ensures at in
+          let taken : TakesAs true (s.own ∷ take p.level p.partners) x.atom row c.args.matching.now c.takes.new.matching =
+          subst (λ (h : Atom). TakesAs true (s.own ∷ take p.level p.partners) h row c.args.matching.now c.takes.new.matching) (sym head)
+          (subst (λ (b : Bool). TakesAs b (s.own ∷ take p.level p.partners) (atom_view c.index-head.result.now.0 c.index-head.result.now.1.items) row c.args.matching.now c.takes.new.matching) c.if-takes.true c.takes.ensures.takes) in
+          row_taken rows (g.P.Past.history s.past.now) s.number (rule_view s.rule.now) s.place s.own p.level p.partners c.args.matching.now s.from s.quiet (gate_at (g.P.Past.history s.past.now) s p) x.atom row c.longer.result.partners c.takes.new.matching (if_found found c.join.new.reached.partners) c.args.reached.now.tries c.join.new.reached.tries
+          c.longer.ensures.partners taken
+          (join_longer rows (g.P.Past.history s.past.now) s.number (rule_view s.rule.now) s.place s.own p.level c.longer.result.level c.longer.result.partners c.takes.new.matching s.from s.quiet c.longer.result.mode s.after.now _ (if_found found c.join.new.reached.partners) c.args.reached.now.tries c.join.new.reached.tries c.longer.ensures.level c.longer.ensures.gate (j.0 rows shown)),
+      λ none x u is. j.1 none x ∙ c.takes.ensures.kept x u is,
+    ))
     c.join.ensures
 
-pub try_row-returns-else-takes : goal.try_row-returns-else-takes
-try_row-returns-else-takes g t c x at rows shown =
-    let s = c.args.self.now in
-    let p = c.args.prefix.now in
-    let rule = rule_view s.rule.now in
-    let row : semantics.Row = (c.args.id, row_atom c.args.row.now) in
-    let head : x.atom ≡ atom_view c.index-head.result.now.0 c.index-head.result.now.1.items = head_is s.rule.now.heads.items s.rule.now.passive.items p.level c.index-head.result.now x (omega (arith, c.requires.inside)) c.index-head.ensures at in
-    let out : TakesAs false (s.own ∷ take p.level p.partners) x.atom row c.args.matching.now c.takes.new.matching =
-    subst (λ (h : Atom). TakesAs false (s.own ∷ take p.level p.partners) h row c.args.matching.now c.takes.new.matching) (sym head)
-    (subst (λ (b : Bool). TakesAs b (s.own ∷ take p.level p.partners) (atom_view c.index-head.result.now.0 c.index-head.result.now.1.items) row c.args.matching.now c.takes.new.matching) c.if-takes.false c.takes.ensures) in
-    row_out rows (g.P.Past.history s.past.now) s.number rule s.place s.own p.level p.partners c.args.matching.now s.from s.quiet (gate_at (g.P.Past.history s.past.now) s p) x.atom row c.takes.new.matching c.args.tries.now (omega arith) out
+pub join_row-returns-else-takes : goal.join_row-returns-else-takes
+join_row-returns-else-takes g t c = (
+  λ x at rows shown.
+      let s = c.args.self.now in
+      let p = c.args.prefix.now in
+      let row : semantics.Row = (c.args.id, row_atom c.args.row.now) in
+      let head : x.atom ≡ atom_view c.index-head.result.now.0 c.index-head.result.now.1.items = head_is s.rule.now.heads.items s.rule.now.passive.items p.level c.index-head.result.now x (omega (arith, c.requires.inside)) c.index-head.ensures at in
+      let out : TakesAs false (s.own ∷ take p.level p.partners) x.atom row c.args.matching.now c.takes.new.matching =
+      subst (λ (h : Atom). TakesAs false (s.own ∷ take p.level p.partners) h row c.args.matching.now c.takes.new.matching) (sym head)
+      (subst (λ (b : Bool). TakesAs b (s.own ∷ take p.level p.partners) (atom_view c.index-head.result.now.0 c.index-head.result.now.1.items) row c.args.matching.now c.takes.new.matching) c.if-takes.false c.takes.ensures.takes) in
+      row_out rows (g.P.Past.history s.past.now) s.number (rule_view s.rule.now) s.place s.own p.level p.partners c.args.matching.now s.from s.quiet (gate_at (g.P.Past.history s.past.now) s p) x.atom row c.takes.new.matching c.args.reached.now.tries (omega arith) out,
+  λ none. c.takes.ensures.kept,
+)
+
+pub try_row-back_to-requires : goal.try_row-back_to-requires
+try_row-back_to-requires g t c = ((omega arith), marks_covered c.args.matching.now c.join_row.new.matching c.marks-marks.result c.marks-marks.ensures (c.in_ok-join_row.ensures.1 c.if-branch.false))
+
+pub try_row-returns : goal.try_row-returns
+try_row-returns g t c = (
+  subst (λ (b : Bool). WalkFinds (g.P.Past.history c.args.self.now.past.now) c.args.self.now c.args.prefix.now c.args.matching.now ((c.args.id, row_atom c.args.row.now) ∷ []) (if_found b c.join_row.new.reached.partners) c.args.reached.now.tries c.join_row.new.reached.tries) c.if-branch.false c.in_ok-join_row.ensures.0,
+  λ none. c.back_to.ensures c.args.matching.now c.marks-marks.ensures (c.in_ok-join_row.ensures.1 c.if-branch.false),
+)
+
+pub visit-returns-in-None : goal.visit-returns-in-None
+visit-returns-in-None g t c = (
+  λ x at rows shown.
+      let s = c.args.self.now in
+      let p = c.args.prefix.now in
+      subst (λ walked. WalkIs rows (g.P.Past.history s.past.now) s.number (rule_view s.rule.now) s.place s.own p.level p.partners c.args.matching.now s.from s.quiet (gate_at (g.P.Past.history s.past.now) s p) x.atom walked None c.args.reached.now.tries c.args.reached.now.tries) (sym (ap (walk c.args.list.now) c.in-None.ensures.none)) (walk_none rows (g.P.Past.history s.past.now) s.number (rule_view s.rule.now) s.place s.own p.level p.partners c.args.matching.now s.from s.quiet (gate_at (g.P.Past.history s.past.now) s p) x.atom c.args.reached.now.tries (omega arith)),
+  λ none x. refl,
+)
 
 pub visit-returns-in-Less : goal.visit-returns-in-Less
 visit-returns-in-Less g t c =
-    let m : Place × Row g.row.A.Denot = (c.in-Some.middle.key, c.in-Some.middle.value.now) in
+    let m : Place × Row g.row.A.Denot = (c.in-Some.middle.key.now, c.in-Some.middle.value.now) in
     let e = part_less c.args.list.now c.args.part.now c.in-Some.middle.before m c.in-Some.middle.after c.in-Some.ensures.some c.in-Some.ensures.ascending (sym c.cmp.ensures ∙ c.in-Less.is) in
     ok_more _ _ c.visit.result
-    (λ found w. subst (λ walked. WalkFinds (g.P.Past.history c.args.self.now.past.now) c.args.self.now c.args.prefix.now c.args.matching.now walked found c.args.tries.now c.visit.new.tries) (sym e) w)
+    (λ found w. subst (λ walked. WalkLeads (g.P.Past.history c.args.self.now.past.now) c.args.self.now c.args.prefix.now walked c.args.matching.now c.visit.new.matching c.args.reached.now c.visit.new.reached found) (sym e) w)
     c.visit.ensures
 
 pub visit-returns-in-Greater : goal.visit-returns-in-Greater
 visit-returns-in-Greater g t c =
-    let m : Place × Row g.row.A.Denot = (c.in-Some.middle.key, c.in-Some.middle.value.now) in
+    let m : Place × Row g.row.A.Denot = (c.in-Some.middle.key.now, c.in-Some.middle.value.now) in
     let e = part_greater c.args.list.now c.args.part.now c.in-Some.middle.before m c.in-Some.middle.after c.in-Some.ensures.some c.in-Some.ensures.ascending (sym c.cmp.ensures ∙ c.in-Greater.is) in
     ok_more _ _ c.visit-in-Greater.result
-    (λ found w. subst (λ walked. WalkFinds (g.P.Past.history c.args.self.now.past.now) c.args.self.now c.args.prefix.now c.args.matching.now walked found c.args.tries.now c.visit-in-Greater.new.tries) (sym e) w)
+    (λ found w. subst (λ walked. WalkLeads (g.P.Past.history c.args.self.now.past.now) c.args.self.now c.args.prefix.now walked c.args.matching.now c.visit-in-Greater.new.matching c.args.reached.now c.visit-in-Greater.new.reached found) (sym e) w)
     c.visit-in-Greater.ensures
 
 pub visit-returns-then-id-least : goal.visit-returns-then-id-least
 visit-returns-then-id-least g t c =
     let s = c.args.self.now in
     let p = c.args.prefix.now in
-    let m : Place × Row g.row.A.Denot = (c.in-Some.middle.key, c.in-Some.middle.value.now) in
+    let m : Place × Row g.row.A.Denot = (c.in-Some.middle.key.now, c.in-Some.middle.value.now) in
     let one : List semantics.Row = (m.0.id.0, row_atom m.1) ∷ [] in
     let first : List semantics.Row = walk c.args.list.now c.in-Some.middle.before in
     let last : List semantics.Row = walk c.args.list.now c.in-Some.middle.after in
@@ -125,60 +155,76 @@ visit-returns-then-id-least g t c =
     let parts : whole ≡ (first ++ one) ++ last = part_passed c.args.list.now c.args.part.now c.in-Some.middle.before m c.in-Some.middle.after c.in-Some.ensures.some (sym c.cmp.ensures ∙ c.in-Equal.is) in
     let under : AllUnder c.args.least (first ++ one) = part_under c.args.list.now c.args.part.now c.in-Some.middle.before m c.in-Some.middle.after c.args.least c.in-Some.ensures.some c.in-Some.ensures.ascending (sym c.cmp.ensures ∙ c.in-Equal.is) c.if-id-least.true in
     ok_more _ _ c.visit-then-id-least.result
-    (λ found w x at rows shown.
-    walk_on rows (g.P.Past.history s.past.now) s.number (rule_view s.rule.now) s.place s.own p.level p.partners c.args.matching.now s.from s.quiet (gate_at (g.P.Past.history s.past.now) s p) x.atom whole (first ++ one) last None found c.args.tries.now c.args.tries.now c.visit-then-id-least.new.tries parts refl
-    (rows_passed rows (g.P.Past.history s.past.now) s.number (rule_view s.rule.now) s.place s.own p.level p.partners c.args.matching.now s.from s.quiet (gate_at (g.P.Past.history s.past.now) s p) x.atom (first ++ one) c.args.least c.args.tries.now (omega arith) under c.requires.bound c.requires.quiet)
-    (w x at rows shown))
+    (λ found w. (
+      λ x at rows shown.
+          walk_on rows (g.P.Past.history s.past.now) s.number (rule_view s.rule.now) s.place s.own p.level p.partners c.args.matching.now s.from s.quiet (gate_at (g.P.Past.history s.past.now) s p) x.atom whole (first ++ one) last false [] (if_found found c.visit-then-id-least.new.reached.partners) c.args.reached.now.tries c.args.reached.now.tries c.visit-then-id-least.new.reached.tries parts refl
+          (rows_passed rows (g.P.Past.history s.past.now) s.number (rule_view s.rule.now) s.place s.own p.level p.partners c.args.matching.now s.from s.quiet (gate_at (g.P.Past.history s.past.now) s p) x.atom (first ++ one) c.args.least c.args.reached.now.tries (omega arith) under c.requires.bound c.requires.quiet)
+          (w.0 x at rows shown),
+      w.1,
+    ))
     c.visit-then-id-least.ensures
 
-pub visit-returns-then-is_some : goal.visit-returns-then-is_some
-visit-returns-then-is_some g t c x at rows shown =
-    let s = c.args.self.now in
-    let p = c.args.prefix.now in
-    let m : Place × Row g.row.A.Denot = (c.in-Some.middle.key, c.in-Some.middle.value.now) in
-    let one : List semantics.Row = (m.0.id.0, row_atom m.1) ∷ [] in
-    let first : List semantics.Row = walk c.args.list.now c.in-Some.middle.before in
-    let last : List semantics.Row = walk c.args.list.now c.in-Some.middle.after in
-    let whole : List semantics.Row = walk c.args.list.now c.args.part.now in
-    let parts : whole ≡ first ++ (one ++ last) = part_equal c.args.list.now c.args.part.now c.in-Some.middle.before m c.in-Some.middle.after c.in-Some.ensures.some (sym c.cmp.ensures ∙ c.in-Equal.is) in
-    walk_found rows (g.P.Past.history s.past.now) s.number (rule_view s.rule.now) s.place s.own p.level p.partners c.args.matching.now s.from s.quiet (gate_at (g.P.Past.history s.past.now) s p) x.atom whole first (one ++ last) c.in_ok-found-in-Equal.found c.args.tries.now c.visit-in-Equal.new.tries parts (sym c.is_some.ensures ∙ c.if-is_some.true)
-    (c.in_ok-found-in-Equal.ensures x at rows shown)
+-- found before the middle
+pub visit-returns-then-branch : goal.visit-returns-then-branch
+visit-returns-then-branch g t c = (
+  λ x at rows shown.
+      let s = c.args.self.now in
+      let p = c.args.prefix.now in
+      let m : Place × Row g.row.A.Denot = (c.in-Some.middle.key.now, c.in-Some.middle.value.now) in
+      let one : List semantics.Row = (m.0.id.0, row_atom m.1) ∷ [] in
+      let first : List semantics.Row = walk c.args.list.now c.in-Some.middle.before in
+      let last : List semantics.Row = walk c.args.list.now c.in-Some.middle.after in
+      let whole : List semantics.Row = walk c.args.list.now c.args.part.now in
+      let parts : whole ≡ first ++ (one ++ last) = part_equal c.args.list.now c.args.part.now c.in-Some.middle.before m c.in-Some.middle.after c.in-Some.ensures.some (sym c.cmp.ensures ∙ c.in-Equal.is) in
+      walk_found rows (g.P.Past.history s.past.now) s.number (rule_view s.rule.now) s.place s.own p.level p.partners c.args.matching.now s.from s.quiet (gate_at (g.P.Past.history s.past.now) s p) x.atom whole first (one ++ last) c.in_ok-visit-in-Equal.field-0 c.visit-in-Equal.new.reached.partners c.args.reached.now.tries c.visit-in-Equal.new.reached.tries parts c.if-branch.true
+      (c.in_ok-visit-in-Equal.ensures.0 x at rows shown),
+  λ none. absurd (let no : true ≡ false = none in cc),
+)
 
-pub visit-returns-then-is_some-2 : goal.visit-returns-then-is_some-2
-visit-returns-then-is_some-2 g t c x at rows shown =
-    let s = c.args.self.now in
-    let p = c.args.prefix.now in
-    let m : Place × Row g.row.A.Denot = (c.in-Some.middle.key, c.in-Some.middle.value.now) in
-    let one : List semantics.Row = (m.0.id.0, row_atom m.1) ∷ [] in
-    let first : List semantics.Row = walk c.args.list.now c.in-Some.middle.before in
-    let last : List semantics.Row = walk c.args.list.now c.in-Some.middle.after in
-    let whole : List semantics.Row = walk c.args.list.now c.args.part.now in
-    let parts : whole ≡ first ++ (one ++ last) = part_equal c.args.list.now c.args.part.now c.in-Some.middle.before m c.in-Some.middle.after c.in-Some.ensures.some (sym c.cmp.ensures ∙ c.in-Equal.is) in
-    walk_on rows (g.P.Past.history s.past.now) s.number (rule_view s.rule.now) s.place s.own p.level p.partners c.args.matching.now s.from s.quiet (gate_at (g.P.Past.history s.past.now) s p) x.atom whole first (one ++ last) c.in_ok-found-in-Equal.found c.in_ok-found-in-Equal-2.found c.args.tries.now c.visit-in-Equal.new.tries c.try_row.new.tries parts (sym c.is_some.ensures ∙ c.if-is_some.false)
-    (c.in_ok-found-in-Equal.ensures x at rows shown)
-    (walk_found rows (g.P.Past.history s.past.now) s.number (rule_view s.rule.now) s.place s.own p.level p.partners c.args.matching.now s.from s.quiet (gate_at (g.P.Past.history s.past.now) s p) x.atom (one ++ last) one last c.in_ok-found-in-Equal-2.found c.visit-in-Equal.new.tries c.try_row.new.tries refl (sym c.is_some-in-Equal.ensures ∙ c.if-is_some-2.true)
-    (subst (λ (walked : List semantics.Row). WalkIs rows (g.P.Past.history s.past.now) s.number (rule_view s.rule.now) s.place s.own p.level p.partners c.args.matching.now s.from s.quiet (gate_at (g.P.Past.history s.past.now) s p) x.atom walked c.in_ok-found-in-Equal-2.found c.visit-in-Equal.new.tries c.try_row.new.tries) (ap (λ (r : Row g.row.A.Denot). (m.0.id.0, row_atom r) ∷ []) c.value.ensures) (c.in_ok-found-in-Equal-2.ensures x at rows shown)))
+-- at the middle
+pub visit-returns-then-branch-2 : goal.visit-returns-then-branch-2
+visit-returns-then-branch-2 g t c = (
+  λ x at rows shown.
+      let s = c.args.self.now in
+      let p = c.args.prefix.now in
+      let m : Place × Row g.row.A.Denot = (c.in-Some.middle.key.now, c.in-Some.middle.value.now) in
+      let one : List semantics.Row = (m.0.id.0, row_atom m.1) ∷ [] in
+      let first : List semantics.Row = walk c.args.list.now c.in-Some.middle.before in
+      let last : List semantics.Row = walk c.args.list.now c.in-Some.middle.after in
+      let whole : List semantics.Row = walk c.args.list.now c.args.part.now in
+      let parts : whole ≡ first ++ (one ++ last) = part_equal c.args.list.now c.args.part.now c.in-Some.middle.before m c.in-Some.middle.after c.in-Some.ensures.some (sym c.cmp.ensures ∙ c.in-Equal.is) in
+      let here : WalkIs rows (g.P.Past.history s.past.now) s.number (rule_view s.rule.now) s.place s.own p.level p.partners c.visit-in-Equal.new.matching s.from s.quiet (gate_at (g.P.Past.history s.past.now) s p) x.atom one (if_found c.in_ok-try_row-in-Equal.field-0 c.try_row.new.reached.partners) c.visit-in-Equal.new.reached.tries c.try_row.new.reached.tries =
+      subst (λ (walked : List semantics.Row). WalkIs rows (g.P.Past.history s.past.now) s.number (rule_view s.rule.now) s.place s.own p.level p.partners c.visit-in-Equal.new.matching s.from s.quiet (gate_at (g.P.Past.history s.past.now) s p) x.atom walked (if_found c.in_ok-try_row-in-Equal.field-0 c.try_row.new.reached.partners) c.visit-in-Equal.new.reached.tries c.try_row.new.reached.tries) (ap (λ (r : Row g.row.A.Denot). (m.0.id.0, row_atom r) ∷ []) c.value.ensures) (c.in_ok-try_row-in-Equal.ensures.0 x at rows shown) in
+      walk_on rows (g.P.Past.history s.past.now) s.number (rule_view s.rule.now) s.place s.own p.level p.partners c.args.matching.now s.from s.quiet (gate_at (g.P.Past.history s.past.now) s p) x.atom whole first (one ++ last) c.in_ok-visit-in-Equal.field-0 c.visit-in-Equal.new.reached.partners (Some c.try_row.new.reached.partners) c.args.reached.now.tries c.visit-in-Equal.new.reached.tries c.try_row.new.reached.tries parts c.if-branch.false
+      (c.in_ok-visit-in-Equal.ensures.0 x at rows shown)
+      (walk_same rows (g.P.Past.history s.past.now) s.number (rule_view s.rule.now) s.place s.own p.level p.partners c.visit-in-Equal.new.matching s.from s.quiet (gate_at (g.P.Past.history s.past.now) s p) x.atom c.args.matching.now (one ++ last) (Some c.try_row.new.reached.partners) c.visit-in-Equal.new.reached.tries c.try_row.new.reached.tries (c.in_ok-visit-in-Equal.ensures.1 c.if-branch.false)
+      (walk_found rows (g.P.Past.history s.past.now) s.number (rule_view s.rule.now) s.place s.own p.level p.partners c.visit-in-Equal.new.matching s.from s.quiet (gate_at (g.P.Past.history s.past.now) s p) x.atom (one ++ last) one last c.in_ok-try_row-in-Equal.field-0 c.try_row.new.reached.partners c.visit-in-Equal.new.reached.tries c.try_row.new.reached.tries refl c.if-branch-2.true here)),
+  λ none. absurd (let no : true ≡ false = none in cc),
+)
 
-pub visit-returns-else-is_some-2 : goal.visit-returns-else-is_some-2
-visit-returns-else-is_some-2 g t c =
+-- after it, or not at all
+pub visit-returns-else-branch-2 : goal.visit-returns-else-branch-2
+visit-returns-else-branch-2 g t c =
     let s = c.args.self.now in
     let p = c.args.prefix.now in
-    let m : Place × Row g.row.A.Denot = (c.in-Some.middle.key, c.in-Some.middle.value.now) in
+    let m : Place × Row g.row.A.Denot = (c.in-Some.middle.key.now, c.in-Some.middle.value.now) in
     let one : List semantics.Row = (m.0.id.0, row_atom m.1) ∷ [] in
     let first : List semantics.Row = walk c.args.list.now c.in-Some.middle.before in
     let last : List semantics.Row = walk c.args.list.now c.in-Some.middle.after in
     let whole : List semantics.Row = walk c.args.list.now c.args.part.now in
     let parts : whole ≡ first ++ (one ++ last) = part_equal c.args.list.now c.args.part.now c.in-Some.middle.before m c.in-Some.middle.after c.in-Some.ensures.some (sym c.cmp.ensures ∙ c.in-Equal.is) in
+    let first_same : IsSame c.args.matching.now c.visit-in-Equal.new.matching = c.in_ok-visit-in-Equal.ensures.1 c.if-branch.false in
+    let both_same : IsSame c.args.matching.now c.try_row.new.matching = λ y. c.in_ok-try_row-in-Equal.ensures.1 c.if-branch-2.false y ∙ first_same y in
     ok_more _ _ c.visit-in-Equal-2.result
-    (λ found w x at rows shown.
-    walk_on rows (g.P.Past.history s.past.now) s.number (rule_view s.rule.now) s.place s.own p.level p.partners c.args.matching.now s.from s.quiet (gate_at (g.P.Past.history s.past.now) s p) x.atom whole first (one ++ last) c.in_ok-found-in-Equal.found found c.args.tries.now c.visit-in-Equal.new.tries c.visit-in-Equal-2.new.tries parts (sym c.is_some.ensures ∙ c.if-is_some.false)
-    (c.in_ok-found-in-Equal.ensures x at rows shown)
-    (walk_on rows (g.P.Past.history s.past.now) s.number (rule_view s.rule.now) s.place s.own p.level p.partners c.args.matching.now s.from s.quiet (gate_at (g.P.Past.history s.past.now) s p) x.atom (one ++ last) one last c.in_ok-found-in-Equal-2.found found c.visit-in-Equal.new.tries c.try_row.new.tries c.visit-in-Equal-2.new.tries refl (sym c.is_some-in-Equal.ensures ∙ c.if-is_some-2.false)
-    (subst (λ (walked : List semantics.Row). WalkIs rows (g.P.Past.history s.past.now) s.number (rule_view s.rule.now) s.place s.own p.level p.partners c.args.matching.now s.from s.quiet (gate_at (g.P.Past.history s.past.now) s p) x.atom walked c.in_ok-found-in-Equal-2.found c.visit-in-Equal.new.tries c.try_row.new.tries) (ap (λ (r : Row g.row.A.Denot). (m.0.id.0, row_atom r) ∷ []) c.value.ensures) (c.in_ok-found-in-Equal-2.ensures x at rows shown))
-    (w x at rows shown)))
+    (λ found w. (
+      λ x at rows shown.
+          let here : WalkIs rows (g.P.Past.history s.past.now) s.number (rule_view s.rule.now) s.place s.own p.level p.partners c.visit-in-Equal.new.matching s.from s.quiet (gate_at (g.P.Past.history s.past.now) s p) x.atom one (if_found c.in_ok-try_row-in-Equal.field-0 c.try_row.new.reached.partners) c.visit-in-Equal.new.reached.tries c.try_row.new.reached.tries =
+          subst (λ (walked : List semantics.Row). WalkIs rows (g.P.Past.history s.past.now) s.number (rule_view s.rule.now) s.place s.own p.level p.partners c.visit-in-Equal.new.matching s.from s.quiet (gate_at (g.P.Past.history s.past.now) s p) x.atom walked (if_found c.in_ok-try_row-in-Equal.field-0 c.try_row.new.reached.partners) c.visit-in-Equal.new.reached.tries c.try_row.new.reached.tries) (ap (λ (r : Row g.row.A.Denot). (m.0.id.0, row_atom r) ∷ []) c.value.ensures) (c.in_ok-try_row-in-Equal.ensures.0 x at rows shown) in
+          walk_on rows (g.P.Past.history s.past.now) s.number (rule_view s.rule.now) s.place s.own p.level p.partners c.args.matching.now s.from s.quiet (gate_at (g.P.Past.history s.past.now) s p) x.atom whole first (one ++ last) c.in_ok-visit-in-Equal.field-0 c.visit-in-Equal.new.reached.partners (if_found found c.visit-in-Equal-2.new.reached.partners) c.args.reached.now.tries c.visit-in-Equal.new.reached.tries c.visit-in-Equal-2.new.reached.tries parts c.if-branch.false
+          (c.in_ok-visit-in-Equal.ensures.0 x at rows shown)
+          (walk_on rows (g.P.Past.history s.past.now) s.number (rule_view s.rule.now) s.place s.own p.level p.partners c.args.matching.now s.from s.quiet (gate_at (g.P.Past.history s.past.now) s p) x.atom (one ++ last) one last c.in_ok-try_row-in-Equal.field-0 c.try_row.new.reached.partners (if_found found c.visit-in-Equal-2.new.reached.partners) c.visit-in-Equal.new.reached.tries c.try_row.new.reached.tries c.visit-in-Equal-2.new.reached.tries refl c.if-branch-2.false
+          (walk_same rows (g.P.Past.history s.past.now) s.number (rule_view s.rule.now) s.place s.own p.level p.partners c.visit-in-Equal.new.matching s.from s.quiet (gate_at (g.P.Past.history s.past.now) s p) x.atom c.args.matching.now one (if_found c.in_ok-try_row-in-Equal.field-0 c.try_row.new.reached.partners) c.visit-in-Equal.new.reached.tries c.try_row.new.reached.tries first_same here)
+          (walk_same rows (g.P.Past.history s.past.now) s.number (rule_view s.rule.now) s.place s.own p.level p.partners c.try_row.new.matching s.from s.quiet (gate_at (g.P.Past.history s.past.now) s p) x.atom c.args.matching.now last (if_found found c.visit-in-Equal-2.new.reached.partners) c.try_row.new.reached.tries c.visit-in-Equal-2.new.reached.tries both_same (w.0 x at rows shown))),
+      λ none y. w.1 none y ∙ both_same y,
+    ))
     c.visit-in-Equal-2.ensures
-
-pub visit-visit-requires-in-Equal-2 : goal.visit-visit-requires-in-Equal-2
-visit-visit-requires-in-Equal-2 g t c κs within =
-    let smaller = after_shorter c.args.part.now c.in-Some.middle.before (c.in-Some.middle.key, c.in-Some.middle.value.now) c.in-Some.middle.after c.in-Some.ensures.some in
-    (omega (arith, smaller, c.decreases), (within.0, (within.1, ((omega arith), (c.requires.few, (c.requires.small, (c.requires.inside, (c.requires.bound, c.requires.quiet))))))))

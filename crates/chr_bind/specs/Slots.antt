@@ -1,0 +1,27 @@
+-- The slots of a match, and which of them count.
+use Rattle.std.specs.Prelude.{◌≡◌, ℕ, Bool, true, false, cond, List, Option, Some, None, is_some, slice_get}
+use Rattle.std.specs.Borrow.{Bor}
+use Rattle.chr_semantics.specs.Tree.{Tree}
+use Rattle.chr_term.specs.TermView.{view}
+use Rattle.chr_term.specs.declared.term.Term.{Term}
+
+abbrev pub slot_tree : {A : Type 0} → Option (Option (Bor (Term A))) → Option Tree
+slot_tree None = None
+slot_tree (Some None) = None
+slot_tree (Some (Some t)) = Some (view t.now)
+
+-- the tree in the slot of a variable, if there is one
+abbrev pub tree_at : {A : Type 0} → List (Option (Bor (Term A))) → ℕ → Option Tree
+tree_at slots x = slot_tree (slice_get slots x)
+
+abbrev pub mark_in : Option Bool → Bool
+mark_in None = false
+mark_in (Some b) = b
+
+-- the variable is marked
+abbrev pub is_marked : List Bool → ℕ → Bool
+is_marked marks x = mark_in (slice_get marks x)
+
+-- each slot that is marked has a tree
+abbrev pub AreFilled : {A : Type 0} → List Bool → List (Option (Bor (Term A))) → Type 0
+AreFilled marks slots = (x : ℕ) → is_marked marks x ≡ true → is_some (tree_at slots x) ≡ true
