@@ -15,7 +15,8 @@ matched_step : (b : Bool) (u t w : Tree) (o : Option Tree) → (o ≡ Some t →
 matched_step true u t w o f e = cc
 matched_step false u t w o f e = f e
 
-matched_value : (m : Subst) (x : ℕ) (t : Tree) → match_at m x ≡ Some t → value_at m x ≡ t
+-- what a variable is matched to is its value
+pub matched_value : (m : Subst) (x : ℕ) (t : Tree) → match_at m x ≡ Some t → value_at m x ≡ t
 matched_value [] x t e = cc
 matched_value (p ∷ m) x t e = matched_step (p.0 == x) p.1 t (value_at m x) (match_at m x) (matched_value m x t) e
 
@@ -23,7 +24,8 @@ free_step : (b : Bool) (u v w : Tree) (o : Option Tree) → (o ≡ None → w �
 free_step true u v w o f e = cc
 free_step false u v w o f e = f e
 
-free_value : (m : Subst) (x : ℕ) → match_at m x ≡ None → value_at m x ≡ var x
+-- the value of one that is not matched is itself
+pub free_value : (m : Subst) (x : ℕ) → match_at m x ≡ None → value_at m x ≡ var x
 free_value [] x e = refl
 free_value (p ∷ m) x e = free_step (p.0 == x) p.1 (var x) (value_at m x) (match_at m x) (free_value m x) e
 

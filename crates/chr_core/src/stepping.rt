@@ -2,7 +2,7 @@
 ghost use Rattle.std.specs.Prelude.{◌≡◌, ◌<◌, IfOk, OnErr, OnOk, vec_capacity, vec_len};
 ghost use Rattle.chr_find.specs.SnapshotView.{task_view};
 ghost use Rattle.chr_machine.specs.MachineView.{Steps};
-ghost use Rattle.chr_machine.specs.NeedView.{need, need_view, plain, search_of};
+ghost use Rattle.chr_machine.specs.NeedView.{need, plain, search_of};
 
 use crate::Memory;
 use crate::speculation::Core;
@@ -107,22 +107,8 @@ impl<'p, J: Run, A: Allocator + Copy> Core<'p, J, A> {
         ensures places { places_of self.new ≡ places_of self.old }
         ensures err { OnErr result (IsAsBefore self.old self.new) }
     {
-        let asked = self.machine.top();
-        self.step_asked(asked)
-    }
-
-    /// The same, where it is known what the step asks for.
-    pub fn step_asked(&mut self, asked: Need) -> Result<Stepped, Memory>
-        requires { need_view asked ≡ need (machine_in self.old) }
-        ensures machine { IfOk result (λ stepped. Steps stepped (machine_in self.old) (machine_in self.new)) }
-        ensures events { IfOk result
-            (λ stepped. events_of self.new ≡ stepped_events stepped (events_of self.old)) }
-        ensures query { query_of self.new ≡ query_of self.old }
-        ensures places { places_of self.new ≡ places_of self.old }
-        ensures err { OnErr result (IsAsBefore self.old self.new) }
-    {
         self.room_for_step()?;
-        match asked {
+        match self.machine.top() {
             Need::Ended => Ok(Stepped::Ended),
             Need::Plain => self.step_plain(),
             Need::Search(task) => match self.serving(task) {

@@ -163,10 +163,10 @@ impl<'p, J: Run, A: Allocator + Copy> Coordinator<'p, J, A> {
     {
         match self.core.machine().top() {
             Need::Ended => Ok(Stepped::Ended),
-            Need::Plain => self.core.step_asked(Need::Plain),
+            Need::Plain => self.core.step(),
             Need::Search(task) => {
                 self.prepare(rt, shelf, board, gate, task)?;
-                self.core.step_asked(Need::Search(task))
+                self.core.step()
             }
         }
     }
