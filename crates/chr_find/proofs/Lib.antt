@@ -8,6 +8,7 @@ pub mod FoundLaw
 pub mod FoundLists
 pub mod Gates
 pub mod GroundRows
+pub mod HeadFits
 pub mod Held
 pub mod JoinEnds
 pub mod JoinSteps
@@ -25,6 +26,7 @@ pub mod NotDead
 pub mod NoteSteps
 pub mod Numbers
 pub mod OwnFirst
+pub mod OwnJoins
 pub mod OwnRow
 pub mod OwnSearch
 pub mod PassedRows
@@ -45,5 +47,6 @@ pub mod TableShown
 pub mod TakenFirings
 pub mod TakenRows
 pub mod TakenSnapshots
+pub mod Visits
 pub mod Walk
 pub mod WalkParts

@@ -1,4 +1,4 @@
-use Rattle.std.proofs.Common.{◌≡◌, ◌∙◌, ◌<◌, ◌∷◌, ◌++◌, [], Bool, List, None, Some, ap, arith, false, length, refl, subst, sym, take, true, vec_len}
+use Rattle.std.proofs.Common.{◌≡◌, ◌∙◌, ◌<◌, ◌∷◌, ◌++◌, [], Bool, List, Some, ap, arith, false, length, refl, subst, sym, take, true, vec_len}
 use Rattle.std.proofs.lemmas.Bool.{eq-eqb, ne_eqb}
 use Rattle.chr_semantics.specs.Bounds.{AreBelow}
 use Rattle.chr_rules.specs.RuleView.{rule_view}
@@ -18,14 +18,15 @@ use Rattle.chr_find.specs.Places.{has_list}
 use Rattle.chr_find.specs.SearchIs.{WalkFinds, WalkLeads, gate_at, if_found}
 use Rattle.chr_bind.specs.Matching.{IsSame}
 use Rattle.chr_bind.proofs.Marked.{marks_covered}
-use Rattle.chr_find.specs.Shown.{AllUnder, walk}
+use Rattle.chr_find.specs.Shown.{walk}
+use Rattle.chr_find.proofs.HeadFits.{head_takes}
 use Rattle.chr_find.proofs.JoinEnds.{at_own, from_walk}
-use Rattle.chr_find.proofs.JoinSteps.{row_out, row_taken, walk_found, walk_none, walk_on, walk_same}
-use Rattle.chr_find.proofs.PassedRows.{rows_passed}
-use Rattle.chr_find.proofs.RuleHeads.{head_at, head_is, heads_length}
-use Rattle.chr_find.proofs.SearchParts.{after_shorter, head_there, join_longer, level_less, ok_more}
+use Rattle.chr_find.proofs.JoinSteps.{row_out, row_taken}
+use Rattle.chr_find.proofs.RuleHeads.{head_at, heads_length}
+use Rattle.chr_find.proofs.SearchParts.{head_there, join_longer, level_less, ok_more}
+use Rattle.chr_find.proofs.Visits.{finds_nothing, found_after, found_before, found_past, found_there}
 use Rattle.chr_find.proofs.Walk.{walk_shown}
-use Rattle.chr_find.proofs.WalkParts.{part_equal, part_greater, part_less, part_passed, part_under}
+use Rattle.chr_find.proofs.WalkParts.{part_greater, part_less}
 use Rattle.chr_find.proofs.join.Search.+join.Goals as goal
 
 pub join-returns-then-prefix-self : goal.join-returns-then-prefix-self
@@ -84,10 +85,8 @@ join_row-returns-then-takes g t c =
     ok_more _ _ c.join.result
     (λ found j. (
       λ x at rows shown.
-          let head : x.atom ≡ atom_view c.index-head.result.now.0 c.index-head.result.now.1.items = head_is s.rule.now.heads.items s.rule.now.passive.items p.level c.index-head.result.now x (omega (arith, c.requires.inside)) c.index-head.ensures at in
           let taken : TakesAs true (s.own ∷ take p.level p.partners) x.atom row c.args.matching.now c.takes.new.matching =
-          subst (λ (h : Atom). TakesAs true (s.own ∷ take p.level p.partners) h row c.args.matching.now c.takes.new.matching) (sym head)
-          (subst (λ (b : Bool). TakesAs b (s.own ∷ take p.level p.partners) (atom_view c.index-head.result.now.0 c.index-head.result.now.1.items) row c.args.matching.now c.takes.new.matching) c.if-takes.true c.takes.ensures.takes) in
+          head_takes s.rule.now.heads.items s.rule.now.passive.items p.level c.index-head.result.now x (omega (arith, c.requires.inside)) c.index-head.ensures at c.takes.result true c.if-takes.true c.args.matching.now c.takes.new.matching (s.own ∷ take p.level p.partners) row c.takes.ensures.takes in
           row_taken rows (g.P.Past.history s.past.now) s.number (rule_view s.rule.now) s.place s.own p.level p.partners c.args.matching.now s.from s.quiet (gate_at (g.P.Past.history s.past.now) s p) x.atom row c.longer.result.partners c.takes.new.matching (if_found found c.join.new.reached.partners) c.args.reached.now.tries c.join.new.reached.tries
           c.longer.ensures.partners taken
           (join_longer rows (g.P.Past.history s.past.now) s.number (rule_view s.rule.now) s.place s.own p.level c.longer.result.level c.longer.result.partners c.takes.new.matching s.from s.quiet c.longer.result.mode s.after.now _ (if_found found c.join.new.reached.partners) c.args.reached.now.tries c.join.new.reached.tries c.longer.ensures.level c.longer.ensures.gate (j.0 rows shown)),
@@ -101,10 +100,8 @@ join_row-returns-else-takes g t c = (
       let s = c.args.self.now in
       let p = c.args.prefix.now in
       let row : semantics.Row = (c.args.id, row_atom c.args.row.now) in
-      let head : x.atom ≡ atom_view c.index-head.result.now.0 c.index-head.result.now.1.items = head_is s.rule.now.heads.items s.rule.now.passive.items p.level c.index-head.result.now x (omega (arith, c.requires.inside)) c.index-head.ensures at in
       let out : TakesAs false (s.own ∷ take p.level p.partners) x.atom row c.args.matching.now c.takes.new.matching =
-      subst (λ (h : Atom). TakesAs false (s.own ∷ take p.level p.partners) h row c.args.matching.now c.takes.new.matching) (sym head)
-      (subst (λ (b : Bool). TakesAs b (s.own ∷ take p.level p.partners) (atom_view c.index-head.result.now.0 c.index-head.result.now.1.items) row c.args.matching.now c.takes.new.matching) c.if-takes.false c.takes.ensures.takes) in
+      head_takes s.rule.now.heads.items s.rule.now.passive.items p.level c.index-head.result.now x (omega (arith, c.requires.inside)) c.index-head.ensures at c.takes.result false c.if-takes.false c.args.matching.now c.takes.new.matching (s.own ∷ take p.level p.partners) row c.takes.ensures.takes in
       row_out rows (g.P.Past.history s.past.now) s.number (rule_view s.rule.now) s.place s.own p.level p.partners c.args.matching.now s.from s.quiet (gate_at (g.P.Past.history s.past.now) s p) x.atom row c.takes.new.matching c.args.reached.now.tries (omega arith) out,
   λ none. c.takes.ensures.kept,
 )
@@ -119,112 +116,71 @@ try_row-returns g t c = (
 )
 
 pub visit-returns-in-None : goal.visit-returns-in-None
-visit-returns-in-None g t c = (
-  λ x at rows shown.
-      let s = c.args.self.now in
-      let p = c.args.prefix.now in
-      subst (λ walked. WalkIs rows (g.P.Past.history s.past.now) s.number (rule_view s.rule.now) s.place s.own p.level p.partners c.args.matching.now s.from s.quiet (gate_at (g.P.Past.history s.past.now) s p) x.atom walked None c.args.reached.now.tries c.args.reached.now.tries) (sym (ap (walk c.args.list.now) c.in-None.ensures.none)) (walk_none rows (g.P.Past.history s.past.now) s.number (rule_view s.rule.now) s.place s.own p.level p.partners c.args.matching.now s.from s.quiet (gate_at (g.P.Past.history s.past.now) s p) x.atom c.args.reached.now.tries (omega arith)),
-  λ none x. refl,
-)
+visit-returns-in-None g t c =
+    let s = c.args.self.now in (
+      finds_nothing (g.P.Past.history s.past.now) s c.args.prefix.now c.args.matching.now (walk c.args.list.now c.args.part.now) c.args.reached.now.tries (ap (walk c.args.list.now) c.in-None.ensures.none) (omega arith),
+      λ none x. refl,
+    )
 
 pub visit-returns-in-Less : goal.visit-returns-in-Less
 visit-returns-in-Less g t c =
+    let s = c.args.self.now in
     let m : Place × Row g.row.A.Denot = (c.in-Some.middle.key.now, c.in-Some.middle.value.now) in
     let e = part_less c.args.list.now c.args.part.now c.in-Some.middle.before m c.in-Some.middle.after c.in-Some.ensures.some c.in-Some.ensures.ascending (sym c.cmp.ensures ∙ c.in-Less.is) in
     ok_more _ _ c.visit.result
-    (λ found w. subst (λ walked. WalkLeads (g.P.Past.history c.args.self.now.past.now) c.args.self.now c.args.prefix.now walked c.args.matching.now c.visit.new.matching c.args.reached.now c.visit.new.reached found) (sym e) w)
+    (λ found w. subst (λ walked. WalkLeads (g.P.Past.history s.past.now) s c.args.prefix.now walked c.args.matching.now c.visit.new.matching c.args.reached.now c.visit.new.reached found) (sym e) w)
     c.visit.ensures
 
 pub visit-returns-in-Greater : goal.visit-returns-in-Greater
 visit-returns-in-Greater g t c =
+    let s = c.args.self.now in
     let m : Place × Row g.row.A.Denot = (c.in-Some.middle.key.now, c.in-Some.middle.value.now) in
     let e = part_greater c.args.list.now c.args.part.now c.in-Some.middle.before m c.in-Some.middle.after c.in-Some.ensures.some c.in-Some.ensures.ascending (sym c.cmp.ensures ∙ c.in-Greater.is) in
     ok_more _ _ c.visit-in-Greater.result
-    (λ found w. subst (λ walked. WalkLeads (g.P.Past.history c.args.self.now.past.now) c.args.self.now c.args.prefix.now walked c.args.matching.now c.visit-in-Greater.new.matching c.args.reached.now c.visit-in-Greater.new.reached found) (sym e) w)
+    (λ found w. subst (λ walked. WalkLeads (g.P.Past.history s.past.now) s c.args.prefix.now walked c.args.matching.now c.visit-in-Greater.new.matching c.args.reached.now c.visit-in-Greater.new.reached found) (sym e) w)
     c.visit-in-Greater.ensures
 
 pub visit-returns-then-id-least : goal.visit-returns-then-id-least
 visit-returns-then-id-least g t c =
     let s = c.args.self.now in
-    let p = c.args.prefix.now in
-    let m : Place × Row g.row.A.Denot = (c.in-Some.middle.key.now, c.in-Some.middle.value.now) in
-    let one : List semantics.Row = (m.0.id.0, row_atom m.1) ∷ [] in
-    let first : List semantics.Row = walk c.args.list.now c.in-Some.middle.before in
-    let last : List semantics.Row = walk c.args.list.now c.in-Some.middle.after in
-    let whole : List semantics.Row = walk c.args.list.now c.args.part.now in
-    let parts : whole ≡ (first ++ one) ++ last = part_passed c.args.list.now c.args.part.now c.in-Some.middle.before m c.in-Some.middle.after c.in-Some.ensures.some (sym c.cmp.ensures ∙ c.in-Equal.is) in
-    let under : AllUnder c.args.least (first ++ one) = part_under c.args.list.now c.args.part.now c.in-Some.middle.before m c.in-Some.middle.after c.args.least c.in-Some.ensures.some c.in-Some.ensures.ascending (sym c.cmp.ensures ∙ c.in-Equal.is) c.if-id-least.true in
     ok_more _ _ c.visit-then-id-least.result
     (λ found w. (
-      λ x at rows shown.
-          walk_on rows (g.P.Past.history s.past.now) s.number (rule_view s.rule.now) s.place s.own p.level p.partners c.args.matching.now s.from s.quiet (gate_at (g.P.Past.history s.past.now) s p) x.atom whole (first ++ one) last false [] (if_found found c.visit-then-id-least.new.reached.partners) c.args.reached.now.tries c.args.reached.now.tries c.visit-then-id-least.new.reached.tries parts refl
-          (rows_passed rows (g.P.Past.history s.past.now) s.number (rule_view s.rule.now) s.place s.own p.level p.partners c.args.matching.now s.from s.quiet (gate_at (g.P.Past.history s.past.now) s p) x.atom (first ++ one) c.args.least c.args.reached.now.tries (omega arith) under c.requires.bound c.requires.quiet)
-          (w.0 x at rows shown),
+      found_past (g.P.Past.history s.past.now) s c.args.prefix.now c.args.list.now c.args.part.now c.in-Some.middle.before (c.in-Some.middle.key.now, c.in-Some.middle.value.now) c.in-Some.middle.after c.in-Some.ensures.some (sym c.cmp.ensures ∙ c.in-Equal.is)
+      c.args.matching.now c.args.least (if_found found c.visit-then-id-least.new.reached.partners) c.args.reached.now.tries c.visit-then-id-least.new.reached.tries c.in-Some.ensures.ascending c.if-id-least.true (omega arith) c.requires.bound c.requires.quiet w.0,
       w.1,
     ))
     c.visit-then-id-least.ensures
 
 -- found before the middle
 pub visit-returns-then-branch : goal.visit-returns-then-branch
-visit-returns-then-branch g t c = (
-  λ x at rows shown.
-      let s = c.args.self.now in
-      let p = c.args.prefix.now in
-      let m : Place × Row g.row.A.Denot = (c.in-Some.middle.key.now, c.in-Some.middle.value.now) in
-      let one : List semantics.Row = (m.0.id.0, row_atom m.1) ∷ [] in
-      let first : List semantics.Row = walk c.args.list.now c.in-Some.middle.before in
-      let last : List semantics.Row = walk c.args.list.now c.in-Some.middle.after in
-      let whole : List semantics.Row = walk c.args.list.now c.args.part.now in
-      let parts : whole ≡ first ++ (one ++ last) = part_equal c.args.list.now c.args.part.now c.in-Some.middle.before m c.in-Some.middle.after c.in-Some.ensures.some (sym c.cmp.ensures ∙ c.in-Equal.is) in
-      walk_found rows (g.P.Past.history s.past.now) s.number (rule_view s.rule.now) s.place s.own p.level p.partners c.args.matching.now s.from s.quiet (gate_at (g.P.Past.history s.past.now) s p) x.atom whole first (one ++ last) c.in_ok-visit-in-Equal.field-0 c.visit-in-Equal.new.reached.partners c.args.reached.now.tries c.visit-in-Equal.new.reached.tries parts c.if-branch.true
-      (c.in_ok-visit-in-Equal.ensures.0 x at rows shown),
-  λ none. absurd (let no : true ≡ false = none in cc),
-)
+visit-returns-then-branch g t c =
+    let s = c.args.self.now in (
+      found_before (g.P.Past.history s.past.now) s c.args.prefix.now c.args.list.now c.args.part.now c.in-Some.middle.before (c.in-Some.middle.key.now, c.in-Some.middle.value.now) c.in-Some.middle.after c.in-Some.ensures.some (sym c.cmp.ensures ∙ c.in-Equal.is)
+      c.args.matching.now c.in_ok-visit-in-Equal.field-0 c.visit-in-Equal.new.reached.partners c.args.reached.now.tries c.visit-in-Equal.new.reached.tries c.if-branch.true c.in_ok-visit-in-Equal.ensures.0,
+      λ none. absurd (let no : true ≡ false = none in cc),
+    )
 
 -- at the middle
 pub visit-returns-then-branch-2 : goal.visit-returns-then-branch-2
-visit-returns-then-branch-2 g t c = (
-  λ x at rows shown.
-      let s = c.args.self.now in
-      let p = c.args.prefix.now in
-      let m : Place × Row g.row.A.Denot = (c.in-Some.middle.key.now, c.in-Some.middle.value.now) in
-      let one : List semantics.Row = (m.0.id.0, row_atom m.1) ∷ [] in
-      let first : List semantics.Row = walk c.args.list.now c.in-Some.middle.before in
-      let last : List semantics.Row = walk c.args.list.now c.in-Some.middle.after in
-      let whole : List semantics.Row = walk c.args.list.now c.args.part.now in
-      let parts : whole ≡ first ++ (one ++ last) = part_equal c.args.list.now c.args.part.now c.in-Some.middle.before m c.in-Some.middle.after c.in-Some.ensures.some (sym c.cmp.ensures ∙ c.in-Equal.is) in
-      let here : WalkIs rows (g.P.Past.history s.past.now) s.number (rule_view s.rule.now) s.place s.own p.level p.partners c.visit-in-Equal.new.matching s.from s.quiet (gate_at (g.P.Past.history s.past.now) s p) x.atom one (if_found c.in_ok-try_row-in-Equal.field-0 c.try_row.new.reached.partners) c.visit-in-Equal.new.reached.tries c.try_row.new.reached.tries =
-      subst (λ (walked : List semantics.Row). WalkIs rows (g.P.Past.history s.past.now) s.number (rule_view s.rule.now) s.place s.own p.level p.partners c.visit-in-Equal.new.matching s.from s.quiet (gate_at (g.P.Past.history s.past.now) s p) x.atom walked (if_found c.in_ok-try_row-in-Equal.field-0 c.try_row.new.reached.partners) c.visit-in-Equal.new.reached.tries c.try_row.new.reached.tries) (ap (λ (r : Row g.row.A.Denot). (m.0.id.0, row_atom r) ∷ []) c.value.ensures) (c.in_ok-try_row-in-Equal.ensures.0 x at rows shown) in
-      walk_on rows (g.P.Past.history s.past.now) s.number (rule_view s.rule.now) s.place s.own p.level p.partners c.args.matching.now s.from s.quiet (gate_at (g.P.Past.history s.past.now) s p) x.atom whole first (one ++ last) c.in_ok-visit-in-Equal.field-0 c.visit-in-Equal.new.reached.partners (Some c.try_row.new.reached.partners) c.args.reached.now.tries c.visit-in-Equal.new.reached.tries c.try_row.new.reached.tries parts c.if-branch.false
-      (c.in_ok-visit-in-Equal.ensures.0 x at rows shown)
-      (walk_same rows (g.P.Past.history s.past.now) s.number (rule_view s.rule.now) s.place s.own p.level p.partners c.visit-in-Equal.new.matching s.from s.quiet (gate_at (g.P.Past.history s.past.now) s p) x.atom c.args.matching.now (one ++ last) (Some c.try_row.new.reached.partners) c.visit-in-Equal.new.reached.tries c.try_row.new.reached.tries (c.in_ok-visit-in-Equal.ensures.1 c.if-branch.false)
-      (walk_found rows (g.P.Past.history s.past.now) s.number (rule_view s.rule.now) s.place s.own p.level p.partners c.visit-in-Equal.new.matching s.from s.quiet (gate_at (g.P.Past.history s.past.now) s p) x.atom (one ++ last) one last c.in_ok-try_row-in-Equal.field-0 c.try_row.new.reached.partners c.visit-in-Equal.new.reached.tries c.try_row.new.reached.tries refl c.if-branch-2.true here)),
-  λ none. absurd (let no : true ≡ false = none in cc),
-)
+visit-returns-then-branch-2 g t c =
+    let s = c.args.self.now in (
+      found_there (g.P.Past.history s.past.now) s c.args.prefix.now c.args.list.now c.args.part.now c.in-Some.middle.before (c.in-Some.middle.key.now, c.in-Some.middle.value.now) c.in-Some.middle.after c.in-Some.ensures.some (sym c.cmp.ensures ∙ c.in-Equal.is)
+      c.args.matching.now c.visit-in-Equal.new.matching c.in_ok-visit-in-Equal.field-0 c.in_ok-try_row-in-Equal.field-0 c.visit-in-Equal.new.reached.partners c.try_row.new.reached.partners c.args.reached.now.tries c.visit-in-Equal.new.reached.tries c.try_row.new.reached.tries
+      c.value.result.now c.value.ensures c.if-branch.false c.if-branch-2.true c.in_ok-visit-in-Equal.ensures.0 (c.in_ok-visit-in-Equal.ensures.1 c.if-branch.false) c.in_ok-try_row-in-Equal.ensures.0,
+      λ none. absurd (let no : true ≡ false = none in cc),
+    )
 
 -- after it, or not at all
 pub visit-returns-else-branch-2 : goal.visit-returns-else-branch-2
 visit-returns-else-branch-2 g t c =
     let s = c.args.self.now in
-    let p = c.args.prefix.now in
-    let m : Place × Row g.row.A.Denot = (c.in-Some.middle.key.now, c.in-Some.middle.value.now) in
-    let one : List semantics.Row = (m.0.id.0, row_atom m.1) ∷ [] in
-    let first : List semantics.Row = walk c.args.list.now c.in-Some.middle.before in
-    let last : List semantics.Row = walk c.args.list.now c.in-Some.middle.after in
-    let whole : List semantics.Row = walk c.args.list.now c.args.part.now in
-    let parts : whole ≡ first ++ (one ++ last) = part_equal c.args.list.now c.args.part.now c.in-Some.middle.before m c.in-Some.middle.after c.in-Some.ensures.some (sym c.cmp.ensures ∙ c.in-Equal.is) in
-    let first_same : IsSame c.args.matching.now c.visit-in-Equal.new.matching = c.in_ok-visit-in-Equal.ensures.1 c.if-branch.false in
-    let both_same : IsSame c.args.matching.now c.try_row.new.matching = λ y. c.in_ok-try_row-in-Equal.ensures.1 c.if-branch-2.false y ∙ first_same y in
+    let same : IsSame c.args.matching.now c.visit-in-Equal.new.matching = c.in_ok-visit-in-Equal.ensures.1 c.if-branch.false in
+    let still : IsSame c.visit-in-Equal.new.matching c.try_row.new.matching = c.in_ok-try_row-in-Equal.ensures.1 c.if-branch-2.false in
     ok_more _ _ c.visit-in-Equal-2.result
     (λ found w. (
-      λ x at rows shown.
-          let here : WalkIs rows (g.P.Past.history s.past.now) s.number (rule_view s.rule.now) s.place s.own p.level p.partners c.visit-in-Equal.new.matching s.from s.quiet (gate_at (g.P.Past.history s.past.now) s p) x.atom one (if_found c.in_ok-try_row-in-Equal.field-0 c.try_row.new.reached.partners) c.visit-in-Equal.new.reached.tries c.try_row.new.reached.tries =
-          subst (λ (walked : List semantics.Row). WalkIs rows (g.P.Past.history s.past.now) s.number (rule_view s.rule.now) s.place s.own p.level p.partners c.visit-in-Equal.new.matching s.from s.quiet (gate_at (g.P.Past.history s.past.now) s p) x.atom walked (if_found c.in_ok-try_row-in-Equal.field-0 c.try_row.new.reached.partners) c.visit-in-Equal.new.reached.tries c.try_row.new.reached.tries) (ap (λ (r : Row g.row.A.Denot). (m.0.id.0, row_atom r) ∷ []) c.value.ensures) (c.in_ok-try_row-in-Equal.ensures.0 x at rows shown) in
-          walk_on rows (g.P.Past.history s.past.now) s.number (rule_view s.rule.now) s.place s.own p.level p.partners c.args.matching.now s.from s.quiet (gate_at (g.P.Past.history s.past.now) s p) x.atom whole first (one ++ last) c.in_ok-visit-in-Equal.field-0 c.visit-in-Equal.new.reached.partners (if_found found c.visit-in-Equal-2.new.reached.partners) c.args.reached.now.tries c.visit-in-Equal.new.reached.tries c.visit-in-Equal-2.new.reached.tries parts c.if-branch.false
-          (c.in_ok-visit-in-Equal.ensures.0 x at rows shown)
-          (walk_on rows (g.P.Past.history s.past.now) s.number (rule_view s.rule.now) s.place s.own p.level p.partners c.args.matching.now s.from s.quiet (gate_at (g.P.Past.history s.past.now) s p) x.atom (one ++ last) one last c.in_ok-try_row-in-Equal.field-0 c.try_row.new.reached.partners (if_found found c.visit-in-Equal-2.new.reached.partners) c.visit-in-Equal.new.reached.tries c.try_row.new.reached.tries c.visit-in-Equal-2.new.reached.tries refl c.if-branch-2.false
-          (walk_same rows (g.P.Past.history s.past.now) s.number (rule_view s.rule.now) s.place s.own p.level p.partners c.visit-in-Equal.new.matching s.from s.quiet (gate_at (g.P.Past.history s.past.now) s p) x.atom c.args.matching.now one (if_found c.in_ok-try_row-in-Equal.field-0 c.try_row.new.reached.partners) c.visit-in-Equal.new.reached.tries c.try_row.new.reached.tries first_same here)
-          (walk_same rows (g.P.Past.history s.past.now) s.number (rule_view s.rule.now) s.place s.own p.level p.partners c.try_row.new.matching s.from s.quiet (gate_at (g.P.Past.history s.past.now) s p) x.atom c.args.matching.now last (if_found found c.visit-in-Equal-2.new.reached.partners) c.try_row.new.reached.tries c.visit-in-Equal-2.new.reached.tries both_same (w.0 x at rows shown))),
-      λ none y. w.1 none y ∙ both_same y,
+      found_after (g.P.Past.history s.past.now) s c.args.prefix.now c.args.list.now c.args.part.now c.in-Some.middle.before (c.in-Some.middle.key.now, c.in-Some.middle.value.now) c.in-Some.middle.after c.in-Some.ensures.some (sym c.cmp.ensures ∙ c.in-Equal.is)
+      c.args.matching.now c.visit-in-Equal.new.matching c.try_row.new.matching c.in_ok-visit-in-Equal.field-0 c.in_ok-try_row-in-Equal.field-0 c.visit-in-Equal.new.reached.partners c.try_row.new.reached.partners (if_found found c.visit-in-Equal-2.new.reached.partners) c.args.reached.now.tries c.visit-in-Equal.new.reached.tries c.try_row.new.reached.tries c.visit-in-Equal-2.new.reached.tries
+      c.value.result.now c.value.ensures c.if-branch.false c.if-branch-2.false c.in_ok-visit-in-Equal.ensures.0 same c.in_ok-try_row-in-Equal.ensures.0 still w.0,
+      λ none x. w.1 none x ∙ (still x ∙ same x),
     ))
     c.visit-in-Equal-2.ensures
