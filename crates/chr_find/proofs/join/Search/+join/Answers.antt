@@ -146,7 +146,7 @@ visit-returns-then-id-least g t c =
     ok_more _ _ c.visit-then-id-least.result
     (λ found w. (
       found_past (g.P.Past.history s.past.now) s c.args.prefix.now c.args.list.now c.args.part.now c.in-Some.middle.before (c.in-Some.middle.key.now, c.in-Some.middle.value.now) c.in-Some.middle.after c.in-Some.ensures.some (sym c.cmp.ensures ∙ c.in-Equal.is)
-      c.args.matching.now c.args.least (if_found found c.visit-then-id-least.new.reached.partners) c.args.reached.now.tries c.visit-then-id-least.new.reached.tries c.in-Some.ensures.ascending c.if-id-least.true (omega arith) c.requires.bound c.requires.quiet w.0,
+          c.args.matching.now c.args.least (if_found found c.visit-then-id-least.new.reached.partners) c.args.reached.now.tries c.visit-then-id-least.new.reached.tries c.in-Some.ensures.ascending c.if-id-least.true (omega arith) c.requires.bound c.requires.quiet w.0,
       w.1,
     ))
     c.visit-then-id-least.ensures
@@ -156,7 +156,7 @@ pub visit-returns-then-branch : goal.visit-returns-then-branch
 visit-returns-then-branch g t c =
     let s = c.args.self.now in (
       found_before (g.P.Past.history s.past.now) s c.args.prefix.now c.args.list.now c.args.part.now c.in-Some.middle.before (c.in-Some.middle.key.now, c.in-Some.middle.value.now) c.in-Some.middle.after c.in-Some.ensures.some (sym c.cmp.ensures ∙ c.in-Equal.is)
-      c.args.matching.now c.in_ok-visit-in-Equal.field-0 c.visit-in-Equal.new.reached.partners c.args.reached.now.tries c.visit-in-Equal.new.reached.tries c.if-branch.true c.in_ok-visit-in-Equal.ensures.0,
+          c.args.matching.now c.in_ok-visit-in-Equal.field-0 c.visit-in-Equal.new.reached.partners c.args.reached.now.tries c.visit-in-Equal.new.reached.tries c.if-branch.true c.in_ok-visit-in-Equal.ensures.0,
       λ none. absurd (let no : true ≡ false = none in cc),
     )
 
@@ -165,8 +165,8 @@ pub visit-returns-then-branch-2 : goal.visit-returns-then-branch-2
 visit-returns-then-branch-2 g t c =
     let s = c.args.self.now in (
       found_there (g.P.Past.history s.past.now) s c.args.prefix.now c.args.list.now c.args.part.now c.in-Some.middle.before (c.in-Some.middle.key.now, c.in-Some.middle.value.now) c.in-Some.middle.after c.in-Some.ensures.some (sym c.cmp.ensures ∙ c.in-Equal.is)
-      c.args.matching.now c.visit-in-Equal.new.matching c.in_ok-visit-in-Equal.field-0 c.in_ok-try_row-in-Equal.field-0 c.visit-in-Equal.new.reached.partners c.try_row.new.reached.partners c.args.reached.now.tries c.visit-in-Equal.new.reached.tries c.try_row.new.reached.tries
-      c.value.result.now c.value.ensures c.if-branch.false c.if-branch-2.true c.in_ok-visit-in-Equal.ensures.0 (c.in_ok-visit-in-Equal.ensures.1 c.if-branch.false) c.in_ok-try_row-in-Equal.ensures.0,
+          c.args.matching.now c.visit-in-Equal.new.matching c.in_ok-visit-in-Equal.field-0 c.in_ok-try_row-in-Equal.field-0 c.visit-in-Equal.new.reached.partners c.try_row.new.reached.partners c.args.reached.now.tries c.visit-in-Equal.new.reached.tries c.try_row.new.reached.tries
+          c.value.result.now c.value.ensures c.if-branch.false c.if-branch-2.true c.in_ok-visit-in-Equal.ensures.0 (c.in_ok-visit-in-Equal.ensures.1 c.if-branch.false) c.in_ok-try_row-in-Equal.ensures.0,
       λ none. absurd (let no : true ≡ false = none in cc),
     )
 
@@ -179,8 +179,8 @@ visit-returns-else-branch-2 g t c =
     ok_more _ _ c.visit-in-Equal-2.result
     (λ found w. (
       found_after (g.P.Past.history s.past.now) s c.args.prefix.now c.args.list.now c.args.part.now c.in-Some.middle.before (c.in-Some.middle.key.now, c.in-Some.middle.value.now) c.in-Some.middle.after c.in-Some.ensures.some (sym c.cmp.ensures ∙ c.in-Equal.is)
-      c.args.matching.now c.visit-in-Equal.new.matching c.try_row.new.matching c.in_ok-visit-in-Equal.field-0 c.in_ok-try_row-in-Equal.field-0 c.visit-in-Equal.new.reached.partners c.try_row.new.reached.partners (if_found found c.visit-in-Equal-2.new.reached.partners) c.args.reached.now.tries c.visit-in-Equal.new.reached.tries c.try_row.new.reached.tries c.visit-in-Equal-2.new.reached.tries
-      c.value.result.now c.value.ensures c.if-branch.false c.if-branch-2.false c.in_ok-visit-in-Equal.ensures.0 same c.in_ok-try_row-in-Equal.ensures.0 still w.0,
+          c.args.matching.now c.visit-in-Equal.new.matching c.try_row.new.matching c.in_ok-visit-in-Equal.field-0 c.in_ok-try_row-in-Equal.field-0 c.visit-in-Equal.new.reached.partners c.try_row.new.reached.partners (if_found found c.visit-in-Equal-2.new.reached.partners) c.args.reached.now.tries c.visit-in-Equal.new.reached.tries c.try_row.new.reached.tries c.visit-in-Equal-2.new.reached.tries
+          c.value.result.now c.value.ensures c.if-branch.false c.if-branch-2.false c.in_ok-visit-in-Equal.ensures.0 same c.in_ok-try_row-in-Equal.ensures.0 still w.0,
       λ none x. w.1 none x ∙ (still x ∙ same x),
     ))
     c.visit-in-Equal-2.ensures
