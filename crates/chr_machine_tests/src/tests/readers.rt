@@ -1,4 +1,4 @@
-//! What a machine shows, on values that the specification gives.
+//! What a machine shows, on the worked examples.
 use super::acts::{Act, Seen, play};
 use super::*;
 

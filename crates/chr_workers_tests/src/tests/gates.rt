@@ -201,7 +201,7 @@ impl Gate for Hold {
     }
 }
 
-/// With two workers that are held so, the run gives the text of the page, and its schedule leads to it.
+/// With two workers that are held so, the run gives the text of one thread, and its schedule leads to it.
 fn assert_gated<A: Allocator + Copy + Send + Sync, R: Threads + Wait + Abort + Sync>(
     rt: &R,
     alloc: A,
