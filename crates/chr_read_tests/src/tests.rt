@@ -1,62 +1,115 @@
-use chr_read::*;
-use shown::{shown_program, shown_query};
+use chr_read::{ReadError, ReadErrorKind, read_program, read_query};
+use refusing_alloc::{Refusing, refused_in_turn};
 use std::alloc::{Allocator, Global};
 use std::process::Abort;
 use std::test::Fail;
 
-mod errors;
-mod growths;
-mod places;
-mod readings;
-mod shown;
-mod sizes;
+/// More than a call that is refused in turn asks for.
+const MOST: u64 = 1000;
 
-fn program(alloc: Global, text: &[u8]) -> Result<String, Memory> {
-    shown_program(alloc, &read_program(alloc, text))
+/// Two directives, a declaration and two rules, with each production of the grammar that takes memory.
+const PROGRAM: &str = ":- module(m, [p/1, q/2]). :- use_module(library(chr)).
+:- chr_constraint p/1, q/2.
+rule @ p(X) # passive, q(X, -1) \\ q([a, b | T], [Y]) <=> X + 1 - Y > 2 * (3 mod 4), true | Z is X // Y, p([]).
+p(_) ==> true.";
+
+/// Three items.
+const QUERY: &str = "X = f(a, -1, [b, Y | _], [], [c]), 1 + 2 - 3 * (4 // 5 mod Z) =< W, true.";
+
+/// What is answered where a growth was refused.
+const REFUSED: ReadError = ReadError {
+    kind: ReadErrorKind::Memory,
+    line: 0,
+    column: 0,
+};
+
+/// Whether `read_program` goes through with so many growths.
+///
+/// For any allocator, here and below: proofs for the meter as the allocator would take much longer.
+fn is_program_read<M: Allocator + Copy>(
+    rt: &impl Abort,
+    alloc: M,
+    meter: &Refusing<Global>,
+    left: u64,
+) -> bool {
+    meter.allow(left);
+    let answer = read_program(alloc, PROGRAM.as_bytes());
+    assert_eq!(rt; meter.asked() > left, answer.is_err(), "{left}");
+    match answer {
+        Ok(program) => {
+            assert_eq!(rt; program.parts.len(), 5);
+            true
+        }
+        Err(error) => {
+            assert_eq!(rt; error, REFUSED);
+            false
+        }
+    }
 }
 
-fn query(alloc: Global, text: &[u8]) -> Result<String, Memory> {
-    shown_query(alloc, &read_query(alloc, text))
+/// The same of `read_query`.
+fn is_query_read<M: Allocator + Copy>(
+    rt: &impl Abort,
+    alloc: M,
+    meter: &Refusing<Global>,
+    left: u64,
+) -> bool {
+    meter.allow(left);
+    let answer = read_query(alloc, QUERY.as_bytes());
+    assert_eq!(rt; meter.asked() > left, answer.is_err(), "{left}");
+    match answer {
+        Ok(query) => {
+            assert_eq!(rt; query.items.len(), 3);
+            true
+        }
+        Err(error) => {
+            assert_eq!(rt; error, REFUSED);
+            false
+        }
+    }
 }
 
-/// Whether each program is read, or refused, as what stands beside it says.
-fn programs(rt: &impl Abort, alloc: Global, table: &[(&str, &str)]) -> Result<(), Memory> {
-    for (text, wanted) in table {
-        let found = program(alloc, text.as_bytes())?;
-        assert_eq!(rt; found.as_str(), *wanted, "{text}");
+#[test]
+fn want_of_memory(rt: HostRuntime) -> Result<(), Fail> {
+    let meter = Refusing::new(rt.alloc(), 0);
+    let refused = refused_in_turn(MOST, |left| -> Result<bool, Fail> {
+        Ok(is_program_read(&rt, &meter, &meter, left))
+    })?;
+    assert!(&rt; refused > 0 && refused < MOST, "{refused}");
+    let refused = refused_in_turn(MOST, |left| -> Result<bool, Fail> {
+        Ok(is_query_read(&rt, &meter, &meter, left))
+    })?;
+    assert!(&rt; refused > 0 && refused < MOST, "{refused}");
+    Ok(())
+}
+
+/// Queries of one character so many times, each with its answer and the column in line 1, if it has a place.
+#[test]
+fn hostile_texts(rt: HostRuntime) -> Result<(), Fail> {
+    for (byte, count, kind, column) in [
+        (b' ', 1_048_577, ReadErrorKind::TooLong, 0),
+        (b'(', 1_048_576, ReadErrorKind::TooDeep, 257),
+        (b'[', 1_048_576, ReadErrorKind::TooDeep, 257),
+        (b'%', 1_048_576, ReadErrorKind::Expected, 1_048_577),
+    ] {
+        let text = vec![in rt.alloc(); byte; count]?;
+        let line = u64::from(column > 0);
+        let error = ReadError { kind, line, column };
+        assert_eq!(&rt; read_query(rt.alloc(), &text).err(), Some(error), "{count}");
     }
     Ok(())
 }
 
-/// The same of queries.
-fn queries(rt: &impl Abort, alloc: Global, table: &[(&str, &str)]) -> Result<(), Memory> {
-    for (text, wanted) in table {
-        let found = query(alloc, text.as_bytes())?;
-        assert_eq!(rt; found.as_str(), *wanted, "{text}");
+/// Programs and queries as long as a text may be: one comment, and as many goals as there can be.
+#[test]
+fn longest_texts(rt: HostRuntime) -> Result<(), Fail> {
+    let text = vec![in rt.alloc(); b'%'; 1_048_576]?;
+    assert!(&rt; read_program(rt.alloc(), &text).is_ok_and(|program| program.parts.is_empty()));
+    let mut text = Vec::new(rt.alloc());
+    for _ in 0..524_287u32 {
+        text.extend_from_slice(b"p,")?;
     }
+    text.extend_from_slice(b"p.")?;
+    assert!(&rt; read_query(rt.alloc(), &text).is_ok_and(|query| query.items.len() == 524_288));
     Ok(())
-}
-
-/// So many pieces after a text.
-fn repeated(text: &mut Vec<u8>, piece: &str, count: u64) -> Result<(), Memory> {
-    for _ in 0..count {
-        text.extend_from_slice(piece.as_bytes())?;
-    }
-    Ok(())
-}
-
-/// A text, so many pieces, a middle, so many other pieces, and an end.
-fn framed(
-    alloc: Global,
-    (start, middle, end): (&str, &str, &str),
-    (piece, count): (&str, u64),
-    (other, times): (&str, u64),
-) -> Result<Vec<u8>, Memory> {
-    let mut text = Vec::new(alloc);
-    text.extend_from_slice(start.as_bytes())?;
-    repeated(&mut text, piece, count)?;
-    text.extend_from_slice(middle.as_bytes())?;
-    repeated(&mut text, other, times)?;
-    text.extend_from_slice(end.as_bytes())?;
-    Ok(text)
 }

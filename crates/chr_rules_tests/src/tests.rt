@@ -1,126 +1,63 @@
 use chr_read::{read_program, read_query};
 use chr_rules::*;
-use chr_term::Memory;
-use chr_texts::{both_of, program_of, query_of};
+use chr_term::{Memory, Sym, Term};
+use chr_texts::{both_of, program_of};
 use refusing_alloc::{Refusing, refused_in_turn};
-use shown::{shown_goals, shown_rules};
 use std::alloc::{Allocator, Global};
 use std::process::Abort;
 use std::test::Fail;
 
-mod errors;
-mod growths;
-mod limits;
-mod meanings;
-mod mistakes;
-mod printing;
-mod shown;
+mod refusals;
 mod sizes;
 
-/// What a text is as a program.
-fn program(alloc: Global, text: &str) -> Result<String, Memory> {
-    match program_of(alloc, text) {
-        Ok(program) => shown_rules(alloc, alloc, &program),
-        Err(mistake) => Ok(format!(in alloc; "{mistake}")?),
+/// A rule with something of each kind, and a query over it.
+const PROGRAM: &str = ":- chr_constraint p/1, q/2.
+r @ p(X) # passive, q(X,_) \\ p([a|T]) <=> X+1 > 2, integer(T) | Z is X//T, p(f(Z)), fail.";
+
+const QUERY: &str = "p(1), p(2), X = [Y,new|X], fail.";
+
+/// `p` and `q` of `PROGRAM`: the first symbols after the seven that each program has.
+const P: Sym = Sym(7);
+
+const Q: Sym = Sym(8);
+
+/// What the program `PROGRAM` shows.
+fn assert_program<A: Allocator>(rt: &impl Abort, program: &Program<A>) {
+    assert_eq!(rt; program.names().find("q", 2), Some(Q));
+    assert_eq!(rt; program.rules(), 1);
+    let rule = program.rule(0);
+    assert_eq!(rt; rule.label.as_str(), "r");
+    assert_eq!(rt; (rule.kept, rule.heads.len(), rule.vars), (2, 3, 4));
+    assert_eq!(rt; (rule.guard.len(), rule.body.len()), (2, 3));
+    assert_eq!(rt; rule.passive.as_slice(), [true, false, false].as_slice());
+    for (sym, place) in [(P, 2), (Q, 1)] {
+        assert_eq!(rt;
+            program.occurrences(sym),
+            [Occurrence { rule: 0, place }].as_slice()
+        );
     }
 }
 
-/// What a text is as a query over a program.
-fn query(alloc: Global, program: &mut Program, text: &str) -> Result<String, Memory> {
-    match query_of(alloc, program, text) {
-        Ok(query) => shown_goals(alloc, program.names(), &query),
-        Err(mistake) => Ok(format!(in alloc; "{mistake}")?),
+/// Whether a goal is `p` over a number.
+fn is_p<A: Allocator>(goal: Option<&Goal<A>>, number: i128) -> bool {
+    match goal {
+        Some(Goal::Chr(P, args)) => matches!(args.as_slice(), [Term::Int(only)] if *only == number),
+        _ => false,
     }
 }
 
-/// Whether each program, after a first line, is what stands beside it.
-fn programs(
-    rt: &impl Abort,
-    alloc: Global,
-    before: &str,
-    table: &[(&str, &str)],
-) -> Result<(), Memory> {
-    for (text, wanted) in table {
-        let whole = format!(in alloc; "{before}\n{text}")?;
-        let found = program(alloc, &whole)?;
-        assert_eq!(rt; found.as_str(), *wanted, "{text}");
-    }
+/// The first two goals of a query are p(1) and p(2), and there are so many, with so many variables.
+fn assert_query<A: Allocator>(rt: &impl Abort, query: &Query<A>, goals: usize, vars: usize) {
+    assert!(rt; is_p(query.goals.get(0), 1) && is_p(query.goals.get(1), 2));
+    assert_eq!(rt; (query.goals.len(), query.var_names.len()), (goals, vars));
+}
+
+/// Each call with ample memory.
+#[test]
+fn query_calls(rt: HostRuntime) -> Result<(), Fail> {
+    let (program, query) = both_of(rt.alloc(), PROGRAM, "p(1), p(2).")?;
+    assert_program(&rt, &program);
+    assert_query(&rt, &query, 2, 0);
+    assert_query(&rt, &query.copy()?, 2, 0);
     Ok(())
-}
-
-/// Whether each query over the same program is what stands beside it.
-fn queries(
-    rt: &impl Abort,
-    alloc: Global,
-    program: &mut Program,
-    table: &[(&str, &str)],
-) -> Result<(), Memory> {
-    for (text, wanted) in table {
-        let found = query(alloc, program, text)?;
-        assert_eq!(rt; found.as_str(), *wanted, "{text}");
-    }
-    Ok(())
-}
-
-/// A start, so many pieces, each with its number after it and then a comma but the last, and an end.
-fn series(
-    alloc: Global,
-    start: &str,
-    (piece, count): (&str, u64),
-    end: &str,
-) -> Result<String, Memory> {
-    let mut text = String::from_str(alloc, start)?;
-    for number in 0..count {
-        if number > 0 {
-            text.push_str(",")?;
-        }
-        text.push_str(&format!(in alloc; "{piece}{number}")?)?;
-    }
-    text.push_str(end)?;
-    Ok(text)
-}
-
-/// A start, so many times a piece, and an end.
-fn repeated(
-    alloc: Global,
-    start: &str,
-    (piece, count): (&str, u64),
-    end: &str,
-) -> Result<String, Memory> {
-    let mut text = String::from_str(alloc, start)?;
-    for _ in 0..count {
-        text.push_str(piece)?;
-    }
-    text.push_str(end)?;
-    Ok(text)
-}
-
-/// The declarations before most rules.
-const FIRST: &str = ":- chr_constraint p/0, q/0, r/0, t/1.";
-
-/// The same, the first rules of 1,025, each on its line, and the last one.
-fn many_rules(alloc: Global, last: &str) -> Result<String, Memory> {
-    let start = format!(in alloc; "{FIRST}\n")?;
-    repeated(alloc, &start, ("p <=> true.\n", 1024), last)
-}
-
-/// One text as a program.
-fn is_program(rt: &impl Abort, alloc: Global, text: &str, wanted: &str) -> Result<(), Memory> {
-    let found = program(alloc, text)?;
-    assert_eq!(rt; found.as_str(), wanted, "{text}");
-    Ok(())
-}
-
-/// As many growths as are wanted.
-const ENOUGH: u64 = 1_000_000_000;
-
-/// Whether a growth was refused since so many were allowed. It is the last that was asked for then, and none is left.
-fn is_refused(rt: &impl Abort, memory: &Refusing<Global>, left: u64) -> bool {
-    let asked = memory.asked();
-    if asked <= left {
-        return false;
-    }
-    assert_eq!(rt; asked, left.saturating_add(1), "{left}");
-    assert_eq!(rt; memory.left(), 0, "{left}");
-    true
 }

@@ -1,5 +1,4 @@
-//! The tests of `chr_run`, over its public calls. They are a crate of their own, so that a check of them
-//! does not prove `chr_run` again.
+//! The tests of `chr_run`, over its public calls. They are a crate of their own, so that a check of them does not prove `chr_run` again.
 #![tactic(auto)]
 
 #[cfg(test)]

@@ -1,29 +1,33 @@
+//! What the tests share.
+ghost use Rattle.chr_rules.specs.RuleView.{query_view};
+ghost use Rattle.chr_semantics.specs.Bounds.{IsQueryBounded};
+
+use chr_core::{Counts, Event, Outcome, ReplayError, replay};
 use chr_machine::Status;
-use chr_read::{ReadError, ReadErrorKind};
-use chr_rules::{RuleError, RuleErrorKind};
+use chr_rules::{Program, Query};
 use chr_run::*;
-use chr_term::Memory;
-use chr_worked::{GCD, GROUND_RULE, SPECULATION, Worked};
-use refusing_alloc::{Refusing, refused_in_turn};
+use chr_texts::{GCD, GROUND_RULE, SPECULATION, Worked, both_of};
+use refusing_alloc::{Refusing, Turn, refused_in_turn};
 use std::alloc::{Allocator, Global};
-use std::io::{Error, ErrorKind, Read, Write};
+use std::io::{Error, ErrorKind, Write};
 use std::process::Abort;
 use std::sync::Wait;
 use std::test::Fail;
 use std::thread::Threads;
 
-mod depth;
-mod lines;
+mod gates;
+mod inputs;
+mod marks;
 mod refusals;
-mod replays;
-mod words;
-mod writes;
+mod runs;
+mod texts;
 
-const EXAMPLES: [Worked; 3] = [GROUND_RULE, GCD, SPECULATION];
+/// More transitions than an example makes.
+const AMPLE: u64 = 100;
 
 /// Keeps what is written. It takes at most `step` bytes at a call, and fails once `calls` of them were made.
 #[derive(Drop)]
-pub struct Sink {
+struct Sink {
     text: Vec<u8>,
     step: usize,
     calls: u64,
@@ -36,11 +40,6 @@ impl Sink {
             step,
             calls,
         }
-    }
-
-    /// A sink that takes all.
-    fn open(alloc: Global) -> Sink {
-        Sink::new(alloc, usize::MAX, u64::MAX)
     }
 }
 
@@ -60,136 +59,96 @@ impl Write for Sink {
     }
 }
 
-/// Gives a text, at most `step` bytes at a call, and fails once `calls` of them were made.
+/// A gate that holds nobody.
 #[derive(Drop)]
-pub struct Source<'t> {
-    text: &'t [u8],
-    step: usize,
-    calls: u64,
+struct Open;
+
+impl Gate for Open {
+    fn at(&self, _point: Point) {}
 }
 
-impl Read for Source<'_> {
-    fn read(&mut self, buf: &mut [u8]) -> std::io::Result<usize> {
-        if self.calls == 0 {
-            return Err(Error::from(ErrorKind::Other));
-        }
-        self.calls -= 1;
-        let count = buf.len().min(self.step).min(self.text.len());
-        let (front, back) = self.text.split_at(count);
-        buf[..count].copy_from_slice(front);
-        self.text = back;
-        Ok(count)
-    }
+/// `run`, with no clause, so that a proof of a test does not follow the run.
+fn made<A: Allocator + Copy + Send + Sync, G: Gate, R: Threads + Wait + Sync>(
+    rt: &R,
+    alloc: A,
+    program: &Program<A>,
+    query: Query<A>,
+    n: u64,
+    workers: u32,
+    gate: &G,
+) -> Result<Run<A>, RunError>
+    requires { IsQueryBounded (query_view query) }
+{
+    run(rt, alloc, program, query, n, workers, gate)
 }
 
-/// Gives spaces without an end.
-#[derive(Drop)]
-struct Endless;
-
-impl Read for Endless {
-    fn read(&mut self, buf: &mut [u8]) -> std::io::Result<usize> {
-        let count = buf.len().min(1);
-        buf[..count].fill(b' ');
-        Ok(count)
-    }
+/// `replay`, with no clause.
+fn replayed<A: Allocator + Copy>(
+    rt: &impl Wait,
+    alloc: A,
+    program: &Program<A>,
+    query: Query<A>,
+    events: &[Event],
+) -> Result<(Outcome<A>, Counts), ReplayError>
+    requires { IsQueryBounded (query_view query) }
+{
+    replay(rt, alloc, program, query, events)
 }
 
-/// How the run of an example ended, or why it was refused.
-fn run_example<A: Allocator + Copy + Send + Sync, R: Threads + Wait + Sync>(
+/// The text of an outcome under its program is that of the example.
+fn assert_text<A: Allocator + Copy>(
+    rt: &impl Abort,
+    alloc: A,
+    example: Worked,
+    program: &Program<A>,
+    outcome: &Outcome<A>,
+) -> Result<(), Fail> {
+    let mut text = Vec::new(alloc);
+    outcome.text(program, &mut text)?;
+    assert_eq!(rt;
+        text.as_slice(),
+        example.text.as_bytes(),
+        "{}",
+        example.query
+    );
+    Ok(())
+}
+
+/// A run of an example to its end, whose text is that of the example.
+fn run_of<A: Allocator + Copy + Send + Sync, G: Gate, R: Threads + Wait + Abort + Sync>(
     rt: &R,
     alloc: A,
     example: Worked,
-    sink: &mut Sink,
-) -> Result<Status, TextError> {
-    let (program, query) = (example.program.as_bytes(), example.query.as_bytes());
-    let run = run_text(rt, alloc, program, query, 100, 0, sink)?;
-    Ok(run.outcome.status)
+    workers: u32,
+    gate: &G,
+) -> Result<Run<A>, Fail> {
+    let (program, query) = both_of(alloc, example.program, example.query)?;
+    let run = made(rt, alloc, &program, query, AMPLE, workers, gate)?;
+    assert_text(rt, alloc, example, &program, &run.outcome)?;
+    Ok(run)
 }
 
-/// The whole text of a run to its end.
-fn text_of<R: Threads + Wait + Abort + Sync>(alloc: Global, rt: &R, example: Worked) -> Vec<u8> {
-    let mut sink = Sink::open(alloc);
-    let answer = run_example(rt, alloc, example, &mut sink);
-    assert_eq!(rt; answer, Ok(Status::Done), "{}", example.query);
-    sink.text
+/// The outcome and the counts of a schedule of an example, with its program.
+fn replay_of<A: Allocator + Copy>(
+    rt: &impl Wait,
+    alloc: A,
+    example: Worked,
+    events: &[Event],
+) -> Result<(Program<A>, Outcome<A>, Counts), Fail> {
+    let (program, query) = both_of(alloc, example.program, example.query)?;
+    let (outcome, counts) = replayed(rt, alloc, &program, query, events)?;
+    Ok((program, outcome, counts))
 }
 
-fn lines_in(text: &[u8]) -> usize {
-    text.iter().filter(|c| **c == b'\n').count()
-}
-
-/// The texts are refused so, with this budget and so many workers, and nothing goes out.
-fn refuses<R: Threads + Wait + Abort + Sync>(
-    alloc: Global,
-    rt: &R,
-    (program, query): (&str, &str),
-    (budget, workers): (u64, u32),
-    error: TextError,
-) {
-    let (program, query) = (program.as_bytes(), query.as_bytes());
-    let mut sink = Sink::open(alloc);
-    let answer = run_text(rt, alloc, program, query, budget, workers, &mut sink);
-    assert_eq!(rt; answer.err(), Some(error));
-    assert!(rt; sink.text.is_empty());
-}
-
-fn unread(kind: ReadErrorKind, line: u64, column: u64) -> ReadError {
-    ReadError { kind, line, column }
-}
-
-fn mistaken(kind: RuleErrorKind, line: u64, rule: usize) -> RuleError {
-    RuleError { kind, line, rule }
-}
-
-/// The program is looked at before the query, and of each the text before its rules or goals.
-#[test]
-fn texts_in_order(rt: HostRuntime) {
-    let declared = ":- chr_constraint p/1.\n";
-    let mistake = ":- chr_constraint p/1.\np(1) <=> q.\n";
-    for (program, query, error) in [
-        (
-            "p(",
-            "p(",
-            TextError::Program(unread(ReadErrorKind::Expected, 1, 3)),
-        ),
-        (
-            mistake,
-            "p(",
-            TextError::Rules(mistaken(RuleErrorKind::Undeclared, 2, 1)),
-        ),
-        (
-            declared,
-            "q(",
-            TextError::Query(unread(ReadErrorKind::Expected, 1, 3)),
-        ),
-        (
-            declared,
-            "q(1).",
-            TextError::Goals(mistaken(RuleErrorKind::Undeclared, 1, 0)),
-        ),
-    ] {
-        refuses(rt.alloc(), &rt, (program, query), (100, 0), error);
-    }
-}
-
-/// The limits are looked at before the texts, the budget first.
-#[test]
-fn limits_first(rt: HostRuntime) {
-    for (program, query) in [(GROUND_RULE.program, GROUND_RULE.query), ("!", "!")] {
-        for (budget, workers, error) in [
-            (1_000_001, 0, RunError::BudgetTooLarge),
-            (1_000_001, 65, RunError::BudgetTooLarge),
-            (u64::MAX, u32::MAX, RunError::BudgetTooLarge),
-            (1_000_000, 65, RunError::TooManyWorkers),
-            (0, u32::MAX, RunError::TooManyWorkers),
-        ] {
-            refuses(
-                rt.alloc(),
-                &rt,
-                (program, query),
-                (budget, workers),
-                TextError::Run(error),
-            );
-        }
-    }
+/// The schedule of a run leads to the text of its example, and to its counts.
+fn assert_replayed<A: Allocator + Copy>(
+    rt: &(impl Abort + Wait),
+    alloc: A,
+    example: Worked,
+    run: &Run<A>,
+) -> Result<(), Fail> {
+    let (program, outcome, counts) = replay_of(rt, alloc, example, run.schedule.as_slice())?;
+    assert_text(rt, alloc, example, &program, &outcome)?;
+    assert_eq!(rt; counts, run.counts, "{}", example.query);
+    Ok(())
 }

@@ -1,5 +1,4 @@
-use acts::{Act, Arg, play};
-use chr_bind::{Bindings, is_below};
+use chr_bind::Bindings;
 use chr_semantics::limits::MAX_CHANGES;
 use chr_store::*;
 use chr_term::{Sym, Term};
@@ -7,223 +6,176 @@ use std::alloc::{Allocator, Global};
 use std::process::Abort;
 use std::test::Fail;
 
-mod acts;
-mod growth;
 mod refusals;
 
 const P: Sym = Sym(7);
 
 const Q: Sym = Sym(8);
 
-const A: Sym = Sym(9);
-
+/// One argument.
 fn one<A: Allocator + Copy>(alloc: A, only: Term<A>) -> Result<Vec<Term<A>, A>, Memory> {
     let mut args = Vec::new(alloc);
     args.push(only)?;
     Ok(args)
 }
 
-/// `add` with ample memory.
+/// `add` to a store with few changes.
 fn add<A: Allocator + Copy>(
     rt: &impl Abort,
     store: &mut Store<A>,
     sym: Sym,
     args: Vec<Term<A>, A>,
-) -> Result<u64, Memory> {
+) -> Result<Id, Memory> {
     assert!(rt; store.changes() < MAX_CHANGES);
     match store.add(sym, args) {
-        Ok(id) => Ok(id.0),
+        Ok(id) => Ok(id),
         Err((_, error)) => Err(error),
     }
 }
 
-fn remove<A: Allocator>(rt: &impl Abort, store: &mut Store<A>, id: u64) -> bool {
+/// `remove` from such a store.
+fn remove<A: Allocator>(rt: &impl Abort, store: &mut Store<A>, id: Id) -> bool {
     assert!(rt; store.changes() < MAX_CHANGES);
-    store.remove(Id(id))
-}
-
-fn rebound<A: Allocator>(rt: &impl Abort, store: &mut Store<A>, ids: &[Id]) {
-    assert!(rt; store.changes() < MAX_CHANGES);
-    store.rebound(ids);
-}
-
-fn assert_ids(rt: &impl Abort, found: &[Id], wanted: &[u64]) {
-    assert_eq!(rt; found.len(), wanted.len());
-    for (id, number) in found.iter().zip(wanted) {
-        assert_eq!(rt; id.0, *number);
-    }
+    store.remove(id)
 }
 
 /// A firing of a rule with two identities.
-fn fired<A: Allocator + Copy>(
-    alloc: A,
-    rule: usize,
-    first: u64,
-    second: u64,
-) -> Result<Fired<A>, Memory> {
-    let mut ids = Vec::new(alloc);
-    ids.push(Id(first))?;
-    ids.push(Id(second))?;
+fn fired<A: Allocator + Copy>(alloc: A, rule: usize, ids: [Id; 2]) -> Result<Fired<A>, Memory> {
+    let ids = Vec::from_array(alloc, ids)?;
     Ok(Fired { rule, ids })
+}
+
+/// Adds p(1) and p(X), and removes the first.
+fn follow_store_calls(
+    rt: &impl Abort,
+    alloc: Global,
+    store: &mut Store,
+    bindings: &Bindings,
+) -> Result<(), Memory> {
+    assert_eq!(rt; add(rt, store, P, one(alloc, Term::Int(1))?)?, Id(1));
+    assert_eq!(rt; add(rt, store, P, one(alloc, Term::Var(0))?)?, Id(2));
+    assert_eq!(rt; store.woken(bindings)?.as_slice(), [Id(2)].as_slice());
+    assert!(rt; remove(rt, store, Id(1)));
+    assert!(rt; !remove(rt, store, Id(1)));
+    assert!(rt; !store.alive(Id(1)) && store.row(Id(1)).is_none());
+    assert!(rt; store.row(Id(2)).is_some_and(|row| row.sym == P));
+    assert_eq!(rt; add(rt, store, P, one(alloc, Term::Int(2))?)?, Id(3));
+    assert_eq!(rt; store.rows_of(P), [Id(2), Id(3)].as_slice());
+    assert_eq!(rt; (store.next(), store.changes()), (Id(4), 4));
+    Ok(())
 }
 
 #[test]
 fn store_calls(rt: HostRuntime) -> Result<(), Fail> {
-    let acts = [
-        Act::Adds(P, &[Arg::Int(1)], 1),
-        Act::Adds(P, &[Arg::Var(0)], 2),
-        Act::Wakes(&[2]),
-        Act::Removes(1, true),
-        Act::Removes(1, false),
-        Act::Lives(1, false),
-        Act::Lives(2, true),
-        Act::Adds(P, &[Arg::Int(2)], 3),
-        Act::Rows(P, &[2, 3]),
-        Act::Rows(Q, &[]),
-        Act::Counts(4, 4),
-    ];
-    Ok(play(&rt, rt.alloc(), 1, &acts)?)
+    let mut store = Store::new(rt.alloc());
+    let mut bindings = Bindings::new(rt.alloc());
+    bindings.room(1)?;
+    bindings.fresh(1)?;
+    follow_store_calls(&rt, rt.alloc(), &mut store, &bindings)?;
+    Ok(())
 }
 
-#[test]
-fn walked_in_order(rt: HostRuntime) -> Result<(), Fail> {
-    let acts = [
-        Act::Adds(P, &[Arg::Int(1)], 1),
-        Act::Adds(Q, &[Arg::Int(2)], 2),
-        Act::Adds(P, &[Arg::Int(3)], 3),
-        Act::Adds(Q, &[Arg::Int(4)], 4),
-        Act::Adds(P, &[Arg::Int(5)], 5),
-        Act::Removes(1, true),
-        Act::Removes(4, true),
-        Act::Walks(&[(2, Q), (3, P), (5, P)]),
-    ];
-    Ok(play(&rt, rt.alloc(), 0, &acts)?)
+/// Adds p(1,7), p(2,8), p(A,9) and go.
+fn fill_index(rt: &impl Abort, alloc: Global, store: &mut Store) -> Result<(), Memory> {
+    for (first, second) in [(Some(1), 7), (Some(2), 8), (None, 9)] {
+        let first = match first {
+            None => Term::Var(0),
+            Some(number) => Term::Int(number),
+        };
+        let args = Vec::from_array(alloc, [first, Term::Int(second)])?;
+        add(rt, store, P, args)?;
+    }
+    add(rt, store, Q, Vec::new(alloc))?;
+    Ok(())
 }
 
-/// `first_argument_index`: the constraints p(1,7), p(2,8), p(X,9) and go, whatever X is bound to later.
+/// Whatever A is bound to: the keys are those of the arguments as they were stored.
 #[test]
 fn first_argument_index(rt: HostRuntime) -> Result<(), Fail> {
-    let keyed = [
-        Act::Keyed(P, Some(Key::Int(1)), &[1]),
-        Act::Keyed(P, Some(Key::Int(2)), &[2]),
-        Act::Keyed(P, None, &[3]),
-        Act::Keyed(Q, None, &[4]),
-    ];
-    let acts = [
-        Act::Adds(P, &[Arg::Int(1), Arg::Int(7)], 1),
-        Act::Adds(P, &[Arg::Int(2), Arg::Int(8)], 2),
-        Act::Adds(P, &[Arg::Var(0), Arg::Int(9)], 3),
-        Act::Adds(Q, &[], 4),
-        keyed[0],
-        keyed[1],
-        keyed[2],
-        keyed[3],
-        Act::Binds(0, 1),
-        keyed[0],
-        keyed[1],
-        keyed[2],
-        keyed[3],
-    ];
-    Ok(play(&rt, rt.alloc(), 1, &acts)?)
+    let mut store = Store::new(rt.alloc());
+    fill_index(&rt, rt.alloc(), &mut store)?;
+    for (key, id) in [(Some(Key::Int(1)), 1), (Some(Key::Int(2)), 2), (None, 3)] {
+        assert_eq!(&rt; store.rows_keyed(P, key), [Id(id)].as_slice());
+    }
+    assert_eq!(&rt; store.rows_keyed(Q, None), [Id(4)].as_slice());
+    Ok(())
 }
 
-#[test]
-fn names_and_numbers_are_keys(rt: HostRuntime) -> Result<(), Fail> {
-    let acts = [
-        Act::Adds(P, &[Arg::Name(A)], 1),
-        Act::Adds(P, &[Arg::Of(Q, 0)], 2),
-        Act::Adds(P, &[Arg::Int(9)], 3),
-        Act::Keyed(P, Some(Key::Name(A)), &[1]),
-        Act::Keyed(P, Some(Key::Name(Q)), &[2]),
-        Act::Keyed(P, Some(Key::Int(9)), &[3]),
-        Act::Keyed(Q, Some(Key::Int(9)), &[]),
-    ];
-    Ok(play(&rt, rt.alloc(), 0, &acts)?)
+/// Of p(1) and p(1) the rule removes the second one.
+fn touch_by_firing(
+    rt: &impl Abort,
+    alloc: Global,
+    store: &mut Store,
+    history: &mut History,
+) -> Result<(), Memory> {
+    add(rt, store, P, one(alloc, Term::Int(1))?)?;
+    add(rt, store, P, one(alloc, Term::Int(1))?)?;
+    assert!(rt; history.put(fired(alloc, 0, [Id(1), Id(2)])?)?);
+    assert!(rt; remove(rt, store, Id(2)));
+    assert_eq!(rt; (store.stamp(P), history.stamp(0)), (3, 1));
+    Ok(())
 }
 
-/// Of four constraints, two are stored with variables. The bindings make one of these ground.
-#[test]
-fn woken_by_what_they_stand_for(rt: HostRuntime) -> Result<(), Fail> {
-    let acts = [
-        Act::Adds(P, &[Arg::Var(0)], 1),
-        Act::Adds(Q, &[Arg::Int(1)], 2),
-        Act::Adds(Q, &[Arg::Var(1)], 3),
-        Act::Adds(P, &[], 4),
-        Act::Wakes(&[1, 3]),
-        Act::Binds(0, 5),
-        Act::Wakes(&[3]),
-    ];
-    Ok(play(&rt, rt.alloc(), 2, &acts)?)
+/// Of p(1) and q(X) the second one changes where X is bound, and no other goal changes one.
+fn touch_by_binding(rt: &impl Abort, alloc: Global, store: &mut Store) -> Result<(), Memory> {
+    add(rt, store, P, one(alloc, Term::Int(1))?)?;
+    add(rt, store, Q, one(alloc, Term::Var(0))?)?;
+    for ids in [[].as_slice(), [Id(2)].as_slice()] {
+        assert!(rt; store.changes() < MAX_CHANGES);
+        store.rebound(ids);
+    }
+    assert_eq!(rt; (store.stamp(P), store.stamp(Q)), (1, 2));
+    Ok(())
 }
 
-/// Each changing call raises the stamp of each symbol that it touches by one, whatever it does to it.
-#[test]
-fn stamps_of_symbols(rt: HostRuntime) -> Result<(), Fail> {
-    let acts = [
-        Act::Adds(P, &[Arg::Var(0)], 1),
-        Act::Adds(P, &[Arg::Var(0)], 2),
-        Act::Adds(Q, &[Arg::Var(0)], 3),
-        Act::Stamp(P, 2),
-        Act::Stamp(Q, 1),
-        Act::Counts(4, 3),
-        Act::Rebinds(&[Id(1), Id(2), Id(3)]),
-        Act::Stamp(P, 3),
-        Act::Stamp(Q, 2),
-        Act::Counts(4, 4),
-        Act::Rebinds(&[]),
-        Act::Counts(4, 4),
-        Act::Removes(2, true),
-        Act::Removes(2, false),
-        Act::Stamp(P, 4),
-        Act::Stamp(Q, 2),
-        Act::Stamp(A, 0),
-        Act::Counts(4, 5),
-    ];
-    Ok(play(&rt, rt.alloc(), 1, &acts)?)
-}
-
-/// `touch_counts`: p(1), p(1) where one removes the other. The calls of the transitions are made by hand.
 #[test]
 fn touch_counts(rt: HostRuntime) -> Result<(), Fail> {
-    let acts = [
-        Act::Adds(P, &[Arg::Int(1)], 1),
-        Act::Adds(P, &[Arg::Int(1)], 2),
-        Act::Puts((0, 1, 2), true),
-        Act::Removes(2, true),
-        Act::Stamp(P, 3),
-        Act::RuleStamp(0, 1),
-    ];
-    Ok(play(&rt, rt.alloc(), 0, &acts)?)
-}
-
-/// `touch_counts`: p(1), q(X) where X is bound.
-#[test]
-fn touch_counts_of_a_binding(rt: HostRuntime) -> Result<(), Fail> {
-    let acts = [
-        Act::Adds(P, &[Arg::Int(1)], 1),
-        Act::Adds(Q, &[Arg::Var(0)], 2),
-        Act::Rebinds(&[Id(2)]),
-        Act::Stamp(P, 1),
-        Act::Stamp(Q, 2),
-    ];
-    Ok(play(&rt, rt.alloc(), 1, &acts)?)
+    let (mut store, mut history) = (Store::new(rt.alloc()), History::new(rt.alloc()));
+    touch_by_firing(&rt, rt.alloc(), &mut store, &mut history)?;
+    let mut store = Store::new(rt.alloc());
+    touch_by_binding(&rt, rt.alloc(), &mut store)?;
+    Ok(())
 }
 
 #[test]
 fn history_calls(rt: HostRuntime) -> Result<(), Fail> {
-    let acts = [
-        Act::Puts((0, 2, 1), true),
-        Act::Puts((0, 2, 1), false),
-        Act::Fired(&[(0, 2, 1)]),
-        Act::RuleStamp(0, 1),
-        Act::Puts((0, 1, 2), true),
-        Act::Puts((1, 2, 1), true),
-        Act::Has((1, 2, 1), true),
-        Act::Has((1, 1, 2), false),
-        Act::RuleStamp(0, 2),
-        Act::RuleStamp(1, 1),
-        Act::RuleStamp(2, 0),
-        Act::Fired(&[(0, 2, 1), (0, 1, 2), (1, 2, 1)]),
-    ];
-    Ok(play(&rt, rt.alloc(), 0, &acts)?)
+    let mut history = History::new(rt.alloc());
+    for is_new in [true, false] {
+        let entry = fired(rt.alloc(), 0, [Id(2), Id(1)])?;
+        assert_eq!(&rt; history.has(&entry), !is_new);
+        assert_eq!(&rt; history.put(entry)?, is_new);
+    }
+    assert_eq!(&rt; (history.list().len(), history.stamp(0)), (1, 1));
+    Ok(())
+}
+
+const COUNT: u64 = 20_000;
+
+/// Adds p(0), p(1), .., and removes them all: first the one of the identity 1, and then each by so much after the one before, around.
+fn fill_and_empty(
+    rt: &impl Abort,
+    alloc: Global,
+    store: &mut Store,
+    by: u64,
+) -> Result<(), Memory> {
+    for number in 0..COUNT {
+        add(rt, store, P, one(alloc, Term::Int(i128::from(number)))?)?;
+    }
+    let mut place = 0u64;
+    for _ in 0..COUNT {
+        assert!(rt; remove(rt, store, Id(place.saturating_add(1))));
+        place = place.saturating_add(by) % COUNT;
+    }
+    assert!(rt; store.rows_of(P).is_empty(), "{by}");
+    Ok(())
+}
+
+/// The oldest first, the newest first and in a mixed order: each in time.
+#[test]
+fn many_removed(rt: HostRuntime) -> Result<(), Fail> {
+    for by in [1, COUNT - 1, 7_919] {
+        let mut store = Store::new(rt.alloc());
+        fill_and_empty(&rt, rt.alloc(), &mut store, by)?;
+    }
+    Ok(())
 }

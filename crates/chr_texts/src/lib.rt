@@ -1,8 +1,9 @@
-//! Programs and queries of texts, for tests: each is read and then checked.
+//! Programs and queries of texts, for tests: each is read and then checked; and worked examples that several crates of tests run.
 #![tactic(auto)]
 
 ghost use Rattle.std.specs.Prelude.{◌≡◌, IfOk};
 ghost use Rattle.chr_semantics.specs.Accepted.{IsAccepted, IsAcceptedProgram, IsAcceptedQuery};
+ghost use Rattle.chr_semantics.specs.Bounds.{IsQueryBounded};
 ghost use Rattle.chr_rules.specs.ProgramView.{checked_view, names_of, rules_of};
 ghost use Rattle.chr_rules.specs.RuleView.{query_view};
 
@@ -10,6 +11,10 @@ use chr_read::{ReadError, read_program, read_query};
 use chr_rules::{Program, Query, RuleError};
 use std::alloc::Allocator;
 use thiserror::Error;
+
+mod worked;
+
+pub use worked::{GCD, GROUND_RULE, PROPAGATE_THEN_SIMPLIFY, SPECULATION, WAKING_ORDER, Worked};
 
 /// Why a text is no program, or no query over one.
 #[derive(Clone, Copy, PartialEq, Eq, Debug, Drop, Error)]
@@ -45,6 +50,7 @@ pub fn query_of<A: Allocator + Copy>(
     ensures ok { IfOk result
         (λ query. IsAcceptedQuery (checked_view program.old) text.now (names_of program.new)
         (query_view query)) }
+    ensures bounded { IfOk result (λ query. IsQueryBounded (query_view query)) }
     ensures rules { rules_of program.new ≡ rules_of program.old }
 {
     let syntax = match read_query(alloc, text.as_bytes()) {
@@ -63,9 +69,10 @@ pub fn both_of<A: Allocator + Copy>(
     program: &str,
     query: &str,
 ) -> Result<(Program<A>, Query<A>), Mistake>
-    ensures { IfOk result
+    ensures accepted { IfOk result
         (λ both. IsAccepted program.now query.now (names_of both.0) (rules_of both.0)
         (query_view both.1)) }
+    ensures bounded { IfOk result (λ both. IsQueryBounded (query_view both.1)) }
 {
     let mut program = program_of(alloc, program)?;
     let query = query_of(alloc, &mut program, query)?;

@@ -34,6 +34,15 @@ replay_rule = record (new_rule (codes "replay")) { long = Some (codes "replay");
 abbrev pub totals_rule : Rule
 totals_rule = record (new_rule (codes "totals")) { long = Some (codes "totals"); action = Some SetTrue }
 
+abbrev pub text_rules : List Rule
+text_rules = program_rule ∷ query_rule ∷ []
+
+abbrev pub number_rules : List Rule
+number_rules = budget_rule ∷ workers_rule ∷ []
+
+abbrev pub file_rules : List Rule
+file_rules = record_rule ∷ replay_rule ∷ []
+
 -- the program, the query, and the options in the order of the help
 abbrev pub chr_rules : List Rule
 chr_rules = program_rule ∷ query_rule ∷ budget_rule ∷ workers_rule ∷ record_rule ∷ replay_rule ∷ totals_rule ∷ []

@@ -110,6 +110,3 @@ pub fn write_file<C: Creates>(creates: &C, path: &str, bytes: &[u8]) -> Option<(
     let mut sink = creates.create(path).ok()?;
     write_all(&mut sink, bytes)
 }
-
-#[cfg(test)]
-mod tests;

@@ -1,8 +1,8 @@
 //! What the words after the program's name ask for.
-ghost use Rattle.std.specs.Prelude.{◌≡◌, ℕ, List, [], ◌∷◌, Some, None, IfOk, false, true, map};
+ghost use Rattle.std.specs.Prelude.{◌≡◌, ℕ, List, [], ◌∷◌, Some, None, IfOk, false, true, fold, map};
 ghost use Rattle.std.specs.String.{string_bytes};
-ghost use Rattle.clap.specs.Words.{app_of, found_of, kind_of, rule_of};
-ghost use Rattle.chr_words.specs.App.{chr_app, program_rule, query_rule, budget_rule, workers_rule, record_rule, replay_rule, totals_rule};
+ghost use Rattle.clap.specs.Words.{app_of, found_of, kind_of, rule_of, with_rule};
+ghost use Rattle.chr_words.specs.App.{chr_app, text_rules, number_rules, file_rules, program_rule, query_rule, budget_rule, workers_rule, record_rule, replay_rule, totals_rule};
 ghost use Rattle.chr_words.specs.Answer.{IsAnswer, IsRead, IsRefusal, IsRun};
 ghost use Rattle.chr_words.specs.Words.{is_plain};
 
@@ -103,20 +103,37 @@ fn totals_arg<'a>(alloc: Global) -> Arg<'a>
         .help("Says the counts and totals of the run")
 }
 
+/// The command with the program and the query.
+fn with_texts<'a>(alloc: Global, command: Command<'a>) -> Result<Command<'a>, AllocError>
+    ensures { IfOk result (λ c. app_of c ≡ fold with_rule (app_of command.entry) text_rules) }
+{
+    command.arg(program_arg(alloc))?.arg(query_arg(alloc))
+}
+
+/// The command with the options that take a number.
+fn with_numbers<'a>(alloc: Global, command: Command<'a>) -> Result<Command<'a>, AllocError>
+    ensures { IfOk result (λ c. app_of c ≡ fold with_rule (app_of command.entry) number_rules) }
+{
+    command.arg(budget_arg(alloc))?.arg(workers_arg(alloc))
+}
+
+/// The command with the options that take a file.
+fn with_files<'a>(alloc: Global, command: Command<'a>) -> Result<Command<'a>, AllocError>
+    ensures { IfOk result (λ c. app_of c ≡ fold with_rule (app_of command.entry) file_rules) }
+{
+    command.arg(record_arg(alloc))?.arg(replay_arg(alloc))
+}
+
 /// The words that the program takes.
 fn chr_command<'a>(alloc: Global) -> Result<Command<'a>, AllocError>
     ensures { IfOk result (λ c. app_of c ≡ chr_app) }
 {
-    Command::new(alloc, "chr")
+    let command = Command::new(alloc, "chr")
         .no_binary_name(true)
-        .about("Runs a query over a program of Constraint Handling Rules")
-        .arg(program_arg(alloc))?
-        .arg(query_arg(alloc))?
-        .arg(budget_arg(alloc))?
-        .arg(workers_arg(alloc))?
-        .arg(record_arg(alloc))?
-        .arg(replay_arg(alloc))?
-        .arg(totals_arg(alloc))
+        .about("Runs a query over a program of Constraint Handling Rules");
+    let command = with_texts(alloc, command)?;
+    let command = with_numbers(alloc, command)?;
+    with_files(alloc, command)?.arg(totals_arg(alloc))
 }
 
 /// What words that were taken ask for.
@@ -157,6 +174,3 @@ pub fn asked<'a>(alloc: Global, words: &'a [String]) -> Result<Request<'a>, Allo
         Err(error) => refusal_of(alloc, &error),
     }
 }
-
-#[cfg(test)]
-mod tests;

@@ -106,5 +106,48 @@ pub fn refused_in_turn<E, F: FnMut(u64) -> Result<bool, E>>(
     Ok(most)
 }
 
-#[cfg(test)]
-mod tests;
+/// A turn of a test whose calls may each have so many growths: the first refusal of a call is seen, and then memory is ample, so that the
+/// same call can be made again.
+#[derive(Drop)]
+pub struct Turn<'m, B: Allocator> {
+    meter: &'m Refusing<B>,
+    left: u64,
+    refused: AtomicU64,
+}
+
+impl<'m, B: Allocator> Turn<'m, B> {
+    /// With ample memory until a call begins.
+    pub fn new(meter: &'m Refusing<B>, left: u64) -> Turn<'m, B> {
+        meter.allow(u64::MAX);
+        Turn {
+            meter,
+            left,
+            refused: AtomicU64::new(0),
+        }
+    }
+
+    /// A call begins, which may have its growths.
+    pub fn begin(&self) {
+        self.meter.allow(self.left);
+    }
+
+    /// How many growths the call has asked for so far.
+    pub fn asked(&self) -> u64 {
+        self.meter.asked()
+    }
+
+    /// The call has ended, refused or not, and memory is ample again. It answers whether the call was refused exactly where a growth was.
+    pub fn end(&self, is_refused: bool) -> bool {
+        let was_refused = self.meter.asked() > self.left;
+        self.meter.allow(u64::MAX);
+        if was_refused {
+            self.refused.fetch_add(1, Ordering::SeqCst);
+        }
+        was_refused == is_refused
+    }
+
+    /// Whether no growth was refused so far.
+    pub fn met_none(&self) -> bool {
+        self.refused.load(Ordering::SeqCst) == 0
+    }
+}

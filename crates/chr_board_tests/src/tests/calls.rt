@@ -1,76 +1,169 @@
-//! The calls of a board, one by one, and with each growth refused in turn.
+//! The calls of a shelf and of a board, one by one, and with each growth refused in turn: after a refusal all is as before, and the same call
+//! with memory answers as ever.
 ghost use Rattle.std.specs.Prelude.{◌≡◌};
 ghost use Rattle.chr_rules.specs.ProgramView.{rules_of};
 ghost use Rattle.chr_rules.specs.RuleView.{query_view};
 ghost use Rattle.chr_semantics.specs.Bounds.{IsQueryBounded};
+ghost use Rattle.chr_shelf.specs.Seat.{place_of};
+ghost use Rattle.chr_board.specs.RowView.{slip_view};
 
 use super::*;
-use refusing_alloc::{Refusing, refused_in_turn};
-use std::alloc::Global;
+use refusing_alloc::{Refusing, Turn, refused_in_turn};
 use std::marker::Brand;
 
-/// More growths than the calls ask for.
-const AMPLE: u64 = 1_000_000;
-
 /// More than can be refused in turn.
-const MOST: u64 = 20;
+const MOST: u64 = 200;
 
-/// An allocator, the meter of its growths, and how many an offer and a drain may have at first.
+/// An allocator, and the turn in which its growths are refused.
 #[derive(Drop)]
 struct Scene<'m, A> {
     alloc: A,
-    meter: &'m Refusing<Global>,
-    left: u64,
+    turn: Turn<'m, Global>,
 }
 
-/// Whether a growth was refused, and with it the call. From here on memory is ample.
-fn was_refused<A>(rt: &impl Abort, scene: &Scene<'_, A>, is_error: bool) -> bool {
-    let was_refused = scene.meter.asked() > scene.left;
-    assert_eq!(rt; is_error, was_refused);
-    scene.meter.allow(AMPLE);
-    was_refused
+fn assert_tasks(rt: &impl Abort, tasks: &[Task]) {
+    assert_eq!(rt; tasks.len(), 3);
+    for (found, (goal, occurrence)) in tasks.iter().zip([(3, 1), (2, 1), (2, 2)]) {
+        assert!(rt; found.goal == Id(goal) && found.occurrence == occurrence);
+    }
 }
 
-/// Offers two tasks. After a refusal all is as before, and they are offered again. Whether there was none.
+/// Puts the snapshot on the shelf. After a refusal it comes back.
+fn put<J: Run, A: Allocator + Copy>(
+    rt: &(impl Abort + Wait),
+    scene: &Scene<'_, A>,
+    shelf: &Shelf<A>,
+    snapshot: Snapshot<A>,
+) -> Ticket<J, A>
+    requires name { shelf.now ≡ J.shelf }
+{
+    scene.turn.begin();
+    let made = shelf.put::<J>(rt, snapshot);
+    assert!(rt; scene.turn.end(made.is_err()));
+    let again = match made {
+        Ok(ticket) => return ticket,
+        Err((snapshot, _)) => snapshot,
+    };
+    assert_tasks(rt, again.tasks());
+    match shelf.put::<J>(rt, again) {
+        Ok(ticket) => ticket,
+        Err(_) => panic!(rt; "refused with memory"),
+    }
+}
+
+/// A ticket, and one that is asked for by its place, show the tasks.
+fn assert_seen<J: Run, A: Allocator + Copy>(
+    rt: &impl Abort,
+    shelf: &Shelf<A>,
+    ticket: &Ticket<J, A>,
+)
+    requires name { shelf.now ≡ J.shelf }
+{
+    assert_tasks(rt, shelf.see(ticket).tasks());
+    let other = shelf.ticket::<J>(ticket.place()).expect(rt, "a ticket");
+    assert_eq!(rt; other.place(), ticket.place());
+    shelf.agree(ticket, &other);
+    assert_tasks(rt, shelf.see(&other).tasks());
+}
+
+/// Solves the task of a slip. After a refusal the ticket comes back.
+fn answer_to<J: Run, A: Allocator + Copy>(
+    rt: &impl Abort,
+    scene: &Scene<'_, A>,
+    program: &Program<A>,
+    shelf: &Shelf<A>,
+    slip: &Slip,
+) -> Answer<J, A>
+    requires name { shelf.now ≡ J.shelf }
+    requires rules { rules_of program.now ≡ J.rules }
+    ensures place { place_of result.ticket ≡ (slip_view slip.now).place }
+    ensures index { result.index ≡ (slip_view slip.now).index }
+{
+    let ticket = shelf.ticket::<J>(slip.place()).expect(rt, "a ticket");
+    scene.turn.begin();
+    let solved = solve(program, shelf, ticket, slip.index());
+    assert!(rt; scene.turn.end(solved.is_err()));
+    let again = match solved {
+        Ok(answer) => return answer,
+        Err((ticket, unsolved)) => {
+            assert!(rt; unsolved == Unsolved::Memory);
+            ticket
+        }
+    };
+    match solve(program, shelf, again, slip.index()) {
+        Ok(answer) => answer,
+        Err(_) => panic!(rt; "refused with memory"),
+    }
+}
+
+/// The first task finds 2, 1, 3; there is no fourth one, and the ticket comes back.
+fn assert_solved<J: Run, A: Allocator + Copy>(
+    rt: &impl Abort,
+    program: &Program<A>,
+    shelf: &Shelf<A>,
+    ticket: &Ticket<J, A>,
+)
+    requires name { shelf.now ≡ J.shelf }
+    requires rules { rules_of program.now ≡ J.rules }
+{
+    match solve(program, shelf, ticket.again(), 3) {
+        Ok(_) => panic!(rt; "no such task"),
+        Err((back, unsolved)) => {
+            assert_eq!(rt; back.place(), ticket.place());
+            assert!(rt; unsolved == Unsolved::NoTask);
+        }
+    }
+    match solve(program, shelf, ticket.again(), 0) {
+        Err(_) => panic!(rt; "not solved"),
+        Ok(answer) => {
+            assert!(rt; answer.task().goal == Id(3) && answer.task().occurrence == 1);
+            assert!(rt;
+                answer.found().ids.is_some_and(|ids| {
+                    ids.as_slice() == [Id(2), Id(1), Id(3)].as_slice()
+                })
+            );
+        }
+    }
+}
+
+/// Offers two tasks.
 fn offer<J: Run, A: Allocator + Copy>(
     rt: &(impl Abort + Wait),
     scene: &Scene<'_, A>,
     board: &Board<J, A>,
     place: usize,
-) -> bool {
+) {
     let before = board.totals(rt);
-    scene.meter.allow(scene.left);
+    scene.turn.begin();
     let mut offered = board.offer(rt, place, 2);
-    let was_refused = was_refused(rt, scene, offered.is_err());
-    if was_refused {
+    assert!(rt; scene.turn.end(offered.is_err()));
+    if offered.is_err() {
         assert!(rt; offered == Err(BoardError::Memory));
         assert!(rt; board.totals(rt) == before);
         offered = board.offer(rt, place, 2);
     }
     assert!(rt; offered == Ok(0));
-    !was_refused
 }
 
-/// Drains the answer to the first task. After a refusal all is as before, and it is drained again. Whether there was none.
+/// Drains the answer to the first task into a list with no room.
 fn drain<J: Run, A: Allocator + Copy>(
     rt: &(impl Abort + Wait),
     scene: &Scene<'_, A>,
     board: &Board<J, A>,
     place: usize,
-) -> bool {
+) {
     let before = board.totals(rt);
     let mut inbox = Vec::new(scene.alloc);
-    scene.meter.allow(scene.left);
+    scene.turn.begin();
     let mut drained = board.drain(rt, &mut inbox);
-    let was_refused = was_refused(rt, scene, drained.is_err());
-    if was_refused {
+    assert!(rt; scene.turn.end(drained.is_err()));
+    if drained.is_err() {
         assert!(rt; inbox.is_empty());
         assert!(rt; board.totals(rt) == before);
         drained = board.drain(rt, &mut inbox);
     }
     assert!(rt; drained == Ok(1));
     assert_answers(rt, inbox.as_slice(), place, &[0]);
-    !was_refused
 }
 
 /// Takes the task with that index.
@@ -81,27 +174,13 @@ fn take<J: Run, A: Allocator + Copy>(
     index: u32,
 ) -> Slip {
     let slip = board.take_task(rt).expect(rt, "a task");
-    assert_slip(rt, &slip, place, index);
+    assert_eq!(rt; slip.serial(), u64::from(index));
+    assert_eq!(rt; slip.place(), place);
+    assert_eq!(rt; slip.index(), index);
     slip
 }
 
-/// Takes the first task, and posts its answer.
-fn post_first<J: Run, A: Allocator + Copy>(
-    rt: &(impl Abort + Wait),
-    program: &Program<A>,
-    shelf: &Shelf<A>,
-    board: &Board<J, A>,
-    place: usize,
-)
-    requires name { shelf.now ≡ J.shelf }
-    requires rules { rules_of program.now ≡ J.rules }
-{
-    let slip = take(rt, board, place, 0);
-    let answer = answer_to(rt, program, shelf, &slip);
-    board.post(rt, slip, answer);
-}
-
-/// A closed board gives no task and takes none in.
+/// A closed board gives no task and takes none in. One task was answered, and one given up.
 fn assert_closed<J: Run, A: Allocator + Copy>(
     rt: &(impl Abort + Wait),
     board: &Board<J, A>,
@@ -111,32 +190,43 @@ fn assert_closed<J: Run, A: Allocator + Copy>(
         board.give_up(rt, slip);
         panic!(rt; "a task");
     }
-    assert!(rt; board.totals(rt) == END);
+    let totals = Totals {
+        put: 2,
+        taken: 2,
+        posted: 1,
+        given_up: 1,
+        drained: 1,
+        waiting: 0,
+        left: 0,
+    };
+    assert!(rt; board.totals(rt) == totals);
     assert!(rt; board.offer(rt, place, 1) == Err(BoardError::Closed));
 }
 
-/// One task is answered, and one given up. Whether no growth was refused.
+/// The calls, from a snapshot on.
 fn play_named<J: Run, A: Allocator + Copy>(
     rt: &(impl Abort + Wait),
     scene: &Scene<'_, A>,
     program: &Program<A>,
     shelf: &Shelf<A>,
-    query: Query<A>,
-) -> Result<bool, Memory>
-    requires query { IsQueryBounded (query_view query) }
+    snapshot: Snapshot<A>,
+)
     requires name { shelf.now ≡ J.shelf }
     requires rules { rules_of program.now ≡ J.rules }
 {
-    let place = put_state::<J, A>(rt, scene.alloc, program, shelf, query)?;
-    let board = Board::<J, A>::new(scene.alloc);
+    let ticket = put::<J, A>(rt, scene, shelf, snapshot);
+    assert_seen(rt, shelf, &ticket);
+    assert_solved(rt, program, shelf, &ticket);
+    let (board, place) = (Board::<J, A>::new(scene.alloc), ticket.place());
     assert!(rt; board.offer(rt, place, 262_145) == Err(BoardError::TooManyTasks));
-    let is_offered = offer(rt, scene, &board, place);
-    post_first(rt, program, shelf, &board, place);
-    let is_drained = drain(rt, scene, &board, place);
+    offer(rt, scene, &board, place);
+    let slip = take(rt, &board, place, 0);
+    let answer = answer_to(rt, scene, program, shelf, &slip);
+    board.post(rt, slip, answer);
+    drain(rt, scene, &board, place);
     board.give_up(rt, take(rt, &board, place, 1));
     board.close(rt);
     assert_closed(rt, &board, place);
-    Ok(is_offered && is_drained)
 }
 
 /// The same under a name of its own.
@@ -145,14 +235,26 @@ fn play<A: Allocator + Copy>(
     scene: &Scene<'_, A>,
     program: &Program<A>,
     shelf: &Shelf<A>,
-    query: Query<A>,
-) -> Result<bool, Memory>
-    requires { IsQueryBounded (query_view query) }
-{
-    play_named::<Brand, A>(rt, scene, program, shelf, query)
+    snapshot: Snapshot<A>,
+) {
+    play_named::<Brand, A>(rt, scene, program, shelf, snapshot)
 }
 
-/// Whether all calls go through with so many growths for an offer, and so many for a drain.
+/// Makes the shelf, and again where it is refused.
+fn shelf_of<A: Allocator + Copy>(
+    rt: &impl Abort,
+    scene: &Scene<'_, A>,
+) -> Result<Shelf<A>, Memory> {
+    scene.turn.begin();
+    let shelf = Shelf::new(scene.alloc);
+    assert!(rt; scene.turn.end(shelf.is_err()));
+    match shelf {
+        Ok(shelf) => Ok(shelf),
+        Err(_) => Shelf::new(scene.alloc),
+    }
+}
+
+/// Whether no call is refused with so many growths.
 ///
 /// For any allocator: proofs for the meter as the allocator would take much longer.
 fn are_through<A: Allocator + Copy>(
@@ -161,11 +263,15 @@ fn are_through<A: Allocator + Copy>(
     meter: &Refusing<Global>,
     left: u64,
 ) -> Result<bool, Fail> {
-    meter.allow(AMPLE);
-    let scene = Scene { alloc, meter, left };
-    let shelf = Shelf::new(alloc)?;
-    let (program, query) = both_of(alloc)?;
-    Ok(play(rt, &scene, &program, &shelf, query)?)
+    let scene = Scene {
+        alloc,
+        turn: Turn::new(meter, left),
+    };
+    let (program, query) = both_of(alloc, SPECULATION.program, SPECULATION.query)?;
+    let snapshot = snapshot_of(alloc, &program, query)?;
+    let shelf = shelf_of(rt, &scene)?;
+    play(rt, &scene, &program, &shelf, snapshot);
+    Ok(scene.turn.met_none())
 }
 
 /// The same where the meter refuses.
@@ -177,18 +283,16 @@ fn are_through_metered(
     are_through(rt, meter, meter, left)
 }
 
-/// With ample memory.
 #[test]
-fn board_calls(rt: HostRuntime) -> Result<(), Fail> {
-    let meter = Refusing::new(rt.alloc(), AMPLE);
-    assert!(&rt; are_through_metered(&rt, &meter, AMPLE)?);
+fn shelf_calls_and_board_calls(rt: HostRuntime) -> Result<(), Fail> {
+    let meter = Refusing::new(rt.alloc(), 0);
+    assert!(&rt; are_through_metered(&rt, &meter, u64::MAX)?);
     Ok(())
 }
 
-/// The three growths of an offer and the one of a drain are refused in turn.
 #[test]
-fn calls_refused(rt: HostRuntime) -> Result<(), Fail> {
-    let meter = Refusing::new(rt.alloc(), AMPLE);
+fn want_of_memory(rt: HostRuntime) -> Result<(), Fail> {
+    let meter = Refusing::new(rt.alloc(), 0);
     let refused = refused_in_turn(MOST, |left| are_through_metered(&rt, &meter, left))?;
     assert!(&rt; refused > 0 && refused < MOST, "{refused}");
     Ok(())

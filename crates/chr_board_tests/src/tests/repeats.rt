@@ -1,8 +1,6 @@
 //! Tasks that are offered again.
 ghost use Rattle.std.specs.Prelude.{◌≡◌};
 ghost use Rattle.chr_rules.specs.ProgramView.{rules_of};
-ghost use Rattle.chr_rules.specs.RuleView.{query_view};
-ghost use Rattle.chr_semantics.specs.Bounds.{IsQueryBounded};
 
 use super::*;
 use std::marker::Brand;
@@ -41,13 +39,15 @@ fn play_named<J: Run + Send + Sync, A: Allocator + Copy + Send + Sync, R: Abort 
     alloc: A,
     program: &Program<A>,
     shelf: &Shelf<A>,
-    query: Query<A>,
+    snapshot: Snapshot<A>,
 ) -> Result<(), Fail>
-    requires query { IsQueryBounded (query_view query) }
     requires name { shelf.now ≡ J.shelf }
     requires rules { rules_of program.now ≡ J.rules }
 {
-    let place = put_state::<J, A>(rt, alloc, program, shelf, query)?;
+    let place = match shelf.put::<J>(rt, snapshot) {
+        Ok(ticket) => ticket.place(),
+        Err(_) => panic!(rt; "refused"),
+    };
     let board = Board::<J, A>::new(alloc);
     assert!(rt; board.offer(rt, place, 1) == Ok(0));
     assert!(rt; board.offer(rt, place, 2) == Ok(1));
@@ -72,11 +72,9 @@ fn play<A: Allocator + Copy + Send + Sync, R: Abort + Wait + Sync>(
     alloc: A,
     program: &Program<A>,
     shelf: &Shelf<A>,
-    query: Query<A>,
-) -> Result<(), Fail>
-    requires { IsQueryBounded (query_view query) }
-{
-    play_named::<Brand, A, R>(rt, alloc, program, shelf, query)
+    snapshot: Snapshot<A>,
+) -> Result<(), Fail> {
+    play_named::<Brand, A, R>(rt, alloc, program, shelf, snapshot)
 }
 
 /// No task is searched for anew while its answer waits.
@@ -84,6 +82,7 @@ fn play<A: Allocator + Copy + Send + Sync, R: Abort + Wait + Sync>(
 fn searched_once(rt: HostRuntime) -> Result<(), Fail> {
     let alloc = rt.alloc();
     let shelf = Shelf::new(alloc)?;
-    let (program, query) = both_of(alloc)?;
-    play(&rt, alloc, &program, &shelf, query)
+    let (program, query) = both_of(alloc, SPECULATION.program, SPECULATION.query)?;
+    let snapshot = snapshot_of(alloc, &program, query)?;
+    play(&rt, alloc, &program, &shelf, snapshot)
 }

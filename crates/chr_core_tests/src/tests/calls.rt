@@ -7,40 +7,14 @@ ghost use Rattle.chr_rules.specs.RuleView.{query_view};
 use super::*;
 use chr_find::Snapshot;
 use chr_shelf::{Answer, Run, Shelf, solve};
-use refusing_alloc::{Refusing, refused_in_turn};
 use std::marker::Brand;
-
-/// More growths than the calls ask for.
-const AMPLE: u64 = 1_000_000;
-
-/// More than can be refused in turn.
-const MOST: u64 = 1_000;
-
-/// An allocator, and the meter of its growths.
-#[derive(Drop)]
-struct Scene<'m, A> {
-    alloc: A,
-    meter: &'m Refusing<Global>,
-}
 
 /// What a core shows: its counts, its transitions, and the number of its events.
 fn shown<J: Run, A: Allocator + Copy>(core: &Core<'_, J, A>) -> (Counts, u64, usize) {
     (core.counts(), core.machine().steps(), core.events().len())
 }
 
-/// Calls again what was refused, with ample memory. All was as before, and a growth was really refused.
-fn allow_more<J: Run, A: Allocator + Copy>(
-    scene: &Scene<'_, A>,
-    rt: &impl Abort,
-    core: &Core<'_, J, A>,
-    before: (Counts, u64, usize),
-) {
-    assert!(rt; shown(core) == before);
-    assert_eq!(rt; scene.meter.left(), 0);
-    scene.meter.allow(AMPLE);
-}
-
-/// So many transitions.
+/// So many transitions. After a refusal all is as before, and the transition is made with memory.
 fn move_on<J: Run, A: Allocator + Copy>(
     rt: &impl Abort,
     scene: &Scene<'_, A>,
@@ -49,14 +23,14 @@ fn move_on<J: Run, A: Allocator + Copy>(
 ) -> Result<(), Memory> {
     for _ in 0..count {
         let before = shown(core);
-        let stepped = match core.step() {
-            Ok(stepped) => stepped,
-            Err(_) => {
-                allow_more(scene, rt, core, before);
-                core.step()?
-            }
-        };
-        assert!(rt; stepped == Stepped::Moved);
+        scene.turn.begin();
+        let mut stepped = core.step();
+        assert!(rt; scene.turn.end(stepped.is_err()));
+        if stepped.is_err() {
+            assert!(rt; shown(core) == before);
+            stepped = core.step();
+        }
+        assert!(rt; stepped? == Stepped::Moved);
     }
     Ok(())
 }
@@ -71,56 +45,62 @@ fn publish<J: Run, A: Allocator + Copy>(
     requires name { shelf.now ≡ J.shelf }
 {
     let before = shown(core);
-    let (place, tasks) = match core.publish(rt, shelf) {
-        Ok(published) => published,
-        Err(_) => {
-            allow_more(scene, rt, core, before);
-            core.publish(rt, shelf)?
-        }
-    };
+    scene.turn.begin();
+    let mut published = core.publish(rt, shelf);
+    assert!(rt; scene.turn.end(published.is_err()));
+    if published.is_err() {
+        assert!(rt; published == Err(CoreError::Memory));
+        assert!(rt; shown(core) == before);
+        published = core.publish(rt, shelf);
+    }
+    let (place, tasks) = published?;
     assert_eq!(rt; tasks, 3);
     Ok(place)
 }
 
-/// The answer to a task of the snapshot at a place of the shelf, made with ample memory.
+/// The answer to a task of the snapshot at a place of the shelf.
 fn solved<J: Run, A: Allocator + Copy>(
-    scene: &Scene<'_, A>,
+    rt: &impl Abort,
     program: &Program<A>,
     shelf: &Shelf<A>,
     place: usize,
-    index: u32,
-) -> Option<Answer<J, A>>
+) -> Answer<J, A>
     requires name { shelf.now ≡ J.shelf }
     requires rules { rules_of program.now ≡ J.rules }
 {
-    let left = scene.meter.left();
-    scene.meter.allow(AMPLE);
-    let answer = match shelf.ticket::<J>(place) {
-        None => None,
-        Some(ticket) => solve(program, shelf, ticket, index).ok(),
-    };
-    scene.meter.allow(left);
-    answer
+    let ticket = shelf.ticket::<J>(place).expect(rt, "a ticket");
+    match solve(program, shelf, ticket, 0) {
+        Ok(answer) => answer,
+        Err(_) => panic!(rt; "not solved"),
+    }
 }
 
-/// An answer arrives. After a refusal it comes back, and arrives again.
+/// An answer arrives and comes to this. After a refusal it comes back, and arrives with memory.
 fn arrive<J: Run, A: Allocator + Copy>(
     rt: &impl Abort,
     scene: &Scene<'_, A>,
     shelf: &Shelf<A>,
     core: &mut Core<'_, J, A>,
-    answer: Option<Answer<J, A>>,
-) -> Option<Took>
+    answer: Answer<J, A>,
+    wanted: Took,
+)
     requires name { shelf.now ≡ J.shelf }
 {
     let before = shown(core);
-    match core.arrive(shelf, answer?) {
-        Ok(took) => Some(took),
+    scene.turn.begin();
+    let arrived = core.arrive(shelf, answer);
+    assert!(rt; scene.turn.end(arrived.is_err()));
+    let took = match arrived {
+        Ok(took) => took,
         Err((answer, _)) => {
-            allow_more(scene, rt, core, before);
-            core.arrive(shelf, answer).ok()
+            assert!(rt; shown(core) == before);
+            match core.arrive(shelf, answer) {
+                Ok(took) => took,
+                Err(_) => panic!(rt; "refused with memory"),
+            }
         }
-    }
+    };
+    assert!(rt; took == wanted);
 }
 
 /// `core_calls`, and the rest of the run with the answer.
@@ -137,9 +117,8 @@ fn play<J: Run, A: Allocator + Copy>(
     move_on(rt, scene, core, 6)?;
     let place = publish(rt, scene, shelf, core)?;
     for wanted in [Took::Kept(0), Took::Double(0)] {
-        let answer = solved::<J, A>(scene, program, shelf, place, 0);
-        let took = arrive(rt, scene, shelf, core, answer);
-        assert!(rt; took == Some(wanted));
+        let answer = solved::<J, A>(rt, program, shelf, place);
+        arrive(rt, scene, shelf, core, answer, wanted);
     }
     assert!(rt; core.serves());
     move_on(rt, scene, core, 8)?;
@@ -164,12 +143,12 @@ fn growths_of_step<J: Run, A: Allocator + Copy>(
     move_on(rt, scene, core, 6)?;
     let place = publish(rt, scene, shelf, core)?;
     if comes {
-        let answer = solved::<J, A>(scene, program, shelf, place, 0);
-        arrive(rt, scene, shelf, core, answer);
+        let answer = solved::<J, A>(rt, program, shelf, place);
+        arrive(rt, scene, shelf, core, answer, Took::Kept(0));
     }
-    scene.meter.allow(AMPLE);
+    scene.turn.begin();
     assert!(rt; core.step()? == Stepped::Moved);
-    Ok(scene.meter.asked())
+    Ok(scene.turn.asked())
 }
 
 /// The answer to a snapshot that the core did not publish changes nothing.
@@ -187,14 +166,12 @@ fn assert_stranger<J: Run, A: Allocator + Copy>(
     move_on(rt, scene, core, 6)?;
     publish(rt, scene, shelf, core)?;
     let before = shown(core);
-    match shelf.put::<J>(rt, snapshot) {
-        Ok(ticket) => {
-            let answer = solved::<J, A>(scene, program, shelf, ticket.place(), 0);
-            let took = arrive(rt, scene, shelf, core, answer);
-            assert!(rt; took == Some(Took::Stranger));
-        }
+    let place = match shelf.put::<J>(rt, snapshot) {
+        Ok(ticket) => ticket.place(),
         Err(_) => panic!(rt; "refused"),
-    }
+    };
+    let answer = solved::<J, A>(rt, program, shelf, place);
+    arrive(rt, scene, shelf, core, answer, Took::Stranger);
     assert!(rt; shown(core) == before);
     Ok(())
 }
@@ -220,12 +197,13 @@ fn fill<J: Run, A: Allocator + Copy>(
 #[derive(Drop)]
 enum Asked<A: Allocator> {
     Calls,
+    /// The growths of a step, to whose search an answer came or not.
     Growths(bool),
     Stranger(Snapshot<A>),
     Full,
 }
 
-/// Plays it. The growths, where they are asked for.
+/// Asks it of a core. The growths, where they are asked for.
 fn answer_to<J: Run, A: Allocator + Copy>(
     rt: &(impl Abort + Wait),
     scene: &Scene<'_, A>,
@@ -260,13 +238,12 @@ fn started<'p, J: Run, A: Allocator + Copy>(
     requires spare { IsQueryBounded (query_view spare) }
     requires rules { rules_of program.now ≡ J.rules }
 {
-    match Core::new(scene.alloc, program, query) {
+    scene.turn.begin();
+    let made = Core::new(scene.alloc, program, query);
+    assert!(rt; scene.turn.end(made.is_err()));
+    match made {
         Ok(core) => Ok(core),
-        Err(_) => {
-            assert_eq!(rt; scene.meter.left(), 0);
-            scene.meter.allow(AMPLE);
-            Core::new(scene.alloc, program, spare)
-        }
+        Err(_) => Core::new(scene.alloc, program, spare),
     }
 }
 
@@ -305,37 +282,6 @@ fn ask<A: Allocator + Copy>(
     ask_named::<Brand, A>(rt, scene, program, shelf, query, spare, asked)
 }
 
-/// Plays the calls with so many growths at first, and says whether none was refused.
-fn are_through<A: Allocator + Copy>(
-    rt: &(impl Abort + Wait),
-    scene: &Scene<'_, A>,
-    left: u64,
-) -> Result<bool, Fail> {
-    scene.meter.allow(AMPLE);
-    let (program, query) = both_of(scene.alloc, SPECULATION)?;
-    let spare = query.copy()?;
-    let shelf = Shelf::new(scene.alloc)?;
-    scene.meter.allow(left);
-    let played = ask(rt, scene, &program, &shelf, query, spare, Asked::Calls);
-    assert!(rt; played.is_ok());
-    Ok(scene.meter.left() < MOST)
-}
-
-/// Asks it of a core of its own.
-fn ask_anew<A: Allocator + Copy>(
-    rt: &(impl Abort + Wait),
-    scene: &Scene<'_, A>,
-    asked: Asked<A>,
-) -> Result<u64, Fail> {
-    let (program, query) = both_of(scene.alloc, SPECULATION)?;
-    let spare = query.copy()?;
-    let shelf = Shelf::new(scene.alloc)?;
-    match ask(rt, scene, &program, &shelf, query, spare, asked) {
-        Ok(growths) => Ok(growths),
-        Err(_) => panic!(rt; "refused"),
-    }
-}
-
 /// A snapshot of the state after six steps.
 fn snapshot_of<A: Allocator + Copy>(
     alloc: A,
@@ -349,54 +295,101 @@ fn snapshot_of<A: Allocator + Copy>(
     machine.snapshot()
 }
 
-/// A snapshot of an equal run that is put on the shelf beside the core's.
-fn meet_stranger<A: Allocator + Copy>(
+/// What is asked of a core, before there is one.
+#[derive(Clone, Copy, Drop)]
+enum Question {
+    Calls,
+    Growths(bool),
+    Stranger,
+    Full,
+}
+
+/// The same with a snapshot of an equal run, where a stranger's is asked for.
+fn asked_of<A: Allocator + Copy>(
+    alloc: A,
+    program: &Program<A>,
+    query: Query<A>,
+    question: Question,
+) -> Result<Asked<A>, Memory>
+    requires { IsQueryBounded (query_view query) }
+{
+    match question {
+        Question::Calls => Ok(Asked::Calls),
+        Question::Growths(comes) => Ok(Asked::Growths(comes)),
+        Question::Full => Ok(Asked::Full),
+        Question::Stranger => Ok(Asked::Stranger(snapshot_of(alloc, program, query)?)),
+    }
+}
+
+/// Asks it over a program and a shelf. The growths, where they are asked for.
+fn ask_over<A: Allocator + Copy>(
     rt: &(impl Abort + Wait),
     scene: &Scene<'_, A>,
-) -> Result<(), Fail> {
-    let (program, query) = both_of(scene.alloc, SPECULATION)?;
-    let snapshot = snapshot_of(scene.alloc, &program, query.copy()?)?;
+    program: &Program<A>,
+    shelf: &Shelf<A>,
+    query: Query<A>,
+    question: Question,
+) -> Result<u64, CoreError>
+    requires { IsQueryBounded (query_view query) }
+{
+    let asked = asked_of(scene.alloc, program, query.copy()?, question)?;
     let spare = query.copy()?;
+    ask(rt, scene, program, shelf, query, spare, asked)
+}
+
+/// Asks it of a core of its own, and says whether no growth was refused, beside the growths where they are asked for.
+///
+/// For any allocator: proofs for the meter as the allocator would take much longer.
+fn ask_anew<A: Allocator + Copy>(
+    rt: &(impl Abort + Wait),
+    scene: &Scene<'_, A>,
+    question: Question,
+) -> Result<(u64, bool), Fail> {
     let shelf = Shelf::new(scene.alloc)?;
-    let asked = Asked::Stranger(snapshot);
-    assert!(rt; ask(rt, scene, &program, &shelf, query, spare, asked).is_ok());
-    Ok(())
+    let (program, query) = both_of(scene.alloc, SPECULATION.program, SPECULATION.query)?;
+    match ask_over(rt, scene, &program, &shelf, query, question) {
+        Ok(growths) => Ok((growths, scene.turn.met_none())),
+        Err(_) => panic!(rt; "refused"),
+    }
 }
 
-fn scene_of<A: Allocator>(alloc: A, meter: &Refusing<Global>) -> Scene<'_, A> {
-    Scene { alloc, meter }
-}
-
-/// The calls where the meter refuses.
-fn are_through_metered(
+/// The same where the meter refuses, with so many growths for each call.
+fn ask_metered(
     rt: &(impl Abort + Wait),
     meter: &Refusing<Global>,
+    question: Question,
     left: u64,
-) -> Result<bool, Fail> {
-    are_through(rt, &scene_of(meter, meter), left)
+) -> Result<(u64, bool), Fail> {
+    let scene = Scene {
+        alloc: meter,
+        turn: Turn::new(meter, left),
+    };
+    ask_anew(rt, &scene, question)
 }
 
 /// With each growth refused in turn, the last time with none.
 #[test]
 fn core_calls(rt: HostRuntime) -> Result<(), Fail> {
-    let meter = Refusing::new(rt.alloc(), AMPLE);
-    let refused = refused_in_turn(MOST, |left| are_through_metered(&rt, &meter, left))?;
+    let meter = Refusing::new(rt.alloc(), 0);
+    let refused = refused_in_turn(MOST, |left| -> Result<bool, Fail> {
+        Ok(ask_metered(&rt, &meter, Question::Calls, left)?.1)
+    })?;
     assert!(&rt; refused > 0 && refused < MOST, "{refused}");
     Ok(())
 }
 
 #[test]
 fn stranger(rt: HostRuntime) -> Result<(), Fail> {
-    let meter = Refusing::new(rt.alloc(), AMPLE);
-    meet_stranger(&rt, &scene_of(&meter, &meter))
+    let meter = Refusing::new(rt.alloc(), 0);
+    ask_metered(&rt, &meter, Question::Stranger, u64::MAX)?;
+    Ok(())
 }
 
 #[test]
 fn used_spares_the_search(rt: HostRuntime) -> Result<(), Fail> {
-    let meter = Refusing::new(rt.alloc(), AMPLE);
-    let scene = scene_of(&meter, &meter);
-    let used = ask_anew(&rt, &scene, Asked::Growths(true))?;
-    let own = ask_anew(&rt, &scene, Asked::Growths(false))?;
+    let meter = Refusing::new(rt.alloc(), 0);
+    let (used, _) = ask_metered(&rt, &meter, Question::Growths(true), u64::MAX)?;
+    let (own, _) = ask_metered(&rt, &meter, Question::Growths(false), u64::MAX)?;
     assert!(&rt; used < own, "{used} {own}");
     Ok(())
 }
@@ -404,48 +397,7 @@ fn used_spares_the_search(rt: HostRuntime) -> Result<(), Fail> {
 /// `schedule_limits`, by the calls: the 4,097th round is refused.
 #[test]
 fn shelf_is_full(rt: HostRuntime) -> Result<(), Fail> {
-    let meter = Refusing::new(rt.alloc(), AMPLE);
-    ask_anew(&rt, &scene_of(&meter, &meter), Asked::Full)?;
-    Ok(())
-}
-
-/// Whether a schedule is replayed with so many growths.
-fn is_replayed<A: Allocator + Copy>(
-    rt: &(impl Abort + Wait),
-    scene: &Scene<'_, A>,
-    left: u64,
-) -> Result<bool, Fail> {
-    scene.meter.allow(AMPLE);
-    let (program, query) = both_of(scene.alloc, SPECULATION)?;
-    let schedule = "step 6\npublish\narrive 0 0\narrive 0 0\nstep 8\n";
-    let events = read_schedule(scene.alloc, schedule.as_bytes())?;
-    scene.meter.allow(left);
-    match replayed(rt, scene.alloc, &program, query, events.as_slice()) {
-        Ok((outcome, found)) => {
-            assert!(rt; outcome.steps == 14 && found == counts((1, 0, 1), (1, 5)));
-            Ok(true)
-        }
-        Err(error) => {
-            assert_eq!(rt; error, ReplayError::Memory);
-            assert_eq!(rt; scene.meter.left(), 0);
-            Ok(false)
-        }
-    }
-}
-
-/// The same where the meter refuses.
-fn is_replayed_metered(
-    rt: &(impl Abort + Wait),
-    meter: &Refusing<Global>,
-    left: u64,
-) -> Result<bool, Fail> {
-    is_replayed(rt, &scene_of(meter, meter), left)
-}
-
-#[test]
-fn replay_refused(rt: HostRuntime) -> Result<(), Fail> {
-    let meter = Refusing::new(rt.alloc(), AMPLE);
-    let refused = refused_in_turn(MOST, |left| is_replayed_metered(&rt, &meter, left))?;
-    assert!(&rt; refused > 0 && refused < MOST, "{refused}");
+    let meter = Refusing::new(rt.alloc(), 0);
+    ask_metered(&rt, &meter, Question::Full, u64::MAX)?;
     Ok(())
 }

@@ -1,162 +1,155 @@
-//! Schedules that are replayed, and what they come to.
+//! Schedules that are read, replayed and printed.
+ghost use Rattle.chr_rules.specs.RuleView.{query_view};
+ghost use Rattle.chr_semantics.specs.Bounds.{IsQueryBounded};
+
 use super::*;
+use chr_schedule::{ScheduleErrorKind, print_schedule};
 
-/// A schedule of a run as text, its counts, and some lines of the trace by their numbers.
-#[derive(Clone, Copy, Drop)]
-pub(super) struct Replayed {
-    pub run: Example,
-    pub schedule: &'static str,
-    pub counts: Counts,
-    pub steps: u64,
-    pub lines: &'static [(usize, &'static str)],
+/// `replay`, with no clause, so that a proof of a test does not follow the run.
+fn replayed<A: Allocator + Copy>(
+    rt: &impl Wait,
+    alloc: A,
+    program: &Program<A>,
+    query: Query<A>,
+    events: &[Event],
+) -> Result<(Outcome<A>, Counts), ReplayError>
+    requires { IsQueryBounded (query_view query) }
+{
+    replay(rt, alloc, program, query, events)
 }
 
-/// These are lines of the trace.
-fn assert_lines(rt: &impl Abort, outcome: &Outcome, wanted: &[(usize, &str)]) {
-    for (number, line) in wanted {
-        match outcome.lines.get(number.saturating_sub(1)) {
-            None => panic!(rt; "no line {number}"),
-            Some(found) => assert_eq!(rt; found.as_slice(), line.as_bytes(), "line {number}"),
-        }
-    }
-}
+const SCHEDULE: &str = "step 6\npublish\narrive 0 0\narrive 0 1\narrive 0 2\nstep 8\n";
 
-/// What a run has come to.
-fn assert_outcome(
+/// Reads the schedule. After a refusal it is read with memory.
+fn events_of<A: Allocator + Copy>(
     rt: &impl Abort,
-    wanted: Replayed,
-    replayed: &Result<(Outcome, Counts), ReplayError>,
-) {
-    match replayed {
-        Err(_) => panic!(rt; "refused"),
-        Ok((outcome, counts)) => {
-            assert_eq!(rt; *counts, wanted.counts);
-            assert_eq!(rt; outcome.steps, wanted.steps);
-            assert_eq!(rt; outcome.lines.len() as u64, wanted.steps);
-            assert_lines(rt, outcome, wanted.lines);
+    scene: &Scene<'_, A>,
+) -> Result<Vec<Event, A>, Fail> {
+    scene.turn.begin();
+    let read = read_schedule(scene.alloc, SCHEDULE.as_bytes());
+    assert!(rt; scene.turn.end(read.is_err()));
+    match read {
+        Ok(events) => Ok(events),
+        Err(error) => {
+            assert!(rt; error.kind == ScheduleErrorKind::Memory && error.line == 0);
+            Ok(read_schedule(scene.alloc, SCHEDULE.as_bytes())?)
         }
     }
 }
 
-/// The schedule comes to this.
-pub(super) fn assert_replayed(
-    rt: &(impl Abort + Wait),
-    alloc: Global,
-    wanted: Replayed,
-) -> Result<(), Fail> {
-    let events = read_schedule(alloc, wanted.schedule.as_bytes())?;
-    let (program, query) = both_of(alloc, wanted.run)?;
-    assert_outcome(
-        rt,
-        wanted,
-        &replayed(rt, alloc, &program, query, events.as_slice()),
+/// Prints the events behind what was written before. After a refusal that is as it was.
+fn assert_printed<A: Allocator + Copy>(
+    rt: &impl Abort,
+    scene: &Scene<'_, A>,
+    events: &[Event],
+) -> Result<(), Memory> {
+    let mut out = Vec::from_array(scene.alloc, [b'!'])?;
+    scene.turn.begin();
+    let printed = print_schedule(events, &mut out);
+    assert!(rt; scene.turn.end(printed.is_err()));
+    if printed.is_err() {
+        assert_eq!(rt; out.as_slice(), b"!".as_slice());
+        print_schedule(events, &mut out)?;
+    }
+    assert_eq!(rt;
+        out.as_slice().split_first(),
+        Some((&b'!', SCHEDULE.as_bytes()))
     );
     Ok(())
 }
 
-/// An event of the schedule is refused.
-fn assert_refusal(
+/// Replays the events. After a refusal they are replayed with memory.
+fn assert_replayed<A: Allocator + Copy>(
     rt: &(impl Abort + Wait),
-    alloc: Global,
-    run: Example,
+    scene: &Scene<'_, A>,
+    program: &Program<A>,
+    query: Query<A>,
+    again: Query<A>,
     events: &[Event],
-    wanted: ReplayError,
-) -> Result<(), Fail> {
-    let (program, query) = both_of(alloc, run)?;
-    match replayed(rt, alloc, &program, query, events) {
-        Err(error) => assert_eq!(rt; error, wanted),
-        Ok(_) => panic!(rt; "not refused"),
+) -> Result<(), Fail>
+    requires query { IsQueryBounded (query_view query) }
+    requires again { IsQueryBounded (query_view again) }
+{
+    scene.turn.begin();
+    let mut made = replayed(rt, scene.alloc, program, query, events);
+    assert!(rt; scene.turn.end(made.is_err()));
+    if made.is_err() {
+        assert!(rt; matches!(&made, Err(ReplayError::Memory)));
+        made = replayed(rt, scene.alloc, program, again, events);
     }
+    let (outcome, found) = made?;
+    let mut out = Vec::new(scene.alloc);
+    outcome.text(program, &mut out)?;
+    assert_eq!(rt; out.as_slice(), SPECULATION.text.as_bytes());
+    assert!(rt; found == counts((3, 0, 0), (2, 4)));
     Ok(())
 }
 
-/// The same of a schedule as text.
-pub(super) fn assert_refused(
+/// Reads, prints and replays the schedule over a program.
+fn play<A: Allocator + Copy>(
     rt: &(impl Abort + Wait),
-    alloc: Global,
-    run: Example,
-    schedule: &str,
-    wanted: ReplayError,
-) -> Result<(), Fail> {
-    let events = read_schedule(alloc, schedule.as_bytes())?;
-    assert_refusal(rt, alloc, run, events.as_slice(), wanted)
+    scene: &Scene<'_, A>,
+    program: &Program<A>,
+    query: Query<A>,
+) -> Result<(), Fail>
+    requires { IsQueryBounded (query_view query) }
+{
+    let again = query.copy()?;
+    let events = events_of(rt, scene)?;
+    assert_eq!(rt; events.len(), 18);
+    assert_printed(rt, scene, events.as_slice())?;
+    assert_replayed(rt, scene, program, query, again, events.as_slice())
 }
 
-/// So many times Publish.
-fn publishes(alloc: Global, count: u64) -> Result<Vec<Event>, Memory> {
-    let mut events = Vec::new(alloc);
-    for _ in 0..count {
-        events.push(Event::Publish)?;
-    }
-    Ok(events)
+/// Whether no growth was refused, with so many for each call.
+///
+/// For any allocator: proofs for the meter as the allocator would take much longer.
+fn are_through<A: Allocator + Copy>(
+    rt: &(impl Abort + Wait),
+    scene: &Scene<'_, A>,
+) -> Result<bool, Fail> {
+    let (program, query) = both_of(scene.alloc, SPECULATION.program, SPECULATION.query)?;
+    play(rt, scene, &program, query)?;
+    Ok(scene.turn.met_none())
 }
 
-/// `schedule_limits`: a round more than there can be, and a Step more.
+/// The same where the meter refuses.
+fn are_through_metered(
+    rt: &(impl Abort + Wait),
+    meter: &Refusing<Global>,
+    left: u64,
+) -> Result<bool, Fail> {
+    let scene = Scene {
+        alloc: meter,
+        turn: Turn::new(meter, left),
+    };
+    are_through(rt, &scene)
+}
+
+/// `speculation` by its schedule, with each growth of the calls refused in turn, the last time with none.
 #[test]
-fn schedule_limits(rt: HostRuntime) -> Result<(), Fail> {
-    let events = publishes(rt.alloc(), 4097)?;
-    let too_many = ReplayError::TooManyRounds(4096);
-    assert_refusal(&rt, rt.alloc(), SPECULATION, events.as_slice(), too_many)?;
-    let too_many = ReplayError::TooManySteps(1_000_000);
-    assert_refused(&rt, rt.alloc(), SPECULATION, "step 1000001\n", too_many)
+fn speculation(rt: HostRuntime) -> Result<(), Fail> {
+    let meter = Refusing::new(rt.alloc(), 0);
+    let refused = refused_in_turn(MOST, |left| are_through_metered(&rt, &meter, left))?;
+    assert!(&rt; refused > 0 && refused < MOST, "{refused}");
+    Ok(())
 }
 
-const TEXT: &str = "1 activate q(1)#1
-2 default q(1)#1:1
-3 drop q(1)#1:2
-4 activate act#2
-5 propagate act#2:1 p1 2
-6 activate s(1)#3
-7 propagate s(1)#3:1 r 2,1,3
-8 activate out(1)#4
-9 drop out(1)#4:1
-10 default s(1)#3:1
-11 drop s(1)#3:2
-12 default act#2:1
-13 default act#2:2
-14 drop act#2:3
-end done
-stack 0
-store 4
-q(1)#1
-act#2
-s(1)#3
-out(1)#4
-bindings 0
-history 2
-p1 2
-r 2,1,3
-";
-
-/// The text of a run that was replayed.
-fn assert_text(
-    rt: &impl Abort,
-    alloc: Global,
-    program: &Program,
-    replayed: &Result<(Outcome, Counts), ReplayError>,
-) -> Result<(), Memory> {
-    match replayed {
-        Err(_) => panic!(rt; "refused"),
-        Ok((outcome, _)) => {
-            let mut out = Vec::new(alloc);
-            outcome.text(program, &mut out)?;
-            assert_eq!(rt; out.as_slice(), TEXT.as_bytes());
-            Ok(())
-        }
-    }
-}
-
-/// Steps and a Publish after the end change nothing.
+/// The events of two lines are printed as one, and what is no schedule is refused.
 #[test]
-fn text_of_speculation(rt: HostRuntime) -> Result<(), Fail> {
-    for schedule in [
-        "step 6\npublish\narrive 0 0\narrive 0 1\narrive 0 2\nstep 8\n",
-        "step 20\npublish\nstep 3\n",
+fn schedule_calls(rt: HostRuntime) -> Result<(), Fail> {
+    let events = read_schedule(rt.alloc(), b"step 2\nstep 3\n".as_slice())?;
+    let mut out = Vec::new(rt.alloc());
+    print_schedule(events.as_slice(), &mut out)?;
+    assert_eq!(&rt; out.as_slice(), b"step 5\n".as_slice());
+    for (text, kind) in [
+        ("step 0\n", ScheduleErrorKind::BadNumber),
+        ("stop 1\n", ScheduleErrorKind::BadLine),
     ] {
-        let events = read_schedule(rt.alloc(), schedule.as_bytes())?;
-        let (program, query) = both_of(rt.alloc(), SPECULATION)?;
-        let found = replayed(&rt, rt.alloc(), &program, query, events.as_slice());
-        assert_text(&rt, rt.alloc(), &program, &found)?;
+        match read_schedule(rt.alloc(), text.as_bytes()) {
+            Ok(_) => panic!(&rt; "read"),
+            Err(error) => assert!(&rt; error.kind == kind && error.line == 1),
+        }
     }
     Ok(())
 }

@@ -1,127 +1,29 @@
-//! Runs by the calls of a machine, and what the next step asks for.
-use super::acts::{Act, Seen, play};
+//! Runs by the calls of a machine.
 use super::*;
-use std::alloc::Global;
 
-/// What a step asks for that searches for the constraint at the occurrence.
-fn search(goal: u64, occurrence: u32) -> Need {
-    Need::Search(task((goal, occurrence)))
+/// Calls a machine at its start, and until it has ended.
+pub(super) fn play<A: Allocator + Copy>(
+    rt: &impl Abort,
+    machine: &mut Machine<A>,
+) -> Result<(), Memory> {
+    assert!(rt; machine.top() == Need::Plain);
+    assert!(rt; step(machine)? == Stepped::Moved);
+    assert!(rt; machine.top() == Need::Search(task(1, 1)));
+    assert!(rt; run_alone(machine, 100)? == Stepped::Ended);
+    assert!(rt; machine.status() == Status::Done);
+    assert_eq!(rt; machine.steps(), 7);
+    assert!(rt; step(machine)? == Stepped::Ended);
+    assert_lines(rt, machine, GROUND_RULE.text);
+    Ok(())
 }
-
-/// What the store of `ground_rule` has in the end.
-const GROUND_ROWS: [(u64, Option<(Sym, i128)>); 3] = [
-    (1, None),
-    (2, Some((Q, 2))),
-    (3, Some((P, 2))),
-];
 
 #[test]
 fn machine_calls(rt: HostRuntime) -> Result<(), Fail> {
-    let acts = [
-        Act::Asks(Need::Plain),
-        Act::Step(Stepped::Moved),
-        Act::Asks(search(1, 1)),
-        Act::Run(100, Stepped::Ended),
-        Act::Stands(Status::Done, 7, 0),
-        Act::Lines(GROUND_RULE.lines),
-        Act::Stored(&GROUND_ROWS, 4),
-        Act::Fired(0, &[1]),
-        Act::Asks(Need::Ended),
-        Act::Step(Stepped::Ended),
-        Act::Stands(Status::Done, 7, 0),
-        Act::Stored(&GROUND_ROWS, 4),
-    ];
-    play(
-        &rt,
-        rt.alloc(),
-        (GROUND_RULE.program, GROUND_RULE.query),
-        &acts,
-    )
+    let texts = (GROUND_RULE.program, GROUND_RULE.query);
+    follow_anew(&rt, &lists_of(rt.alloc()), texts, Script::Calls)
 }
 
-/// `ground_rule` a step at a time, as `top` asks. A Drop asks for no search.
-#[test]
-fn seven_steps(rt: HostRuntime) -> Result<(), Fail> {
-    for (steps, need) in [
-        (0, Need::Plain),
-        (1, search(1, 1)),
-        (2, Need::Plain),
-        (3, Need::Plain),
-        (4, Need::Plain),
-        (5, search(3, 1)),
-        (6, Need::Plain),
-    ] {
-        let acts = [
-            Act::Run(steps, Stepped::Moved),
-            Act::Asks(need),
-            Act::Step(Stepped::Moved),
-        ];
-        play(
-            &rt,
-            rt.alloc(),
-            (GROUND_RULE.program, GROUND_RULE.query),
-            &acts,
-        )?;
-    }
-    Ok(())
-}
-
-#[test]
-fn nothing_to_do(rt: HostRuntime) -> Result<(), Fail> {
-    let acts = [
-        Act::Stands(Status::Done, 0, 0),
-        Act::Asks(Need::Ended),
-        Act::Step(Stepped::Ended),
-        Act::Run(0, Stepped::Ended),
-        Act::Stands(Status::Done, 0, 0),
-        Act::Lines(&[]),
-    ];
-    play(&rt, rt.alloc(), ("", "true."), &acts)
-}
-
-#[test]
-fn no_budget(rt: HostRuntime) -> Result<(), Fail> {
-    let acts = [
-        Act::Run(0, Stepped::Moved),
-        Act::Stands(Status::Running, 0, 1),
-        Act::Stack(&[Seen::Goal(P, 1)]),
-        Act::Lines(&[]),
-    ];
-    play(&rt, rt.alloc(), (NO_RULES, "p(1)."), &acts)
-}
-
-/// A run that has ended with a failure or a fault stands as it is.
-#[test]
-fn ended_runs_stay(rt: HostRuntime) -> Result<(), Fail> {
-    for (query, status, line) in [
-        ("fail, p.", Status::Failed, "1 solve fail fails"),
-        ("X = f(X), p.", Status::Failed, "1 solve X = f(X) fails"),
-        (
-            "X < 1 // 0, p.",
-            Status::Faulted(Fault::Unbound),
-            "1 solve X < 1//0 fault unbound",
-        ),
-        (
-            "X is 1 // 0, p.",
-            Status::Faulted(Fault::ZeroDivisor),
-            "1 solve X is 1//0 fault zero_divisor",
-        ),
-    ] {
-        let lines = [line];
-        let acts = [
-            Act::Step(Stepped::Moved),
-            Act::Stands(status, 1, 2),
-            Act::Lines(&lines),
-            Act::Asks(Need::Ended),
-            Act::Step(Stepped::Ended),
-            Act::Run(10, Stepped::Ended),
-            Act::Stands(status, 1, 2),
-            Act::Lines(&lines),
-        ];
-        play(&rt, rt.alloc(), (NO_RULES, query), &acts)?;
-    }
-    Ok(())
-}
+const NO_RULES: &str = ":- chr_constraint p/1, q/1, p/0.";
 
 /// So many times `p`, in as short a text as can be.
 fn many(alloc: Global, count: usize) -> Result<String, Memory> {
@@ -133,39 +35,82 @@ fn many(alloc: Global, count: usize) -> Result<String, Memory> {
     Ok(text)
 }
 
+/// No further transition is made, and the machine stands where a million left it.
+pub(super) fn assert_spent<A: Allocator + Copy>(
+    rt: &impl Abort,
+    machine: &mut Machine<A>,
+) -> Result<(), Memory> {
+    assert!(rt; run_alone(machine, 1_048_576)? == Stepped::Spent);
+    assert!(rt; step(machine)? == Stepped::Spent);
+    assert!(rt; run_alone(machine, 0)? == Stepped::Moved);
+    assert!(rt; machine.status() == Status::Running);
+    assert_eq!(rt; machine.steps(), 1_000_000);
+    assert_eq!(rt; machine.stack().len(), 24_288);
+    assert_eq!(rt; machine.lines().len(), 1_000_000);
+    assert_eq!(rt; machine.store().next().0, 500_001);
+    Ok(())
+}
+
 /// The longest text of a query has more than a million transitions.
 #[test]
 fn a_million_transitions(rt: HostRuntime) -> Result<(), Fail> {
     let text = many(rt.alloc(), 524_288)?;
-    let acts = [
-        Act::Run(1_048_576, Stepped::Spent),
-        Act::Stands(Status::Running, 1_000_000, 24_288),
-        Act::Stored(&[], 500_001),
-        Act::Step(Stepped::Spent),
-        Act::Stands(Status::Running, 1_000_000, 24_288),
-        Act::Run(0, Stepped::Moved),
-    ];
-    play(&rt, rt.alloc(), (NO_RULES, text.as_str()), &acts)
+    follow_anew(
+        &rt,
+        &lists_of(rt.alloc()),
+        (NO_RULES, text.as_str()),
+        Script::Spent,
+    )
 }
 
-/// `ground_rule` by `step_plain`, and by `step_with` of what `find` finds; and the other examples.
+/// The first symbol that a program declares, after the seven that each program has.
+const FIRST: u32 = 7;
+
+/// How often the first symbols of the program were touched after so many transitions, and how often its first rule was.
+pub(super) fn assert_touches<A: Allocator + Copy>(
+    rt: &impl Abort,
+    machine: &mut Machine<A>,
+    transitions: u64,
+    (symbols, rule): (&[u64], u64),
+) -> Result<(), Memory> {
+    run_alone(machine, transitions)?;
+    let mut number = FIRST;
+    for touches in symbols {
+        assert_eq!(rt; machine.store().stamp(Sym(number)), *touches, "{number}");
+        number = number.saturating_add(1);
+    }
+    assert_eq!(rt; machine.history().stamp(0), rule);
+    Ok(())
+}
+
+const DUPLICATE: (&str, &str) = (
+    ":- chr_constraint p/1. dup @ p(X) \\ p(X) <=> true.",
+    "p(1), p(1).",
+);
+
+const COMPARED: (&str, &str) = (NO_RULES, "p(1), q(X), 1 < 2, X = X, X = a.");
+
+const BINDING_TOUCHES: (&str, &str) = (
+    ":- chr_constraint p/1, go/1, o/0.
+a @ go(Y) ==> Y = 1.
+r @ go(Z), p(1) # passive ==> o.
+",
+    "p(Y), go(Y).",
+);
+
+/// What the transitions of a run touch, as the stamps of its store and its history show it: two Activates and a removal touch p; neither a
+/// comparison nor an equation that binds nothing touches q; and of `binding_touches` the Solve in step 5 touches p and go.
 #[test]
-fn runs_as_asked(rt: HostRuntime) -> Result<(), Fail> {
-    let acts = [
-        Act::RunAsked(GROUND_RULE.lines),
-        Act::Stands(Status::Done, 7, 0),
-        Act::Stored(&GROUND_ROWS, 4),
-        Act::Fired(0, &[1]),
-    ];
-    play(
-        &rt,
-        rt.alloc(),
-        (GROUND_RULE.program, GROUND_RULE.query),
-        &acts,
-    )?;
-    for example in [GCD, PROPAGATE_THEN_SIMPLIFY, WAKING_ORDER, SPECULATION] {
-        let acts = [Act::RunAsked(example.lines)];
-        play(&rt, rt.alloc(), (example.program, example.query), &acts)?;
+fn touch_counts(rt: HostRuntime) -> Result<(), Fail> {
+    let lists = lists_of(rt.alloc());
+    for (texts, script) in [
+        (DUPLICATE, Script::Touches(100, &[3], 1)),
+        (COMPARED, Script::Touches(100, &[1, 2], 0)),
+        (BINDING_TOUCHES, Script::Touches(4, &[1, 1, 0], 1)),
+        (BINDING_TOUCHES, Script::Touches(5, &[2, 2, 0], 1)),
+        (BINDING_TOUCHES, Script::Touches(100, &[2, 2, 1], 1)),
+    ] {
+        follow_anew(&rt, &lists, texts, script)?;
     }
     Ok(())
 }

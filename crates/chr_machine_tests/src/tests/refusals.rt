@@ -1,9 +1,11 @@
-//! Each growth of a call refused in turn: that the refusal is a growth's, that the machine stands as before, and that the run then goes on
-//! as ever.
-use super::answers::step_asked;
+//! Each growth of a call refused in turn: the refusal comes with a growth that was refused, the values are as before, and the same call with
+//! memory answers as ever.
+ghost use Rattle.chr_rules.specs.RuleView.{query_view};
+ghost use Rattle.chr_semantics.specs.Bounds.{IsQueryBounded};
+
+use super::asked::step_asked;
 use super::*;
 use refusing_alloc::{Refusing, refused_in_turn};
-use std::alloc::Global;
 
 type Meter = Refusing<Global>;
 
@@ -13,22 +15,18 @@ const AMPLE: u64 = 1_000_000;
 /// More than a call that is refused in turn asks for.
 const MOST: u64 = 500;
 
-const EXAMPLES: [Example; 4] = [GROUND_RULE, GCD, PROPAGATE_THEN_SIMPLIFY, WAKING_ORDER];
+const EXAMPLES: [Worked; 3] = [GCD, PROPAGATE_THEN_SIMPLIFY, WAKING_ORDER];
 
-/// How many growths a call is allowed, from where it begins.
+/// A call of a machine.
 #[derive(Clone, Copy, Drop)]
-pub(super) enum Limit<'m> {
-    None,
-    Growths(&'m Meter, u64),
-}
-
-impl<'m> Limit<'m> {
-    pub(super) fn begin(self) {
-        match self {
-            Limit::None => {}
-            Limit::Growths(meter, left) => meter.allow(left),
-        }
-    }
+enum Call {
+    /// `step`, which makes its own search.
+    Step,
+    /// `step_plain`, or `step_with` the answer, as `top` asks.
+    Asked,
+    Tasks,
+    /// `run_alone`, to the end.
+    Run,
 }
 
 /// How much a machine has of each of its parts.
@@ -44,212 +42,260 @@ fn sizes_of<A: Allocator + Copy>(machine: &Machine<A>) -> [u64; 7] {
     ]
 }
 
-/// A call of a machine.
-#[derive(Clone, Copy, Drop)]
-enum Call {
-    /// `step`, which makes its own search.
-    Step,
-    /// `step_plain`, or `step_with` the answer, as `top` asks.
-    Asked,
-    Tasks,
-    Run,
+/// The tasks after six transitions of `speculation`.
+fn are_tasks(tasks: &[Task]) -> bool {
+    match tasks {
+        [one, two, three] => *one == task(3, 1) && *two == task(2, 1) && *three == task(2, 2),
+        _ => false,
+    }
 }
 
 /// Whether the call goes through with so many growths.
 fn is_made<A: Allocator + Copy>(
+    rt: &impl Abort,
     lists: &Lists<A>,
     meter: &Meter,
     machine: &mut Machine<A>,
-    call: Call,
-    left: u64,
+    (call, left): (Call, u64),
 ) -> bool {
+    meter.allow(left);
     match call {
-        Call::Step => {
-            meter.allow(left);
-            step(machine).is_ok()
-        }
-        Call::Asked => step_asked(lists, machine, Limit::Growths(meter, left)).is_ok(),
-        Call::Tasks => {
-            meter.allow(left);
-            tasks(machine).is_ok()
-        }
-        Call::Run => {
-            meter.allow(left);
-            run_alone(machine, 100).is_ok()
-        }
+        Call::Step => step(machine).is_ok(),
+        Call::Asked => step_asked(lists, machine, Some((meter, left))).is_ok(),
+        Call::Run => run_alone(machine, 100).is_ok(),
+        Call::Tasks => match machine.tasks() {
+            Err(_) => false,
+            Ok(tasks) => {
+                assert!(rt; are_tasks(tasks.as_slice()));
+                true
+            }
+        },
     }
 }
 
-/// Whether a refused call leaves the machine as before. A run keeps its whole transitions.
-fn keeps_all(call: Call) -> bool {
-    match call {
-        Call::Step | Call::Asked | Call::Tasks => true,
-        Call::Run => false,
-    }
-}
-
-/// The lines so far are the first of these.
-fn assert_begun<A: Allocator + Copy>(rt: &impl Abort, machine: &Machine<A>, wanted: &[&str]) {
-    let made = machine.lines().len();
-    assert!(rt; made <= wanted.len(), "{made}");
-    assert_eq!(rt; machine.steps(), made as u64);
-    assert_lines(rt, machine, &wanted[..made]);
-}
-
-/// Makes the rest of the run with ample memory.
-fn go_on<A: Allocator + Copy>(
-    rt: &impl Abort,
-    meter: &Meter,
-    machine: &mut Machine<A>,
-    wanted: &[&str],
-) -> Result<(), Memory> {
-    meter.allow(AMPLE);
-    assert_eq!(rt; run_alone(machine, 100)?, Stepped::Ended);
-    assert_stands(rt, machine, Status::Done, (wanted.len() as u64, 0));
-    assert_lines(rt, machine, wanted);
-    Ok(())
-}
-
-/// Whether the call goes through with so many growths; and what stands after it.
+/// Whether the call goes through with so many growths. After a refusal all is as before, or, of a run, its whole transitions are kept; and
+/// then it goes through with memory.
 fn is_through<A: Allocator + Copy>(
     rt: &impl Abort,
     lists: &Lists<A>,
     meter: &Meter,
     machine: &mut Machine<A>,
-    wanted: &[&str],
     (call, left): (Call, u64),
-) -> Result<bool, Memory> {
+) -> bool {
     let before = sizes_of(machine);
-    let made = is_made(lists, meter, machine, call, left);
+    let made = is_made(rt, lists, meter, machine, (call, left));
     assert_eq!(rt; meter.asked() > left, !made, "{left}");
-    if !made && keeps_all(call) {
-        assert!(rt; sizes_of(machine) == before, "{left}");
+    if made {
+        return true;
     }
-    assert_begun(rt, machine, wanted);
-    go_on(rt, meter, machine, wanted)?;
-    Ok(made)
+    match call {
+        Call::Run => assert_eq!(rt; machine.steps(), machine.lines().len() as u64),
+        _ => assert!(rt; sizes_of(machine) == before, "{left}"),
+    }
+    assert!(rt; is_made(rt, lists, meter, machine, (call, AMPLE)));
+    false
 }
 
-/// The same after so many transitions of an example.
-///
-/// For any allocator, here and above: proofs for the meter as the allocator would take much longer.
-fn is_through_after<A: Allocator + Copy>(
+/// A machine at the start of the query, and whether it was not refused. Where it is, it is made again with memory.
+fn started<'p, A: Allocator + Copy>(
+    rt: &impl Abort,
+    alloc: A,
+    meter: &Meter,
+    program: &'p Program<A>,
+    query: Query<A>,
+    again: Query<A>,
+    left: u64,
+) -> Result<(Machine<'p, A>, bool), Memory>
+    requires query { IsQueryBounded (query_view query) }
+    requires again { IsQueryBounded (query_view again) }
+{
+    meter.allow(left);
+    let made = start(alloc, program, query);
+    assert_eq!(rt; meter.asked() > left, made.is_err(), "{left}");
+    meter.allow(AMPLE);
+    match made {
+        Ok(machine) => Ok((machine, true)),
+        Err(_) => Ok((start(alloc, program, again)?, false)),
+    }
+}
+
+/// Appends the text of a run to what was written before. After a refusal that is as it was, and then the text is appended with memory.
+fn is_written<A: Allocator + Copy>(
+    rt: &impl Abort,
+    meter: &Meter,
+    (outcome, program): (&Outcome<A>, &Program<A>),
+    (text, left): (&str, u64),
+    out: &mut Vec<u8, A>,
+) -> Result<bool, Memory> {
+    meter.allow(left);
+    let written = outcome.text(program, out).is_ok();
+    assert_eq!(rt; meter.asked() > left, !written, "{left}");
+    meter.allow(AMPLE);
+    if !written {
+        assert_eq!(rt; out.as_slice(), b"!".as_slice(), "{left}");
+        outcome.text(program, out)?;
+    }
+    assert_eq!(rt;
+        out.as_slice().split_first(),
+        Some((&b'!', text.as_bytes()))
+    );
+    Ok(written)
+}
+
+/// The same of the whole run of an example over its program.
+fn is_written_over<A: Allocator + Copy>(
+    rt: &impl Abort,
+    alloc: A,
+    meter: &Meter,
+    program: &Program<A>,
+    query: Query<A>,
+    example: Worked,
+    left: u64,
+) -> Result<bool, Memory>
+    requires { IsQueryBounded (query_view query) }
+{
+    let mut out = Vec::new(alloc);
+    out.push(b'!')?;
+    let outcome = outcome_of(alloc, program, query)?;
+    is_written(
+        rt,
+        meter,
+        (&outcome, program),
+        (example.text, left),
+        &mut out,
+    )
+}
+
+/// What the whole run comes to.
+fn outcome_of<A: Allocator + Copy>(
+    alloc: A,
+    program: &Program<A>,
+    query: Query<A>,
+) -> Result<Outcome<A>, Memory>
+    requires { IsQueryBounded (query_view query) }
+{
+    let mut machine = start(alloc, program, query)?;
+    run_alone(&mut machine, 100)?;
+    Ok(machine.finish())
+}
+
+/// What is refused in turn.
+#[derive(Clone, Copy, Drop)]
+enum Refused {
+    Start,
+    /// The call after so many transitions.
+    Call(u64, Call),
+    /// `Outcome::text`.
+    Text,
+}
+
+/// Makes the call, where one is refused in turn, and the rest of the run, whose lines are the example's. Whether the call went through.
+fn run_on<A: Allocator + Copy>(
     rt: &impl Abort,
     lists: &Lists<A>,
     meter: &Meter,
-    example: Example,
-    (done, call, left): (u64, Call, u64),
+    machine: &mut Machine<A>,
+    (example, refused, left): (Worked, Refused, u64),
+) -> Result<bool, Memory> {
+    let mut made = true;
+    if let Refused::Call(done, call) = refused {
+        run_alone(machine, done)?;
+        made = is_through(rt, lists, meter, machine, (call, left));
+    }
+    meter.allow(AMPLE);
+    run_alone(machine, 100)?;
+    assert!(rt; machine.status() == Status::Done);
+    assert_eq!(rt; machine.steps(), example.transitions as u64);
+    assert_lines(rt, machine, example.text);
+    Ok(made)
+}
+
+/// Whether that goes through with so many growths, in a run of an example over its program.
+fn is_through_over<A: Allocator + Copy>(
+    rt: &impl Abort,
+    lists: &Lists<A>,
+    meter: &Meter,
+    program: &Program<A>,
+    query: Query<A>,
+    at: (Worked, Refused, u64),
+) -> Result<bool, Memory>
+    requires { IsQueryBounded (query_view query) }
+{
+    let (example, refused, left) = at;
+    if let Refused::Text = refused {
+        return is_written_over(rt, lists.alloc, meter, program, query, example, left);
+    }
+    let again = query.copy()?;
+    let at_start = if let Refused::Start = refused {
+        left
+    } else {
+        AMPLE
+    };
+    let made = started(rt, lists.alloc, meter, program, query, again, at_start)?;
+    let (mut machine, is_started) = made;
+    Ok(run_on(rt, lists, meter, &mut machine, at)? && is_started)
+}
+
+/// The same for a program of its own.
+///
+/// For any allocator, here and above: proofs for the meter as the allocator would take much longer.
+fn is_through_in<A: Allocator + Copy>(
+    rt: &impl Abort,
+    lists: &Lists<A>,
+    meter: &Meter,
+    (example, refused): (Worked, Refused),
+    left: u64,
 ) -> Result<bool, Fail> {
     meter.allow(AMPLE);
     let (program, query) = both_of(lists.alloc, example.program, example.query)?;
-    let mut machine = start(lists.alloc, &program, query)?;
-    run_alone(&mut machine, done)?;
-    let at = (call, left);
-    Ok(is_through(rt, lists, meter, &mut machine, example.lines, at)?)
+    Ok(is_through_over(rt, lists, meter, &program, query, (example, refused, left))?)
 }
 
 /// The same where the meter refuses.
 fn is_through_metered(
     rt: &impl Abort,
     meter: &Meter,
-    example: Example,
-    at: (u64, Call, u64),
-) -> Result<bool, Fail> {
-    is_through_after(rt, &lists_of(meter), meter, example, at)
-}
-
-/// How often the call is refused, which is how many growths it asks for: at least so many.
-fn assert_call(
-    rt: &impl Abort,
-    alloc: Global,
-    example: Example,
-    (done, call): (u64, Call),
-    least: u64,
-) -> Result<u64, Fail> {
-    let meter = Refusing::new(alloc, 0);
-    let refused = refused_in_turn(MOST, |left| {
-        is_through_metered(rt, &meter, example, (done, call, left))
-    })?;
-    assert!(rt;
-        refused >= least && refused < MOST,
-        "{refused} {}",
-        example.query
-    );
-    Ok(refused)
-}
-
-/// Whether `Machine::start` goes through with so many growths.
-fn is_started<A: Allocator + Copy>(
-    rt: &impl Abort,
-    alloc: A,
-    meter: &Meter,
-    example: Example,
+    at: (Worked, Refused),
     left: u64,
 ) -> Result<bool, Fail> {
-    meter.allow(AMPLE);
-    let (program, query) = both_of(alloc, example.program, example.query)?;
-    meter.allow(left);
-    let is_made = start(alloc, &program, query).is_ok();
-    assert_eq!(rt; meter.asked() > left, !is_made, "{left}");
-    Ok(is_made)
+    is_through_in(rt, &lists_of(meter), meter, at, left)
 }
 
-#[test]
-fn start_refused(rt: HostRuntime) -> Result<(), Fail> {
-    let meter = Refusing::new(rt.alloc(), 0);
-    for example in EXAMPLES {
-        let refused = refused_in_turn(MOST, |left| {
-            is_started(&rt, &meter, &meter, example, left)
-        })?;
-        assert!(&rt;
-            refused > 0 && refused < MOST,
-            "{refused} {}",
-            example.query
-        );
-    }
+/// It is refused at least once, and then goes through.
+fn assert_refused(
+    rt: &impl Abort,
+    alloc: Global,
+    example: Worked,
+    refused: Refused,
+) -> Result<(), Fail> {
+    let meter = Refusing::new(alloc, 0);
+    let count = refused_in_turn(MOST, |left| {
+        is_through_metered(rt, &meter, (example, refused), left)
+    })?;
+    assert!(rt; count > 0 && count < MOST, "{count} {}", example.query);
     Ok(())
 }
 
-/// Each step needs room for its line at least, also one without a search or with the answer handed in.
+/// `start`, `run_alone`, `tasks` and the text of an outcome.
 #[test]
-fn step_refused(rt: HostRuntime) -> Result<(), Fail> {
+fn want_of_memory(rt: HostRuntime) -> Result<(), Fail> {
     for example in EXAMPLES {
-        for done in 0..example.lines.len() as u64 {
-            assert_call(&rt, rt.alloc(), example, (done, Call::Step), 1)?;
-            assert_call(&rt, rt.alloc(), example, (done, Call::Asked), 1)?;
+        for refused in [Refused::Start, Refused::Call(0, Call::Run), Refused::Text] {
+            assert_refused(&rt, rt.alloc(), example, refused)?;
         }
     }
-    Ok(())
+    assert_refused(&rt, rt.alloc(), SPECULATION, Refused::Call(6, Call::Tasks))
 }
 
-/// After six steps of `speculation`.
+/// Each step of an example: one that searches by itself, and one without a search or with the answer handed in.
 #[test]
-fn tasks_refused(rt: HostRuntime) -> Result<(), Fail> {
-    assert_call(&rt, rt.alloc(), SPECULATION, (6, Call::Tasks), 1)?;
-    Ok(())
-}
-
-/// A step that makes its search takes more than one that is handed the answer, whether a firing is found or none is.
-#[test]
-fn own_search_takes_more(rt: HostRuntime) -> Result<(), Fail> {
-    for (example, done) in [
-        (GROUND_RULE, 1),
-        (GROUND_RULE, 5),
-        (SPECULATION, 6),
-        (SPECULATION, 11),
-    ] {
-        let answered = assert_call(&rt, rt.alloc(), example, (done, Call::Asked), 1)?;
-        let searched = assert_call(&rt, rt.alloc(), example, (done, Call::Step), 1)?;
-        assert!(&rt; searched > answered, "{searched} {answered} after {done}");
-    }
-    Ok(())
-}
-
-#[test]
-fn run_alone_refused(rt: HostRuntime) -> Result<(), Fail> {
+fn want_of_memory_of_steps(rt: HostRuntime) -> Result<(), Fail> {
     for example in EXAMPLES {
-        let least = example.lines.len() as u64;
-        assert_call(&rt, rt.alloc(), example, (0, Call::Run), least)?;
+        for done in 0..example.transitions as u64 {
+            for call in [Call::Step, Call::Asked] {
+                assert_refused(&rt, rt.alloc(), example, Refused::Call(done, call))?;
+            }
+        }
     }
     Ok(())
 }

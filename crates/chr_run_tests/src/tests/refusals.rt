@@ -1,144 +1,298 @@
-//! Each growth of a run refused in turn.
-ghost use Rattle.std.specs.Prelude.{IfOk};
+//! Runs with each growth refused in turn.
 ghost use Rattle.chr_rules.specs.RuleView.{query_view};
 ghost use Rattle.chr_semantics.specs.Bounds.{IsQueryBounded};
 
+use super::marks::Mark;
 use super::*;
-use chr_read::read_query;
-use chr_rules::{Program, Query};
-use chr_texts::program_of;
-
-type Meter = Refusing<Global>;
+use chr_read::ReadErrorKind;
+use chr_rules::RuleErrorKind;
+use chr_schedule::ScheduleErrorKind;
 
 /// More growths than a run of these tests asks for.
 const MOST: u64 = 10_000;
 
-/// Where memory is refused: to the program's text, its rules, the query's text, its goals, the run.
-fn place_of(error: TextError) -> Option<usize> {
-    let places = [
-        TextError::Program(unread(ReadErrorKind::Memory, 0, 0)),
-        TextError::Rules(mistaken(RuleErrorKind::Memory, 0, 0)),
-        TextError::Query(unread(ReadErrorKind::Memory, 0, 0)),
-        TextError::Goals(mistaken(RuleErrorKind::Memory, 0, 0)),
-        TextError::Run(RunError::Memory),
-    ];
-    places.iter().position(|place| *place == error)
+/// The turns that a search is held at most: the run may end without it, where memory is refused.
+const TURNS: u32 = 20_000;
+
+/// An example, its last transition that needs a search, and how many places for a round it has where no answer comes: of `gcd` the searches
+/// in steps 2, 3, 4, 7, 8, 12, 13 and 16, of `speculation` those in 2, 5, 7, 10 and 12.
+#[derive(Clone, Copy, Drop)]
+struct Searching {
+    example: Worked,
+    last: u64,
+    places: u64,
 }
 
-/// Where the run of the texts is refused with so many growths. Nothing goes out before the texts are accepted; then a first part does.
-fn refused_at<R: Threads + Wait + Abort + Sync>(
-    meter: &Meter,
-    rt: &R,
-    alloc: Global,
-    left: u64,
-) -> Option<usize> {
-    let mut sink = Sink::open(alloc);
-    meter.allow(left);
-    let ran = run_example(rt, meter, GROUND_RULE, &mut sink);
-    assert_eq!(rt; meter.asked() > left, ran.is_err(), "{left}");
-    let Err(error) = ran else {
-        assert_eq!(rt; sink.text.as_slice(), GROUND_RULE.text.as_bytes());
-        return None;
-    };
-    let place = place_of(error);
-    assert!(rt; place == Some(4) || sink.text.is_empty(), "{left}");
-    assert!(rt;
-        GROUND_RULE
-            .text
-            .as_bytes()
-            .starts_with(sink.text.as_slice()),
-        "{left}"
-    );
-    place
+const EXAMPLES: [Searching; 2] = [
+    Searching {
+        example: GCD,
+        last: 17,
+        places: 8,
+    },
+    Searching {
+        example: SPECULATION,
+        last: 13,
+        places: 5,
+    },
+];
+
+/// Holds each search of a worker until the run's last own search, so that no answer comes before it, unless a hold ends by its turns.
+#[derive(Drop)]
+struct Late {
+    last: u64,
+    reached: Mark,
+    overdue: Mark,
 }
 
-/// What comes first in the texts asks for its memory first.
-#[test]
-fn refused_growths(rt: HostRuntime) {
-    let meter = Refusing::new(rt.alloc(), 0);
-    let mut refused = [0u64; 5];
-    let mut last = 0;
-    let all = refused_in_turn(MOST, |left| -> Result<bool, Memory> {
-        let Some(place) = refused_at(&meter, &rt, rt.alloc(), left) else {
-            return Ok(true);
-        };
-        assert!(rt; last <= place && place < 5, "{left}");
-        refused[place] = refused[place].saturating_add(1);
-        last = place;
-        Ok(false)
-    });
-    assert!(rt; all.is_ok());
-    for count in refused {
-        assert!(rt; count > 1 && count < MOST);
+impl Late {
+    fn new(last: u64) -> Late {
+        Late {
+            last,
+            reached: Mark::new(),
+            overdue: Mark::new(),
+        }
+    }
+
+    /// Whether the run came so far with no answer.
+    fn was_kept(&self) -> bool {
+        self.reached.count() > 0 && self.overdue.count() == 0
     }
 }
 
-/// A program, and a query over it, as a run takes them.
-fn both_of<A: Allocator + Copy>(
+impl Gate for Late {
+    fn at(&self, point: Point) {
+        match point {
+            Point::Own(number) => {
+                if number == self.last {
+                    self.reached.reach();
+                }
+            }
+            Point::Begins(_) => {
+                if !self.reached.hold_for(1, TURNS) {
+                    self.overdue.reach();
+                }
+            }
+            Point::Posts(_) => {}
+        }
+    }
+}
+
+/// How many rounds were published, and how many answers arrived.
+fn rounds_and_arrivals(events: &[Event]) -> (u64, u64) {
+    let mut rounds = 0u64;
+    let mut arrivals = 0u64;
+    for event in events {
+        match event {
+            Event::Publish => rounds = rounds.saturating_add(1),
+            Event::Arrive(_, _) => arrivals = arrivals.saturating_add(1),
+            Event::Step => {}
+        }
+    }
+    (rounds, arrivals)
+}
+
+/// What came of a run in which publishes, offers and drains may have been refused: what was drained arrived, and each place without a round
+/// was skipped, as far as the places are known.
+fn assert_kept<A: Allocator>(rt: &impl Abort, run: &Run<A>, places: Option<u64>) {
+    let (rounds, arrivals) = rounds_and_arrivals(run.schedule.as_slice());
+    let counts = run.counts;
+    let arrived = counts
+        .kept
+        .saturating_add(counts.late)
+        .saturating_add(counts.double);
+    assert_eq!(rt; arrivals, arrived);
+    assert_eq!(rt; arrivals, run.totals.drained);
+    assert!(rt; run.totals.posted >= run.totals.drained);
+    if let Some(places) = places {
+        assert_eq!(rt; rounds.saturating_add(run.skipped), places);
+    }
+}
+
+/// The same, and the run gives the text of the example, by its schedule too.
+fn assert_run<A: Allocator + Copy>(
+    rt: &(impl Abort + Wait),
     alloc: A,
-    program: &str,
-    query: &str,
-) -> Result<(Program<A>, Query<A>), Fail>
-    ensures { IfOk result (λ both. IsQueryBounded (query_view both.1)) }
+    example: Worked,
+    program: &Program<A>,
+    run: &Run<A>,
+    places: Option<u64>,
+) -> Result<(), Fail> {
+    assert_kept(rt, run, places);
+    assert_text(rt, alloc, example, program, &run.outcome)?;
+    assert_replayed(rt, alloc, example, run)
+}
+
+/// A run over a program. Where it meets a refusal, it is refused for memory, or gives the text of the example.
+fn run_over<A: Allocator + Copy + Send + Sync, R: Threads + Wait + Abort + Sync>(
+    rt: &R,
+    alloc: A,
+    turn: &Turn<'_, Global>,
+    program: &Program<A>,
+    query: Query<A>,
+    gate: &Late,
+    searching: Searching,
+    workers: u32,
+) -> Result<(), Fail>
+    requires { IsQueryBounded (query_view query) }
 {
-    let mut program = program_of(alloc, program)?;
-    let query = program.goals_of_query(read_query(alloc, query.as_bytes())?)?;
-    Ok((program, query))
+    turn.begin();
+    let run = made(rt, alloc, program, query, AMPLE, workers, gate);
+    turn.end(run.is_err());
+    match run {
+        Err(error) => {
+            assert!(rt; error == RunError::Memory && !turn.met_none());
+            Ok(())
+        }
+        Ok(run) => {
+            let are_known = workers > 0 && gate.was_kept();
+            let places = if are_known {
+                Some(searching.places)
+            } else {
+                None
+            };
+            assert_run(rt, alloc, searching.example, program, &run, places)
+        }
+    }
 }
 
-/// A gate that holds nobody.
-#[derive(Drop)]
-struct Open;
-
-impl Gate for Open {
-    fn at(&self, _point: Point) {}
-}
-
-/// Runs by `run_into` what was read with all the memory that it wants.
-fn run_read<A: Allocator + Copy + Send + Sync, R: Threads + Wait + Sync>(
+/// Whether the run meets no refusal with so many growths.
+///
+/// For any allocator: proofs for the meter as the allocator would take much longer.
+fn is_through<A: Allocator + Copy + Send + Sync, R: Threads + Wait + Abort + Sync>(
     rt: &R,
     alloc: A,
-    meter: &Meter,
-    example: Worked,
-    left: u64,
-    sink: &mut Sink,
-) -> Result<Result<Status, TextError>, Fail> {
-    meter.allow(u64::MAX);
-    let (program, query) = both_of(alloc, example.program, example.query)?;
-    meter.allow(left);
-    let ran = run_into(rt, alloc, &program, query, 100, 0, &Open, sink);
-    Ok(ran.map(|run| run.outcome.status))
+    turn: &Turn<'_, Global>,
+    searching: Searching,
+    workers: u32,
+) -> Result<bool, Fail> {
+    let (program, query) = both_of(alloc, searching.example.program, searching.example.query)?;
+    let gate = Late::new(searching.last);
+    run_over(rt, alloc, turn, &program, query, &gate, searching, workers)?;
+    Ok(turn.met_none())
 }
 
-/// Whether the run goes through with so many growths. Where it does not, a first part of the text is out, of whole lines.
-fn is_run<R: Threads + Wait + Abort + Sync>(
-    meter: &Meter,
+/// The same where the meter refuses.
+fn is_through_metered<R: Threads + Wait + Abort + Sync>(
     rt: &R,
-    alloc: Global,
-    example: Worked,
+    meter: &Refusing<Global>,
+    searching: Searching,
+    workers: u32,
     left: u64,
 ) -> Result<bool, Fail> {
-    let whole = text_of(alloc, rt, example);
-    let mut sink = Sink::open(alloc);
-    let ran = run_read(rt, meter, meter, example, left, &mut sink)?;
-    let text = sink.text.as_slice();
-    assert_eq!(rt; meter.asked() > left, ran.is_err(), "{left}");
-    assert!(rt; whole.as_slice().starts_with(text), "{left}");
-    let Err(error) = ran else {
-        assert_eq!(rt; text.len(), whole.len());
-        return Ok(true);
-    };
-    assert_eq!(rt; error, TextError::Run(RunError::Memory), "{left}");
-    assert!(rt; text.is_empty() || text.last() == Some(&b'\n'), "{left}");
-    Ok(false)
+    is_through(rt, meter, &Turn::new(meter, left), searching, workers)
 }
 
+/// With no worker, one and two.
 #[test]
-fn run_into_refused(rt: HostRuntime) -> Result<(), Fail> {
+fn want_of_memory(rt: HostRuntime) -> Result<(), Fail> {
     let meter = Refusing::new(rt.alloc(), 0);
-    for example in EXAMPLES {
-        let refused = refused_in_turn(MOST, |left| is_run(&meter, &rt, rt.alloc(), example, left))?;
-        assert!(&rt; refused > 10 && refused < MOST, "{}", example.query);
+    for searching in EXAMPLES {
+        for workers in 0..3 {
+            let refused = refused_in_turn(MOST, |left| {
+                is_through_metered(&rt, &meter, searching, workers, left)
+            })?;
+            assert!(rt; refused > 10 && refused < MOST, "{refused}");
+        }
+    }
+    Ok(())
+}
+
+/// A call that writes a text.
+#[derive(Clone, Copy, Drop)]
+enum Call {
+    RunInto,
+    RunText,
+    ReplayText,
+}
+
+/// How the text of `speculation` ended by `run_into`, or why it was refused.
+fn written_into<A: Allocator + Copy + Send + Sync, R: Threads + Wait + Sync>(
+    rt: &R,
+    alloc: A,
+    turn: &Turn<'_, Global>,
+    sink: &mut Sink,
+) -> Result<Result<Status, TextError>, Fail> {
+    let (program, query) = both_of(alloc, SPECULATION.program, SPECULATION.query)?;
+    turn.begin();
+    let run = run_into(rt, alloc, &program, query, AMPLE, 0, &Open, sink);
+    Ok(run.map(|run| run.outcome.status))
+}
+
+/// The same by each call.
+fn written<A: Allocator + Copy + Send + Sync, R: Threads + Wait + Sync>(
+    rt: &R,
+    alloc: A,
+    turn: &Turn<'_, Global>,
+    call: Call,
+    sink: &mut Sink,
+) -> Result<Result<Status, TextError>, Fail> {
+    let (program, query) = (SPECULATION.program.as_bytes(), SPECULATION.query.as_bytes());
+    match call {
+        Call::RunInto => written_into(rt, alloc, turn, sink),
+        Call::RunText => {
+            turn.begin();
+            let run = run_text(rt, alloc, program, query, AMPLE, 0, sink);
+            Ok(run.map(|run| run.outcome.status))
+        }
+        Call::ReplayText => {
+            let schedule = b"step 6\npublish\narrive 0 0\nstep 8\n".as_slice();
+            turn.begin();
+            let made = replay_text(rt, alloc, program, query, schedule, sink);
+            Ok(made.map(|(status, _)| status))
+        }
+    }
+}
+
+/// Whether it says that memory was refused.
+fn is_memory(error: TextError) -> bool {
+    match error {
+        TextError::Program(error) => error.kind == ReadErrorKind::Memory,
+        TextError::Rules(error) => error.kind == RuleErrorKind::Memory,
+        TextError::Query(error) => error.kind == ReadErrorKind::Memory,
+        TextError::Goals(error) => error.kind == RuleErrorKind::Memory,
+        TextError::Schedule(error) => error.kind == ScheduleErrorKind::Memory,
+        TextError::Replay(error) => error == ReplayError::Memory,
+        TextError::Run(error) => error == RunError::Memory,
+        TextError::Write => false,
+    }
+}
+
+/// Whether the text goes out whole with so many growths. Where it does not, memory was refused, and a first part of it is out.
+fn goes_out<R: Threads + Wait + Abort + Sync>(
+    rt: &R,
+    alloc: Global,
+    meter: &Refusing<Global>,
+    call: Call,
+    left: u64,
+) -> Result<bool, Fail> {
+    let turn = Turn::new(meter, left);
+    let mut sink = Sink::new(alloc, usize::MAX, u64::MAX);
+    let written = written(rt, meter, &turn, call, &mut sink)?;
+    assert!(rt; turn.end(written.is_err()));
+    let (text, whole) = (sink.text.as_slice(), SPECULATION.text.as_bytes());
+    match written {
+        Ok(status) => {
+            assert!(rt; status == Status::Done);
+            assert_eq!(rt; text, whole);
+            Ok(true)
+        }
+        Err(error) => {
+            assert!(rt; is_memory(error));
+            assert!(rt; whole.starts_with(text));
+            Ok(false)
+        }
+    }
+}
+
+/// Of a program and a query, of two texts, and of two texts and a schedule.
+#[test]
+fn want_of_memory_of_texts(rt: HostRuntime) -> Result<(), Fail> {
+    let meter = Refusing::new(rt.alloc(), 0);
+    for call in [Call::RunInto, Call::RunText, Call::ReplayText] {
+        let refused = refused_in_turn(MOST, |left| {
+            goes_out(&rt, rt.alloc(), &meter, call, left)
+        })?;
+        assert!(rt; refused > 10 && refused < MOST, "{refused}");
     }
     Ok(())
 }

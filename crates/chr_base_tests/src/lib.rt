@@ -1,6 +1,0 @@
-//! The tests of `chr_base`, over its public calls. They are a crate of their own, so that a check of them
-//! does not prove `chr_base` again.
-#![tactic(auto)]
-
-#[cfg(test)]
-mod tests;

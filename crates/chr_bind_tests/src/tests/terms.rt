@@ -1,0 +1,165 @@
+//! Names and terms.
+use super::*;
+use chr_term::{Names, VarNames, copy, is_ground, print, same};
+
+#[test]
+fn names_calls(rt: HostRuntime) -> Result<(), Fail> {
+    let mut names = Names::new(rt.alloc())?;
+    for (name, arity, number) in [("f", 2, 7), ("a", 0, 8), ("f", 2, 7), ("f", 1, 9)] {
+        assert!(&rt; names.len() < 100);
+        assert_eq!(&rt; names.intern(name, arity)?, Sym(number));
+    }
+    assert_eq!(&rt; names.len(), 10);
+    assert_eq!(&rt; names.find("a", 0), Some(Sym(8)));
+    assert_eq!(&rt; names.name(Sym(9)), "f");
+    assert_eq!(&rt; names.arity(Sym(9)), 1);
+    Ok(())
+}
+
+/// So many different names that their numbers have more than 16 bits.
+#[test]
+fn seventy_thousand_names(rt: HostRuntime) -> Result<(), Fail> {
+    let mut names = Names::new(rt.alloc())?;
+    for number in 0..70_000u32 {
+        let name = format!(in rt.alloc(); "{number}")?;
+        assert!(&rt; names.len() < 100_000);
+        assert_eq!(&rt; names.intern(&name, 1)?, Sym(number + 7));
+    }
+    assert_eq!(&rt; names.find("65536", 1), Some(Sym(65_543)));
+    Ok(())
+}
+
+/// Names with `f`/2 as symbol 7.
+fn names_with_f<A: Allocator + Copy>(rt: &impl Abort, alloc: A) -> Result<Names<A>, Memory> {
+    let mut names = Names::new(alloc)?;
+    assert!(rt; names.len() < 100);
+    names.intern("f", 2)?;
+    Ok(names)
+}
+
+/// The names of variables: `X`, or none.
+fn var_names<A: Allocator + Copy>(alloc: A, is_named: bool) -> Result<VarNames<A>, Memory> {
+    let mut texts = Vec::new(alloc);
+    if is_named {
+        texts.push(String::from_str(alloc, "X")?)?;
+    }
+    Ok(VarNames::new(texts))
+}
+
+#[test]
+fn term_calls(rt: HostRuntime) -> Result<(), Fail> {
+    let (alloc, meter) = (rt.alloc(), Refusing::new(rt.alloc(), 0));
+    let names = names_with_f(&rt, alloc)?;
+    let term = node(alloc, Sym(7), [Term::Var(0), Term::Int(1)])?;
+    assert!(&rt; !is_ground(&term));
+    assert!(&rt; is_copied(&rt, &meter, &meter, &term, AMPLE));
+    for (is_named, text) in [(true, ">f(X,1)"), (false, ">f(_0,1)")] {
+        let vars = var_names(alloc, is_named)?;
+        assert_eq!(&rt; vars.name(0), is_named.then_some("X"));
+        assert_eq!(&rt; vars.len(), usize::from(is_named));
+        assert!(&rt; is_printed(&rt, &meter, &meter, (&names, &vars, &term), text, AMPLE)?);
+    }
+    Ok(())
+}
+
+/// Whether `copy` goes through with so many growths.
+///
+/// For any allocator, here and below: proofs for the meter as the allocator would take much longer.
+fn is_copied<M: Allocator + Copy>(
+    rt: &impl Abort,
+    alloc: M,
+    meter: &Refusing<Global>,
+    term: &Term,
+    left: u64,
+) -> bool {
+    meter.allow(left);
+    let answer = copy(alloc, term);
+    assert_eq!(rt; answer.is_err(), was_refused(meter, left), "{left}");
+    answer.is_ok_and(|copied| same(&copied, term))
+}
+
+/// Whether `print` after `>` goes through with so many growths. A refused one prints nothing, and can be called again.
+fn is_printed<M: Allocator + Copy>(
+    rt: &impl Abort,
+    alloc: M,
+    meter: &Refusing<Global>,
+    (names, vars, term): (&Names, &VarNames, &Term),
+    wanted: &str,
+    left: u64,
+) -> Result<bool, Memory> {
+    meter.allow(AMPLE);
+    let mut text = Vec::with_capacity(alloc, 1)?;
+    text.push(b'>')?;
+    meter.allow(left);
+    let is_done = print(names, vars, term, &mut text).is_ok();
+    assert_eq!(rt; !is_done, was_refused(meter, left), "{left}");
+    if !is_done {
+        assert_eq!(rt; text.as_slice(), b">".as_slice(), "{left}");
+        print(names, vars, term, &mut text)?;
+    }
+    assert_eq!(rt; text.as_slice(), wanted.as_bytes(), "{left}");
+    Ok(is_done)
+}
+
+/// Whether `Names::new` goes through with so many growths.
+fn are_new<M: Allocator + Copy>(
+    rt: &impl Abort,
+    alloc: M,
+    meter: &Refusing<Global>,
+    left: u64,
+) -> bool {
+    meter.allow(left);
+    let answer = Names::new(alloc);
+    assert_eq!(rt; answer.is_err(), was_refused(meter, left), "{left}");
+    answer.is_ok_and(|names| names.len() == 7)
+}
+
+/// Whether `intern` of a new symbol goes through with so many growths. A refused one leaves the names as they were.
+fn is_interned<M: Allocator + Copy>(
+    rt: &impl Abort,
+    alloc: M,
+    meter: &Refusing<Global>,
+    left: u64,
+) -> Result<bool, Memory> {
+    meter.allow(AMPLE);
+    let mut names = names_with_f(rt, alloc)?;
+    assert_eq!(rt; names.len(), 8);
+    meter.allow(left);
+    let is_done = names.intern("a", 0).is_ok();
+    assert_eq!(rt; !is_done, was_refused(meter, left), "{left}");
+    if !is_done {
+        assert_eq!(rt; (names.len(), names.find("a", 0)), (8, None), "{left}");
+    }
+    assert!(rt; names.len() < 100);
+    assert_eq!(rt; names.intern("a", 0)?, Sym(8), "{left}");
+    Ok(is_done)
+}
+
+#[test]
+fn names_refused(rt: HostRuntime) -> Result<(), Fail> {
+    let meter = Refusing::new(rt.alloc(), 0);
+    let made = refused_in_turn(MOST, |left| -> Result<bool, Memory> {
+        Ok(are_new(&rt, &meter, &meter, left))
+    })?;
+    assert!(&rt; made > 0 && made < MOST, "{made}");
+    let interned = refused_in_turn(MOST, |left| is_interned(&rt, &meter, &meter, left))?;
+    assert!(&rt; interned > 0 && interned < MOST, "{interned}");
+    Ok(())
+}
+
+#[test]
+fn terms_refused(rt: HostRuntime) -> Result<(), Fail> {
+    let (alloc, meter) = (rt.alloc(), Refusing::new(rt.alloc(), 0));
+    let (names, vars) = (names_with_f(&rt, alloc)?, var_names(alloc, true)?);
+    let term = node(alloc, Sym(7), [Term::Var(0), Term::Int(1)])?;
+    let copied = refused_in_turn(MOST, |left| -> Result<bool, Memory> {
+        Ok(is_copied(&rt, &meter, &meter, &term, left))
+    })?;
+    assert!(&rt; copied > 0 && copied < MOST, "{copied}");
+    let known = (&names, &vars, &term);
+    let printed = refused_in_turn(MOST, |left| {
+        is_printed(&rt, &meter, &meter, known, ">f(X,1)", left)
+    })?;
+    assert!(&rt; printed > 0 && printed < MOST, "{printed}");
+    Ok(())
+}

@@ -1,6 +1,0 @@
-use Rattle.chr_rules.specs.ProgramView.{rules_of}
-use Rattle.chr_board_tests.proofs.tests.desk.assert_both.Given as goal
-
--- the name of the run: this shelf, and the rules of this program
-abbrev pub ghosts-assert_both_named : goal.ghosts-assert_both_named
-ghosts-assert_both_named g a = record { shelf = a.shelf.now; rules = rules_of a.program.now }

@@ -1,0 +1,118 @@
+//! Each growth of a call refused in turn.
+use super::*;
+
+/// More growths than a call of these tests asks for.
+const AMPLE: u64 = 1_000_000;
+
+/// More than a call that is refused in turn asks for.
+const MOST: u64 = 1000;
+
+/// What is answered where a growth was refused.
+const REFUSED: RuleError = RuleError {
+    kind: RuleErrorKind::Memory,
+    line: 0,
+    rule: 0,
+};
+
+/// Whether a growth was refused since so many were allowed. From now on memory is ample.
+fn was_refused(meter: &Refusing<Global>, left: u64) -> bool {
+    let is_refused = meter.asked() > left;
+    meter.allow(AMPLE);
+    is_refused
+}
+
+/// Whether `build` goes through with so many growths.
+///
+/// For any allocator, here and below: proofs for the meter as the allocator would take much longer.
+fn is_built<M: Allocator + Copy>(
+    rt: &impl Abort,
+    alloc: M,
+    meter: &Refusing<Global>,
+    left: u64,
+) -> Result<bool, Fail> {
+    meter.allow(AMPLE);
+    let syntax = read_program(alloc, PROGRAM.as_bytes())?;
+    meter.allow(left);
+    let answer = Program::build(alloc, syntax);
+    assert_eq!(rt; answer.is_err(), was_refused(meter, left), "{left}");
+    match &answer {
+        Ok(program) => assert_program(rt, program),
+        Err(error) => assert_eq!(rt; *error, REFUSED),
+    }
+    Ok(answer.is_ok())
+}
+
+/// Whether `goals_of_query` goes through with so many growths. A refused one leaves the rules as they were.
+fn is_asked<M: Allocator + Copy>(
+    rt: &impl Abort,
+    alloc: M,
+    meter: &Refusing<Global>,
+    program: &mut Program<M>,
+    left: u64,
+) -> Result<bool, Fail> {
+    let syntax = read_query(alloc, QUERY.as_bytes())?;
+    meter.allow(left);
+    let answer = program.goals_of_query(syntax);
+    assert_eq!(rt; answer.is_err(), was_refused(meter, left), "{left}");
+    assert_program(rt, program);
+    match &answer {
+        Ok(query) => assert_query(rt, query, 4, 2),
+        Err(error) => assert_eq!(rt; *error, REFUSED),
+    }
+    Ok(answer.is_ok())
+}
+
+/// The same over a program of its own. It can be called again.
+fn is_asked_anew<M: Allocator + Copy>(
+    rt: &impl Abort,
+    alloc: M,
+    meter: &Refusing<Global>,
+    left: u64,
+) -> Result<bool, Fail> {
+    meter.allow(AMPLE);
+    let mut program = program_of(alloc, PROGRAM)?;
+    let is_done = is_asked(rt, alloc, meter, &mut program, left)?;
+    assert!(rt; is_asked(rt, alloc, meter, &mut program, AMPLE)?);
+    Ok(is_done)
+}
+
+/// Whether `Query::copy` goes through with so many growths.
+fn is_copied<M: Allocator + Copy>(
+    rt: &impl Abort,
+    meter: &Refusing<Global>,
+    query: &Query<M>,
+    left: u64,
+) -> bool {
+    meter.allow(left);
+    let answer = query.copy();
+    assert_eq!(rt; answer.is_err(), was_refused(meter, left), "{left}");
+    if let Ok(copied) = &answer {
+        assert_query(rt, copied, 4, 2);
+    }
+    answer.is_ok()
+}
+
+/// How often it is refused for one query.
+fn copies_refused<M: Allocator + Copy>(
+    rt: &impl Abort,
+    alloc: M,
+    meter: &Refusing<Global>,
+) -> Result<u64, Fail> {
+    meter.allow(AMPLE);
+    let (_, query) = both_of(alloc, PROGRAM, QUERY)?;
+    refused_in_turn(MOST, |left| -> Result<bool, Fail> {
+        Ok(is_copied(rt, meter, &query, left))
+    })
+}
+
+#[test]
+fn want_of_memory(rt: HostRuntime) -> Result<(), Fail> {
+    let meter = Refusing::new(rt.alloc(), 0);
+    let refused = refused_in_turn(MOST, |left| is_built(&rt, &meter, &meter, left))?;
+    assert!(&rt; refused > 0 && refused < MOST, "{refused}");
+    let refused = refused_in_turn(MOST, |left| is_asked_anew(&rt, &meter, &meter, left))?;
+    assert!(&rt; refused > 0 && refused < MOST, "{refused}");
+    let refused = copies_refused(&rt, &meter, &meter)?;
+    assert!(&rt; refused > 0 && refused < MOST, "{refused}");
+    Ok(())
+}
