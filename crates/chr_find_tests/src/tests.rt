@@ -1,390 +1,327 @@
-ghost use Rattle.std.specs.Prelude.{IfSome};
-ghost use Rattle.chr_find.specs.SearchView.{IsSearchable};
-ghost use Rattle.chr_find.specs.TableView.{IsSettled};
-
-use chr_bind::{Bindings, Unified, is_below};
+use chr_bind::{Bindings, is_below};
 use chr_find::*;
-use chr_map::{Pointer, Share};
 use chr_rules::{Goal, Program, Query};
-use chr_store::{Id, Row};
+use chr_semantics::limits::MAX_CHANGES;
+use chr_store::{Fired, History, Id, Key, Store};
 use chr_term::{Sym, Term};
 use chr_texts::both_of;
+use smallvec::SmallVec;
 use std::alloc::{Allocator, Global};
+use std::marker::PhantomData;
 use std::process::Abort;
 use std::test::Fail;
 
-mod binding;
-mod cursor;
 mod plain;
 mod random;
 mod refusals;
-mod trial;
 
-use trial::{Step, Trial, assert_steps};
+/// The first symbol that a program declares, after the seven that each program has.
+const FIRST: Sym = Sym(7);
 
-/// Each constraint p finds each constraint q.
-const PAIRS: &str = ":- chr_constraint p/1, q/1. p(X), q(Y) ==> true.";
+/// A program, and what a run of it has: the constraints of a query, the bindings of its variables, and firings.
+#[derive(Drop)]
+struct Scene<A: Allocator> {
+    program: Program<A>,
+    store: Store<A>,
+    bindings: Bindings<A>,
+    history: History<A>,
+}
 
-/// Adds a constraint, if there is none with its identity.
-fn add<A: Allocator + Copy>(
-    table: &mut Table<A>,
-    id: u64,
-    row: Pointer<Row<A>, A>,
+/// Adds the constraints of a query, which get the identities from 1 on.
+fn add_all<A: Allocator + Copy>(
+    rt: &impl Abort,
+    store: &mut Store<A>,
+    query: Query<A>,
 ) -> Result<(), Memory> {
-    table.settle()?;
-    if table.row(Id(id)).is_some() {
-        return Ok(());
-    }
-    table.room(1)?;
-    table.add(Id(id), row);
-    Ok(())
-}
-
-/// Adds a constraint that is the same as that of another identity.
-fn add_like<A: Allocator + Copy>(table: &mut Table<A>, other: u64, id: u64) -> Result<(), Memory> {
-    table.settle()?;
-    let row = match table.row(Id(other)) {
-        None => return Ok(()),
-        Some(row) => row.share()?,
-    };
-    add(table, id, row)
-}
-
-/// Adds a constraint as another table has it at an identity.
-fn add_from<A: Allocator + Copy>(
-    table: &mut Table<A>,
-    from: &mut Table<A>,
-    other: u64,
-    id: u64,
-) -> Result<(), Memory> {
-    from.settle()?;
-    let row = match from.row(Id(other)) {
-        None => return Ok(()),
-        Some(row) => row.share()?,
-    };
-    add(table, id, row)
-}
-
-/// Removes the constraint of an identity.
-fn remove<A: Allocator + Copy>(table: &mut Table<A>, id: u64) -> Result<(), Memory> {
-    table.settle()?;
-    let row = match table.row(Id(id)) {
-        None => return Ok(()),
-        Some(row) => row.share()?,
-    };
-    table.room(1)?;
-    table.remove(Id(id), row);
-    Ok(())
-}
-
-/// Notes a firing, if it has no more identities than a rule can have heads.
-fn fire<A: Allocator + Copy>(table: &mut Table<A>, rule: u64, ids: &[u64]) -> Result<(), Memory> {
-    if ids.len() <= 8 {
-        table.room(1)?;
-        table.fire(rule, ids);
+    for goal in query.goals {
+        if let Goal::Chr(sym, args) = goal {
+            assert!(rt; store.changes() < MAX_CHANGES);
+            if let Err((_, error)) = store.add(sym, args) {
+                return Err(error);
+            }
+        }
     }
     Ok(())
 }
 
-/// The variables of a query, none of them bound.
-fn unbound<A: Allocator + Copy>(alloc: A, query: &Query<A>) -> Result<Bindings<A>, Memory> {
+/// So many variables, none of them bound.
+fn unbound<A: Allocator + Copy>(alloc: A, count: usize) -> Result<Bindings<A>, Memory> {
     let mut bindings = Bindings::new(alloc);
-    bindings.fresh(query.var_names.len())?;
+    bindings.fresh(count)?;
     Ok(bindings)
 }
 
-/// Makes a variable equal to a term. Whether that bound a variable.
-fn bind<A: Allocator + Copy>(
-    bindings: &mut Bindings<A>,
-    var: u64,
-    term: Term<A>,
-) -> Result<bool, Memory> {
-    let var = Term::Var(var);
-    if is_below(bindings.len(), &var) && is_below(bindings.len(), &term) {
-        return Ok(bindings.unify(&var, &term)? == Unified::Bound);
-    }
-    Ok(false)
-}
-
-/// Applies the bindings. The identities of the constraints that have variables still.
-fn rebind<A: Allocator + Copy>(
+/// A store of the constraints of a query.
+fn stored<A: Allocator + Copy>(
+    rt: &impl Abort,
     alloc: A,
-    table: &mut Table<A>,
-    bindings: &Bindings<A>,
-) -> Result<Vec<u64, A>, Memory> {
-    let mut woken = Vec::new(alloc);
-    for id in &table.rebind(bindings)? {
-        woken.push(id.0)?;
-    }
-    Ok(woken)
-}
-
-/// The constraints of a query, which get the identities from 1 on.
-fn table_of<A: Allocator + Copy>(
-    alloc: A,
-    program: &Program<A>,
     query: Query<A>,
-) -> Result<Table<A>, Memory> {
-    let plan = Pointer::new(alloc, Plan::of(alloc, program)?)?;
-    let mut table = Table::new(alloc, plan);
-    let mut id = 0u64;
-    for goal in query.goals {
-        if let Goal::Chr(sym, args) = goal {
-            id = id.saturating_add(1);
-            add(&mut table, id, Pointer::new(alloc, Row { sym, args })?)?;
+) -> Result<Store<A>, Memory> {
+    let mut store = Store::new(alloc);
+    add_all(rt, &mut store, query)?;
+    Ok(store)
+}
+
+/// The scene of a program and the constraints of a query, of which nothing is bound and nothing has fired.
+fn scene_of<A: Allocator + Copy>(
+    rt: &impl Abort,
+    alloc: A,
+    program: Program<A>,
+    query: Query<A>,
+) -> Result<Scene<A>, Memory> {
+    let bindings = unbound(alloc, query.var_names.len())?;
+    let store = stored(rt, alloc, query)?;
+    Ok(Scene {
+        program,
+        store,
+        bindings,
+        history: History::new(alloc),
+    })
+}
+
+/// The same of texts.
+fn scene_of_texts<A: Allocator + Copy>(
+    rt: &impl Abort,
+    alloc: A,
+    texts: (&str, &str),
+) -> Result<Scene<A>, Fail> {
+    let (program, query) = both_of(alloc, texts.0, texts.1)?;
+    Ok(scene_of(rt, alloc, program, query)?)
+}
+
+/// A rule fires with these.
+fn fire(alloc: Global, history: &mut History, rule: usize, numbers: &[u64]) -> Result<(), Memory> {
+    let mut ids = Vec::new(alloc);
+    for number in numbers {
+        ids.push(Id(*number))?;
+    }
+    history.put(Fired { rule, ids })?;
+    Ok(())
+}
+
+/// The search for a constraint at an occurrence of its symbol.
+fn task((goal, occurrence): (u64, u32)) -> Task {
+    Task {
+        goal: Id(goal),
+        occurrence,
+    }
+}
+
+/// A snapshot of all that is stored, for one task, with a guest that is as a stored constraint, if one is.
+fn taken<A: Allocator + Copy>(
+    alloc: A,
+    scene: &Scene<A>,
+    at: (u64, u32),
+    guest: Id,
+) -> Result<Snapshot<A>, Memory> {
+    let (store, bindings, history) = (&scene.store, &scene.bindings, &scene.history);
+    let guest = match store.row(guest) {
+        None => None,
+        Some(row) => Some((row.sym, row.args.as_slice())),
+    };
+    let tasks = Vec::from_array(alloc, [task(at)])?;
+    Snapshot::take(alloc, store, bindings, history, tasks, guest)
+}
+
+/// A snapshot for one task alone.
+fn own<A: Allocator + Copy>(
+    alloc: A,
+    scene: &Scene<A>,
+    at: (u64, u32),
+) -> Result<Snapshot<A>, Memory> {
+    let (store, bindings, history) = (&scene.store, &scene.bindings, &scene.history);
+    Snapshot::for_task(alloc, &scene.program, store, bindings, history, task(at))
+}
+
+/// An allocator, and the type of the lists that searches answer. A function for any allocator names that type where it takes such lists.
+#[derive(Drop)]
+struct Lists<A, S = SmallVec<Id, 8, A>> {
+    alloc: A,
+    list: PhantomData<S>,
+}
+
+fn lists_of<A: Allocator>(alloc: A) -> Lists<A> {
+    Lists {
+        alloc,
+        list: PhantomData,
+    }
+}
+
+/// Whether the identities have these numbers.
+fn are(ids: &[Id], wanted: &[u64]) -> bool {
+    if ids.len() != wanted.len() {
+        return false;
+    }
+    for (id, number) in ids.iter().zip(wanted) {
+        if id.0 != *number {
+            return false;
         }
     }
-    table.settle()?;
-    Ok(table)
+    true
 }
 
-/// The constraint of an identity at an occurrence of its symbol, counted from 1, if both are there.
-fn active_at<'a, A: Allocator + Copy>(
-    table: &Table<A>,
-    program: &'a Program<A>,
-    at: (u64, u32),
-) -> Option<Active<'a, A>>
-    requires { IsSettled table.now }
-    ensures { IfSome result (λ active. IsSearchable active.rule.now active.place) }
-{
-    let id = Id(at.0);
-    let sym = match table.row(id) {
-        None => return None,
-        Some(row) => row.value().sym,
-    };
-    match program.occurrence(sym, at.1) {
-        None => None,
-        Some(occurrence) => Some(Active::at(program, occurrence, id)),
-    }
-}
-
-/// The identities of the first firing of a constraint at an occurrence of its symbol, counted from 1, and the tries.
-fn first<A: Allocator + Copy>(
-    alloc: A,
-    table: &mut Table<A>,
+/// Whether a task finds these identities in a snapshot, or nothing where there are none, with tries between two numbers.
+fn finds<A: Allocator + Copy>(
+    _lists: &Lists<A>,
     program: &Program<A>,
+    snapshot: &Snapshot<A>,
     at: (u64, u32),
-) -> Result<(Option<Vec<u64, A>>, u64), Memory> {
-    table.settle()?;
-    let active = match active_at(table, program, at) {
-        None => return Ok((None, 0)),
-        Some(active) => active,
-    };
-    table.settle_for(active.id)?;
-    let mut tries = 0;
-    let ids = match table.first(&active, &mut tries)? {
-        None => return Ok((None, tries)),
-        Some(ids) => ids,
-    };
-    let ids = listed(alloc, &ids[..active.rule.heads.len()])?;
-    Ok((Some(ids), tries))
-}
-
-fn listed<A: Allocator>(alloc: A, ids: &[u64]) -> Result<Vec<u64, A>, Memory> {
-    let mut list = Vec::new(alloc);
-    for id in ids {
-        list.push(*id)?;
-    }
-    Ok(list)
-}
-
-/// Whether that was found. No identities stand for nothing found.
-fn is_list<A: Allocator>(found: &Option<Vec<u64, A>>, wanted: &[u64]) -> bool {
-    match found {
+    wanted: &[u64],
+    (least, most): (u64, u64),
+) -> Result<bool, Memory> {
+    let found = find(program, snapshot, task(at))?;
+    let is_found = match &found.ids {
         None => wanted.is_empty(),
-        Some(found) => !wanted.is_empty() && found.as_slice() == wanted,
-    }
+        Some(ids) => are(ids.as_slice(), wanted),
+    };
+    Ok(is_found && least <= found.tries && found.tries <= most)
 }
 
-/// Of several partners the one with the lowest identity is taken.
-#[test]
-fn lowest_partner_first(rt: HostRuntime) -> Result<(), Fail> {
-    assert_steps(
-        &rt,
-        rt.alloc(),
-        (PAIRS, "q(1), q(2), p(3)."),
-        &[Step::Finds(3, 1, &[3, 1]), Step::Finds(2, 1, &[3, 2])],
-    )
+/// The same in a snapshot of all that is stored.
+fn finds_taken<A: Allocator + Copy>(
+    lists: &Lists<A>,
+    scene: &Scene<A>,
+    at: (u64, u32),
+    wanted: &[u64],
+    tries: (u64, u64),
+) -> Result<bool, Memory> {
+    let snapshot = taken(lists.alloc, scene, at, Id(0))?;
+    finds(lists, &scene.program, &snapshot, at, wanted, tries)
 }
 
-/// One constraint stands for one head alone.
-#[test]
-fn one_row_two_heads(rt: HostRuntime) -> Result<(), Fail> {
-    let texts = (":- chr_constraint p/1. p(X), p(Y) <=> true.", "p(1).");
-    assert_steps(&rt, rt.alloc(), texts, &[Step::Finds(1, 1, &[])])?;
-    let texts = (":- chr_constraint p/1. p(X), p(Y) <=> true.", "p(1), p(1).");
-    assert_steps(&rt, rt.alloc(), texts, &[Step::Finds(1, 1, &[2, 1])])
+/// The same in the task's own snapshot.
+fn finds_own<A: Allocator + Copy>(
+    lists: &Lists<A>,
+    scene: &Scene<A>,
+    at: (u64, u32),
+    wanted: &[u64],
+    tries: (u64, u64),
+) -> Result<bool, Memory> {
+    let snapshot = own(lists.alloc, scene, at)?;
+    finds(lists, &scene.program, &snapshot, at, wanted, tries)
 }
 
-/// A list that has fired does not fire again; the next one does.
-#[test]
-fn history_goes_on(rt: HostRuntime) -> Result<(), Fail> {
-    assert_steps(
-        &rt,
-        rt.alloc(),
-        (PAIRS, "q(1), q(2), p(3)."),
-        &[
-            Step::Fires(&[3, 1]),
-            Step::Finds(3, 1, &[3, 2]),
-            Step::Fires(&[3, 2]),
-            Step::Finds(3, 1, &[]),
-            Step::Removes(1),
-            Step::Removes(2),
-            Step::Finds(3, 1, &[]),
-        ],
-    )
+/// The identities of the first symbol under the keys 1 and 2, and those without a key.
+fn assert_keyed(rt: &impl Abort, snapshot: &Snapshot, one: &[u64], two: &[u64], none: &[u64]) {
+    assert!(rt; are(snapshot.rows_keyed(FIRST, Some(Key::Int(1))), one));
+    assert!(rt; are(snapshot.rows_keyed(FIRST, Some(Key::Int(2))), two));
+    assert!(rt; are(snapshot.rows_keyed(FIRST, None), none));
 }
 
-/// What has fired with others does not fire again when one that fired with them is removed, and one like it fires under its own identity.
-#[test]
-fn removed_after_firings(rt: HostRuntime) -> Result<(), Fail> {
-    assert_steps(
-        &rt,
-        rt.alloc(),
-        (PAIRS, "q(1), q(2), p(3)."),
-        &[
-            Step::Fires(&[3, 1]),
-            Step::Fires(&[3, 2]),
-            Step::Removes(2),
-            Step::Finds(3, 1, &[]),
-            Step::AddsLike(1, 4),
-            Step::Finds(3, 1, &[3, 4]),
-            Step::Finds(1, 1, &[]),
-        ],
-    )
-}
-
-/// The constraint that was added last finds the others, and they find it. One that is removed at once is found by none.
-#[test]
-fn newest_constraint(rt: HostRuntime) -> Result<(), Fail> {
-    assert_steps(
-        &rt,
-        rt.alloc(),
-        (PAIRS, "q(1), p(3)."),
-        &[
-            Step::AddsLike(1, 3),
-            Step::Finds(3, 1, &[2, 3]),
-            Step::Removes(1),
-            Step::Finds(2, 1, &[2, 3]),
-            Step::AddsLike(3, 4),
-            Step::Fires(&[2, 4]),
-            Step::Finds(4, 1, &[]),
-            Step::Removes(4),
-            Step::Finds(4, 1, &[]),
-            Step::Finds(2, 1, &[2, 3]),
-            Step::AddsLike(3, 5),
-            Step::Finds(5, 1, &[2, 5]),
-            Step::AddsLike(5, 6),
-            Step::Removes(5),
-            Step::Finds(6, 1, &[2, 6]),
-            Step::Shares,
-            Step::Removes(6),
-            Step::Differs(&[6]),
-        ],
-    )
-}
-
-/// A shared table sees nothing of what changes in the one that it was shared from.
-#[test]
-fn shared_table_stays(rt: HostRuntime) -> Result<(), Fail> {
-    assert_steps(
-        &rt,
-        rt.alloc(),
-        (PAIRS, "q(1), q(2), p(3)."),
-        &[
-            Step::Shares,
-            Step::AddsLike(1, 4),
-            Step::Removes(2),
-            Step::Fires(&[3, 1]),
-            Step::Finds(1, 1, &[]),
-            Step::Finds(2, 1, &[]),
-            Step::Finds(3, 1, &[3, 4]),
-            Step::Finds(4, 1, &[3, 4]),
-            Step::Switches,
-            Step::Finds(1, 1, &[3, 1]),
-            Step::Finds(2, 1, &[3, 2]),
-            Step::Finds(3, 1, &[3, 1]),
-            Step::Finds(4, 1, &[]),
-        ],
-    )
-}
-
-/// A shared table changes alone.
-#[test]
-fn shared_table_changes(rt: HostRuntime) -> Result<(), Fail> {
-    assert_steps(
-        &rt,
-        rt.alloc(),
-        (PAIRS, "q(1), q(2), p(3)."),
-        &[
-            Step::Shares,
-            Step::Switches,
-            Step::Fires(&[3, 1]),
-            Step::AddsLike(3, 4),
-            Step::Removes(2),
-            Step::Finds(1, 1, &[4, 1]),
-            Step::Finds(2, 1, &[]),
-            Step::Finds(3, 1, &[]),
-            Step::Finds(4, 1, &[4, 1]),
-            Step::Switches,
-            Step::Finds(1, 1, &[3, 1]),
-            Step::Finds(2, 1, &[3, 2]),
-            Step::Finds(3, 1, &[3, 1]),
-            Step::Finds(4, 1, &[]),
-        ],
-    )
-}
-
-/// What the constraint 2 finds with how many tries. Once that has fired it finds nothing more, with one try.
-fn assert_tries<A: Allocator + Copy>(
-    rt: &impl Abort,
-    trial: &mut Trial<A>,
-    wanted: (&[u64], u64),
-    rule: &str,
-) -> Result<(), Memory> {
-    let (found, tries) = first(trial.alloc, &mut trial.table, &trial.program, (2, 1))?;
-    assert!(rt;
-        is_list(&found, wanted.0) && tries == wanted.1,
-        "{rule} {tries}"
-    );
-    if let Some(ids) = found {
-        fire(&mut trial.table, 0, ids.as_slice())?;
-        let (found, tries) = first(trial.alloc, &mut trial.table, &trial.program, (2, 1))?;
-        assert!(rt; found.is_none() && tries == 1, "{rule} {tries}");
-    }
+/// Binds the first variable to 1.
+fn bind_first(rt: &impl Abort, bindings: &mut Bindings) -> Result<(), Memory> {
+    let (left, right) = (Term::Var(0), Term::Int(1));
+    assert!(rt; is_below(bindings.len(), &left) && is_below(bindings.len(), &right));
+    bindings.unify(&left, &right)?;
     Ok(())
 }
 
-/// The same over other constraints of its symbol, with one rule.
-fn assert_rule(
+/// A snapshot of all has the variable's constraint under no key.
+fn assert_unbound(rt: &impl Abort, alloc: Global, scene: &Scene<Global>) -> Result<(), Memory> {
+    let snapshot = taken(alloc, scene, (4, 1), Id(0))?;
+    assert_keyed(rt, &snapshot, &[1], &[2], &[3]);
+    Ok(())
+}
+
+/// Once it is bound, under its key.
+fn assert_bound(rt: &impl Abort, alloc: Global, scene: &Scene<Global>) -> Result<(), Memory> {
+    let snapshot = taken(alloc, scene, (4, 1), Id(0))?;
+    assert_keyed(rt, &snapshot, &[1, 3], &[2], &[]);
+    Ok(())
+}
+
+/// A snapshot for a task has the constraints under the key that the task's rule names, and no others.
+fn assert_named(rt: &impl Abort, alloc: Global, scene: &Scene<Global>) -> Result<(), Memory> {
+    let snapshot = own(alloc, scene, (4, 1))?;
+    assert_keyed(rt, &snapshot, &[1], &[], &[]);
+    Ok(())
+}
+
+/// The keys before the variable is bound, and after it.
+fn follow_index(rt: &impl Abort, alloc: Global, scene: &mut Scene<Global>) -> Result<(), Memory> {
+    assert_unbound(rt, alloc, scene)?;
+    assert_named(rt, alloc, scene)?;
+    assert!(rt; finds_own(&lists_of(alloc), scene, (4, 1), &[4, 1], (1, 1))?);
+    bind_first(rt, &mut scene.bindings)?;
+    assert_bound(rt, alloc, scene)
+}
+
+#[test]
+fn first_argument_index(rt: HostRuntime) -> Result<(), Fail> {
+    let rules = ":- chr_constraint p/2, go/0, o/1. r @ go, p(1,X) ==> o(X).";
+    let texts = (rules, "p(1,7), p(2,8), p(A,9), go.");
+    let mut scene = scene_of_texts(&rt, rt.alloc(), texts)?;
+    follow_index(&rt, rt.alloc(), &mut scene)?;
+    Ok(())
+}
+
+const JOIN: &str =
+    ":- chr_constraint go/0, p/1, q/1, o/2. r @ go, p(X), q(Y) ==> X =\\= Y | o(X,Y).";
+
+const SPECULATION: &str =
+    ":- chr_constraint act/0, q/1, s/1, out/1. p1 @ act ==> s(1). r @ act, q(X), s(X) ==> out(X).";
+
+/// The search of step 14, and once both lists have fired that of step 20.
+fn follow_join(rt: &impl Abort, alloc: Global, scene: &mut Scene<Global>) -> Result<(), Memory> {
+    let lists = lists_of(alloc);
+    assert!(rt; finds_taken(&lists, scene, (5, 1), &[5, 1, 4], (2, 4))?);
+    fire(alloc, &mut scene.history, 0, &[5, 1, 4])?;
+    fire(alloc, &mut scene.history, 0, &[5, 2, 3])?;
+    assert!(rt; finds_taken(&lists, scene, (5, 1), &[], (4, 4))?);
+    Ok(())
+}
+
+#[test]
+fn tries_of_join(rt: HostRuntime) -> Result<(), Fail> {
+    let texts = (JOIN, "p(1), p(2), q(1), q(2), go.");
+    let mut scene = scene_of_texts(&rt, rt.alloc(), texts)?;
+    follow_join(&rt, rt.alloc(), &mut scene)?;
+    Ok(())
+}
+
+/// The search of the second rule, once the first has fired.
+fn follow_speculation(
     rt: &impl Abort,
     alloc: Global,
-    rule: &str,
-    wanted: (&[u64], u64),
-) -> Result<(), Fail> {
-    let mut program = String::new(alloc);
-    program.push_str(":- chr_constraint p/1. ")?;
-    program.push_str(rule)?;
-    let mut trial = Trial::of(alloc, (program.as_str(), "p(1), p(2), p(A), p(2)."))?;
-    assert_tries(rt, &mut trial, wanted, rule)?;
+    scene: &mut Scene<Global>,
+) -> Result<(), Memory> {
+    fire(alloc, &mut scene.history, 0, &[2])?;
+    assert!(rt; finds_own(&lists_of(alloc), scene, (3, 1), &[2, 1, 3], (1, 1))?);
     Ok(())
 }
 
-/// A rule of one head has the constraint's own list to try, if the head fits it, and no other: whether the head is kept or removed.
 #[test]
-fn one_head_has_one_try(rt: HostRuntime) -> Result<(), Fail> {
-    let alloc = rt.alloc();
-    for (rule, ids, tries) in [
-        ("p(X) ==> true.", 1, 1),
-        ("p(X) <=> true.", 1, 1),
-        ("p(2) ==> true.", 1, 1),
-        ("p(X) ==> X > 2 | true.", 0, 1),
-        ("p(X) <=> X > 2 | true.", 0, 1),
-        ("p(1) ==> true.", 0, 0),
-        ("p(1) <=> true.", 0, 0),
-    ] {
-        let wanted: &[u64] = if ids == 1 { &[2] } else { &[] };
-        assert_rule(&rt, alloc, rule, (wanted, tries))?;
-    }
+fn tries_of_speculation(rt: HostRuntime) -> Result<(), Fail> {
+    let texts = (SPECULATION, "q(1), act, s(1).");
+    let mut scene = scene_of_texts(&rt, rt.alloc(), texts)?;
+    follow_speculation(&rt, rt.alloc(), &mut scene)?;
+    Ok(())
+}
+
+/// The guest, which is as s(1), stands under the next identity for its own task, and for no other.
+fn assert_guest(
+    rt: &impl Abort,
+    lists: &Lists<Global>,
+    program: &Program,
+    snapshot: &Snapshot,
+) -> Result<(), Memory> {
+    assert!(rt; snapshot.tasks() == [task((4, 1))].as_slice());
+    assert!(rt; snapshot.guest().is_some());
+    assert!(rt; finds(lists, program, snapshot, (4, 1), &[2, 1, 4], (1, 1))?);
+    assert!(rt; finds(lists, program, snapshot, (3, 1), &[2, 1, 3], (1, 1))?);
+    Ok(())
+}
+
+/// The same in a snapshot of the scene.
+fn follow_guest(rt: &impl Abort, alloc: Global, scene: &Scene<Global>) -> Result<(), Memory> {
+    let snapshot = taken(alloc, scene, (4, 1), Id(3))?;
+    assert_guest(rt, &lists_of(alloc), &scene.program, &snapshot)
+}
+
+#[test]
+fn guest_answers(rt: HostRuntime) -> Result<(), Fail> {
+    let texts = (SPECULATION, "q(1), act, s(1).");
+    let scene = scene_of_texts(&rt, rt.alloc(), texts)?;
+    follow_guest(&rt, rt.alloc(), &scene)?;
     Ok(())
 }

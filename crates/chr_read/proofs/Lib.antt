@@ -6,5 +6,6 @@ pub mod Steps
 pub mod Sections
 pub mod Listings
 pub mod Views
+pub mod Halted
 mod Learned
 mod OneReading

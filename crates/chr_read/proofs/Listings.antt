@@ -28,8 +28,6 @@ exporting_begins l ps (at p (sign closes_list) ∷ ts) h = absurd (h refl)
 exporting_begins l ps (at p (name w) ∷ ts) h = refl
 exporting_begins l ps (at p t ∷ ts) h = refl
 
-pub ruleset directive_steps = (declared_refuses, exported_refuses, exporting_begins)
-
 -- a query begins with its items
 pub asking_begins : (ts : List Placed) → run limited_room asking ts ≡ run limited_room (state_before_item (asked (line_of ts) []) []) ts
 asking_begins [] = refl

@@ -3,11 +3,11 @@ use Rattle.std.proofs.Common.{◌≡◌, ℕ, ◌<◌, List, [], ◌∷◌, ◌+
 use Rattle.std.specs.Str.{encode_utf8_all}
 use Rattle.std.specs.Prelude.{nat_lt}
 use Rattle.std.proofs.lemmas.Bool.{lt-ltb}
-use Rattle.chr_semantics.specs.Tokens.{Place, Additive, Relation, opens, closes_list, hash, additive, multiplicative, relation, sign, Placed, at}
+use Rattle.chr_semantics.specs.Tokens.{Place, Additive, Relation, opens, closes, closes_list, comma, bar, hash, additive, multiplicative, relation, sign, Placed, at}
 use Rattle.chr_semantics.specs.Syntax.{Expr, call, exprs_of, Item, plain, related, Head, Program}
 use Rattle.chr_semantics.specs.declared.limits.TheConstants.{MAX_OPEN_BRACKETS}
 use Rattle.chr_read.specs.Automaton as m
-use Rattle.chr_read.specs.Automaton.{Prefix, Frame, Section, State, Container, hashed, marked, section_with_head, Verdict, of_call, of_list, elements, paren, want, named, listed, have, no_prefix, state_after_primary, expected, too_deep, bracket_step, step_verdict, run, limited_room, depth, elements_step}
+use Rattle.chr_read.specs.Automaton.{Prefix, Frame, tail, Section, State, Container, hashed, marked, section_with_head, Verdict, of_call, of_list, elements, paren, want, named, listed, have, no_prefix, state_after_primary, expected, too_deep, bracket_step, step_verdict, run, limited_room, depth, elements_step}
 use Rattle.chr_read.specs.Reads.{Lacks, NoAdditive, NoMultiplicative, NoRelation, Slot, in_body, in_guarded, in_query, slot_section, Side, in_heads, in_behind, side_section, elements_verdict, item_verdict, items_verdict}
 
 -- a bracket is opened where there is room, and is too deep where there is none
@@ -43,6 +43,35 @@ elements_close q front e b k [] h i = refl
 elements_close q front e b k (at p (additive o) ∷ ts) h i = absurd h
 elements_close q front e b k (at p (multiplicative o) ∷ ts) h i = absurd i
 elements_close q front e b k (at p t ∷ ts) h i = refl
+
+-- an expression in parentheses, or at the end of a list, is followed by its bracket
+pub paren_refuses : (e : Expr) (b : Prefix) (k : List Frame) (ts : List Placed) → NoAdditive ts → NoMultiplicative ts → Lacks closes ts → run limited_room (have None e (paren b ∷ k)) ts ≡ expected ts
+paren_refuses e b k [] h i c = refl
+paren_refuses e b k (at p (additive o) ∷ ts) h i c = absurd h
+paren_refuses e b k (at p (multiplicative o) ∷ ts) h i c = absurd i
+paren_refuses e b k (at p (sign closes) ∷ ts) h i c = absurd (c refl)
+paren_refuses e b k (at p t ∷ ts) h i c = refl
+
+pub tail_refuses : (e : Expr) (es : List Expr) (b : Prefix) (k : List Frame) (ts : List Placed) → NoAdditive ts → NoMultiplicative ts → Lacks closes_list ts → run limited_room (have None e (tail es b ∷ k)) ts ≡ expected ts
+tail_refuses e es b k [] h i c = refl
+tail_refuses e es b k (at p (additive o) ∷ ts) h i c = absurd h
+tail_refuses e es b k (at p (multiplicative o) ∷ ts) h i c = absurd i
+tail_refuses e es b k (at p (sign closes_list) ∷ ts) h i c = absurd (c refl)
+tail_refuses e es b k (at p t ∷ ts) h i c = refl
+
+-- the elements of a list, or the arguments of a call, are followed by a comma, a bar or their bracket
+pub list_refuses : (es : List Expr) (b : Prefix) (k : List Frame) (ts : List Placed) → Lacks comma ts → Lacks closes_list ts → Lacks bar ts → elements_verdict of_list es b k ts ≡ expected ts
+list_refuses es b k [] c l r = refl
+list_refuses es b k (at p (sign comma) ∷ ts) c l r = absurd (c refl)
+list_refuses es b k (at p (sign closes_list) ∷ ts) c l r = absurd (l refl)
+list_refuses es b k (at p (sign bar) ∷ ts) c l r = absurd (r refl)
+list_refuses es b k (at p t ∷ ts) c l r = refl
+
+pub call_refuses : (w : List ℕ) (es : List Expr) (b : Prefix) (k : List Frame) (ts : List Placed) → Lacks comma ts → Lacks closes ts → elements_verdict (of_call w) es b k ts ≡ expected ts
+call_refuses w es b k [] c l = refl
+call_refuses w es b k (at p (sign comma) ∷ ts) c l = absurd (c refl)
+call_refuses w es b k (at p (sign closes) ∷ ts) c l = absurd (l refl)
+call_refuses w es b k (at p t ∷ ts) c l = refl
 
 pub ruleset steps = (opened_at, deep_at, named_alone, listed_begins, sum_settles, elements_close)
 

@@ -7,12 +7,11 @@ ghost use Rattle.chr_read.specs.Reads.{Lacks};
 
 use crate::halt::Halt;
 use crate::syntax::{Declaration, Part};
-use crate::words::{after_sign, is_word, name, number, split_first, string_of};
+use crate::words::{after_sign, before_sign, is_word, name, number, split_first, string_of};
 use chr_tokens::{Placed, Sign, Token};
 use std::alloc::Allocator;
 
 /// A directive that begins in this line, after its `:-`.
-#[tactic(auto, using(crate::proofs::Listings::directive_steps))]
 pub(crate) fn directive<'a, A: Allocator + Copy>(
     alloc: A,
     line: u64,
@@ -39,7 +38,6 @@ pub(crate) fn directive<'a, A: Allocator + Copy>(
 }
 
 /// The symbols that are declared, and the END.
-#[tactic(auto, using(crate::proofs::Listings::directive_steps))]
 fn constraint_declaration<'a, A: Allocator + Copy>(
     alloc: A,
     line: u64,
@@ -49,10 +47,7 @@ fn constraint_declaration<'a, A: Allocator + Copy>(
     ensures shorter { IfOk result (λ x. length x.1.now < length text.now) }
 {
     let (found, end) = symbols(alloc, text)?;
-    match after_sign(end, Sign::Stop) {
-        Some(after) => Ok((Part::Declares(line, found), after)),
-        None => Err(Halt::Expected(end)),
-    }
+    before_sign(Part::Declares(line, found), end, Sign::Stop)
 }
 
 /// `(library(chr)).`
@@ -93,7 +88,6 @@ fn module<'a, A: Allocator + Copy>(
 }
 
 /// The symbols that a module exports, if any, and the closing bracket.
-#[tactic(auto, using(crate::proofs::Listings::directive_steps))]
 fn exports<'a, A: Allocator + Copy>(
     alloc: A,
     text: &'a [Placed<'a>],
@@ -121,15 +115,15 @@ fn symbols<'a, A: Allocator + Copy>(
     ensures no_comma { IfOk result (λ x. Lacks comma (placed_views x.1.now)) }
 {
     let mut symbols = Vec::new(alloc);
-    let (mut last, mut rest) = symbol(alloc, text)?;
-    while let Some(after) = after_sign(rest, Sign::Comma) {
-        symbols.push(last)?;
-        let (next, others) = symbol(alloc, after)?;
-        last = next;
-        rest = others;
+    let (_, mut rest) = text.split_at(0);
+    loop {
+        let (found, end) = symbol(alloc, rest)?;
+        symbols.push(found)?;
+        match after_sign(end, Sign::Comma) {
+            Some(after) => rest = after,
+            None => return Ok((symbols, end)),
+        }
     }
-    symbols.push(last)?;
-    Ok((symbols, rest))
 }
 
 /// `name/arity`

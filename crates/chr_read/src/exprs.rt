@@ -10,7 +10,7 @@ ghost use Rattle.chr_read.specs.SyntaxView.{chain, operand_views, view, views};
 use crate::halt::Halt;
 use crate::syntax::{Expr, Operator};
 use crate::words::{
-    additive, after_sign, multiplicative, negative, number, split_first, string_of,
+    additive, after_sign, before_sign, multiplicative, negative, number, split_first, string_of,
 };
 use chr_semantics::limits::MAX_OPEN_BRACKETS;
 use chr_tokens::{Additive, Memory, Placed, Sign, Token};
@@ -159,10 +159,8 @@ fn name_or_call<'a, A: Allocator + Copy>(
         return Err(Halt::TooDeep(text));
     }
     let (args, end) = elements(alloc, inside, room - 1)?;
-    match after_sign(end, Sign::Close) {
-        Some(after) => Ok((call_of(alloc, word, args)?, after)),
-        None => Err(Halt::Expected(end)),
-    }
+    let (args, after) = before_sign(args, end, Sign::Close)?;
+    Ok((call_of(alloc, word, args)?, after))
 }
 
 /// A name with its arguments.
@@ -190,10 +188,7 @@ fn in_parens<'a, A: Allocator + Copy>(
     ensures shorter { IfOk result (λ x. length x.1.now < length text.now) }
 {
     let (inner, end) = sum(alloc, text, room)?;
-    match after_sign(end, Sign::Close) {
-        Some(after) => Ok((inner, after)),
-        None => Err(Halt::Expected(end)),
-    }
+    before_sign(inner, end, Sign::Close)
 }
 
 /// A list, after its bracket.
@@ -236,10 +231,7 @@ fn list_end<'a, A: Allocator + Copy>(
         return Err(Halt::Expected(text));
     };
     let (last, end) = sum(alloc, after, room)?;
-    match after_sign(end, Sign::CloseList) {
-        Some(after) => Ok((Some(last), after)),
-        None => Err(Halt::Expected(end)),
-    }
+    before_sign(Some(last), end, Sign::CloseList)
 }
 
 /// A list of these elements that ends so.
@@ -288,13 +280,13 @@ fn elements<'a, A: Allocator + Copy>(
     ensures no_comma { IfOk result (λ x. Lacks comma (placed_views x.1.now)) }
 {
     let mut items = Vec::new(alloc);
-    let (mut last, mut rest) = sum(alloc, text, room)?;
-    while let Some(after) = after_sign(rest, Sign::Comma) {
-        items.push(last)?;
-        let (next, others) = sum(alloc, after, room)?;
-        last = next;
-        rest = others;
+    let (_, mut rest) = text.split_at(0);
+    loop {
+        let (found, end) = sum(alloc, rest, room)?;
+        items.push(found)?;
+        match after_sign(end, Sign::Comma) {
+            Some(after) => rest = after,
+            None => return Ok((items, end)),
+        }
     }
-    items.push(last)?;
-    Ok((items, rest))
 }

@@ -52,7 +52,6 @@ pub(crate) fn items<'a, A: Allocator + Copy>(
 }
 
 /// Items with commas between them, in any place of them.
-#[tactic(auto, using(crate::proofs::Steps::list_steps))]
 fn item_list<'a, A: Allocator + Copy>(
     alloc: A,
     text: &'a [Placed<'a>],
@@ -62,15 +61,15 @@ fn item_list<'a, A: Allocator + Copy>(
     ensures no_comma { IfOk result (λ x. Lacks comma (placed_views x.1.now)) }
 {
     let mut items = Vec::new(alloc);
-    let (mut last, mut rest) = item(alloc, text)?;
-    while let Some(after) = after_sign(rest, Sign::Comma) {
-        items.push(last)?;
-        let (next, others) = item(alloc, after)?;
-        last = next;
-        rest = others;
+    let (_, mut rest) = text.split_at(0);
+    loop {
+        let (found, end) = item(alloc, rest)?;
+        items.push(found)?;
+        match after_sign(end, Sign::Comma) {
+            Some(after) => rest = after,
+            None => return Ok((items, end)),
+        }
     }
-    items.push(last)?;
-    Ok((items, rest))
 }
 
 /// An item, and `# passive` where that is there.
@@ -130,7 +129,6 @@ pub(crate) fn heads<'a, A: Allocator + Copy>(
 }
 
 /// Heads with commas between them, on either side.
-#[tactic(auto, using(crate::proofs::Steps::list_steps))]
 fn head_list<'a, A: Allocator + Copy>(
     alloc: A,
     text: &'a [Placed<'a>],
@@ -140,13 +138,13 @@ fn head_list<'a, A: Allocator + Copy>(
     ensures no_comma { IfOk result (λ x. Lacks comma (placed_views x.1.now)) }
 {
     let mut heads = Vec::new(alloc);
-    let (mut last, mut rest) = head(alloc, text)?;
-    while let Some(after) = after_sign(rest, Sign::Comma) {
-        heads.push(last)?;
-        let (next, others) = head(alloc, after)?;
-        last = next;
-        rest = others;
+    let (_, mut rest) = text.split_at(0);
+    loop {
+        let (found, end) = head(alloc, rest)?;
+        heads.push(found)?;
+        match after_sign(end, Sign::Comma) {
+            Some(after) => rest = after,
+            None => return Ok((heads, end)),
+        }
     }
-    heads.push(last)?;
-    Ok((heads, rest))
 }

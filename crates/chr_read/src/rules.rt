@@ -1,12 +1,17 @@
 //! Rules.
-ghost use Rattle.std.specs.Prelude.{◌≡◌, ◌<◌, ◌≤◌, IfOk, length, string_bytes};
+ghost use Rattle.std.specs.Prelude.{◌≡◌, ◌<◌, ◌≤◌, IfOk, MatchResult, length, string_bytes};
+ghost use Rattle.chr_semantics.specs.Grammar.{arrow_sign};
+ghost use Rattle.chr_semantics.specs.Tokens.{sign as sign_token};
 ghost use Rattle.chr_tokens.specs.TokenView.{placed_views};
 ghost use Rattle.chr_read.specs.Parts.{BeginsRule, ReadsBody, ReadsFront, ReadsLabel, ReadsRule};
+ghost use Rattle.chr_read.specs.Reads.{BeginsWith, NoArrow};
+ghost use Rattle.chr_read.specs.SyntaxView.{arrow_view};
+ghost use Rattle.chr_read.specs.declared.halt.Halt.TheVariants.{Expected};
 
 use crate::halt::Halt;
 use crate::items::{heads, items};
 use crate::syntax::{Arrow, Head, Item, RuleSyntax};
-use crate::words::{after_sign, arrow, name, string_of};
+use crate::words::{after_sign, arrow, before_sign, name, string_of};
 use chr_tokens::{Placed, Sign};
 use std::alloc::Allocator;
 
@@ -68,7 +73,6 @@ fn label<'a, A: Allocator + Copy>(
 }
 
 /// The heads of a rule, and its arrow.
-#[tactic(auto, using(crate::proofs::Sections::front_steps))]
 fn all_heads<'a, A: Allocator + Copy>(
     alloc: A,
     text: &'a [Placed<'a>],
@@ -78,35 +82,37 @@ fn all_heads<'a, A: Allocator + Copy>(
 {
     let (first, end) = heads(alloc, text)?;
     match after_sign(end, Sign::Backslash) {
-        None => {
-            let (arrow, after) = arrow(end)?;
-            let behind = Vec::new(alloc);
-            Ok((
-                Front {
-                    heads: first,
-                    behind,
-                    arrow,
-                },
-                after,
-            ))
-        }
+        None => before_arrow(first, Vec::new(alloc), end),
         Some(others) => {
             let (second, end) = heads(alloc, others)?;
-            let (arrow, after) = arrow(end)?;
-            Ok((
-                Front {
-                    heads: first,
-                    behind: second,
-                    arrow,
-                },
-                after,
-            ))
+            before_arrow(first, second, end)
         }
     }
 }
 
+/// The heads before an arrow, which has to come, and the arrow.
+fn before_arrow<'a, A: Allocator>(
+    heads: Vec<Head<A>, A>,
+    behind: Vec<Head<A>, A>,
+    text: &'a [Placed<'a>],
+) -> Result<(Front<A>, &'a [Placed<'a>]), Halt<'a>>
+    ensures heads { IfOk result (λ x. (x.0.heads ≡ heads) × (x.0.behind ≡ behind)) }
+    ensures arrow { MatchResult result
+        (λ x. BeginsWith (placed_views text.now)
+        (sign_token (arrow_sign (arrow_view x.0.arrow))) (placed_views x.1.now))
+        (λ e. (e ≡ Expected text.entry) × NoArrow (placed_views text.now)) }
+    ensures shorter { IfOk result (λ x. length x.1.now < length text.now) }
+{
+    let (arrow, after) = arrow(text)?;
+    let front = Front {
+        heads,
+        behind,
+        arrow,
+    };
+    Ok((front, after))
+}
+
 /// The guard, where there is one, and the body of a rule, with the END.
-#[tactic(auto, using(crate::proofs::Sections::body_steps))]
 fn guard_and_body<'a, A: Allocator + Copy>(
     alloc: A,
     text: &'a [Placed<'a>],
@@ -123,14 +129,9 @@ fn guard_and_body<'a, A: Allocator + Copy>(
         return Err(Halt::Expected(end));
     };
     let (second, end) = items(alloc, after)?;
-    match after_sign(end, Sign::Stop) {
-        Some(after) => Ok((
-            Body {
-                guard: first,
-                body: second,
-            },
-            after,
-        )),
-        None => Err(Halt::Expected(end)),
-    }
+    let whole = Body {
+        guard: first,
+        body: second,
+    };
+    before_sign(whole, end, Sign::Stop)
 }

@@ -90,6 +90,24 @@ pub(crate) fn after_sign<'a>(rest: &'a [Placed<'a>], wanted: Sign) -> Option<&'a
     }
 }
 
+/// What was read before the sign, with what stands after it. The sign has to come.
+pub(crate) fn before_sign<'a, T: Drop>(
+    found: T,
+    text: &'a [Placed<'a>],
+    wanted: Sign,
+) -> Result<(T, &'a [Placed<'a>]), Halt<'a>>
+    ensures first { MatchResult result
+        (λ x. (x.0 ≡ found) × BeginsWith (placed_views text.now)
+        (sign_token (sign_view wanted)) (placed_views x.1.now))
+        (λ e. (e ≡ Expected text.entry) × Lacks (sign_view wanted) (placed_views text.now)) }
+    ensures shorter { IfOk result (λ x. length x.1.now < length text.now) }
+{
+    match after_sign(text, wanted) {
+        Some(after) => Ok((found, after)),
+        None => Err(Halt::Expected(text)),
+    }
+}
+
 /// A `+` or `-`, where one comes first, and what stands after it.
 pub(crate) fn additive<'a>(rest: &'a [Placed<'a>]) -> Option<(Additive, &'a [Placed<'a>])>
     ensures first { MatchOption result (NoAdditive (placed_views rest.now))

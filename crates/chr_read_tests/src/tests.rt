@@ -70,46 +70,21 @@ fn is_query_read<M: Allocator + Copy>(
 }
 
 #[test]
-fn want_of_memory(rt: HostRuntime) -> Result<(), Fail> {
+fn programs_refused(rt: HostRuntime) -> Result<(), Fail> {
     let meter = Refusing::new(rt.alloc(), 0);
     let refused = refused_in_turn(MOST, |left| -> Result<bool, Fail> {
         Ok(is_program_read(&rt, &meter, &meter, left))
     })?;
     assert!(&rt; refused > 0 && refused < MOST, "{refused}");
+    Ok(())
+}
+
+#[test]
+fn queries_refused(rt: HostRuntime) -> Result<(), Fail> {
+    let meter = Refusing::new(rt.alloc(), 0);
     let refused = refused_in_turn(MOST, |left| -> Result<bool, Fail> {
         Ok(is_query_read(&rt, &meter, &meter, left))
     })?;
     assert!(&rt; refused > 0 && refused < MOST, "{refused}");
-    Ok(())
-}
-
-/// Queries of one character so many times, each with its answer and the column in line 1, if it has a place.
-#[test]
-fn hostile_texts(rt: HostRuntime) -> Result<(), Fail> {
-    for (byte, count, kind, column) in [
-        (b' ', 1_048_577, ReadErrorKind::TooLong, 0),
-        (b'(', 1_048_576, ReadErrorKind::TooDeep, 257),
-        (b'[', 1_048_576, ReadErrorKind::TooDeep, 257),
-        (b'%', 1_048_576, ReadErrorKind::Expected, 1_048_577),
-    ] {
-        let text = vec![in rt.alloc(); byte; count]?;
-        let line = u64::from(column > 0);
-        let error = ReadError { kind, line, column };
-        assert_eq!(&rt; read_query(rt.alloc(), &text).err(), Some(error), "{count}");
-    }
-    Ok(())
-}
-
-/// Programs and queries as long as a text may be: one comment, and as many goals as there can be.
-#[test]
-fn longest_texts(rt: HostRuntime) -> Result<(), Fail> {
-    let text = vec![in rt.alloc(); b'%'; 1_048_576]?;
-    assert!(&rt; read_program(rt.alloc(), &text).is_ok_and(|program| program.parts.is_empty()));
-    let mut text = Vec::new(rt.alloc());
-    for _ in 0..524_287u32 {
-        text.extend_from_slice(b"p,")?;
-    }
-    text.extend_from_slice(b"p.")?;
-    assert!(&rt; read_query(rt.alloc(), &text).is_ok_and(|query| query.items.len() == 524_288));
     Ok(())
 }

@@ -114,7 +114,24 @@ fn assert_text<A: Allocator + Copy>(
     Ok(())
 }
 
-/// A run of an example to its end, whose text is that of the example.
+/// A run of an example to its end, over its program and its query, whose text is that of the example.
+fn run_with<A: Allocator + Copy + Send + Sync, G: Gate, R: Threads + Wait + Abort + Sync>(
+    rt: &R,
+    alloc: A,
+    example: Worked,
+    program: &Program<A>,
+    query: Query<A>,
+    workers: u32,
+    gate: &G,
+) -> Result<Run<A>, Fail>
+    requires { IsQueryBounded (query_view query) }
+{
+    let run = made(rt, alloc, program, query, AMPLE, workers, gate)?;
+    assert_text(rt, alloc, example, program, &run.outcome)?;
+    Ok(run)
+}
+
+/// The same with the texts of the example.
 fn run_of<A: Allocator + Copy + Send + Sync, G: Gate, R: Threads + Wait + Abort + Sync>(
     rt: &R,
     alloc: A,
@@ -123,32 +140,44 @@ fn run_of<A: Allocator + Copy + Send + Sync, G: Gate, R: Threads + Wait + Abort 
     gate: &G,
 ) -> Result<Run<A>, Fail> {
     let (program, query) = both_of(alloc, example.program, example.query)?;
-    let run = made(rt, alloc, &program, query, AMPLE, workers, gate)?;
-    assert_text(rt, alloc, example, &program, &run.outcome)?;
-    Ok(run)
+    run_with(rt, alloc, example, &program, query, workers, gate)
 }
 
-/// The outcome and the counts of a schedule of an example, with its program.
-fn replay_of<A: Allocator + Copy>(
+/// The counts of a schedule of an example.
+fn counts_of<A: Allocator + Copy>(
     rt: &impl Wait,
     alloc: A,
     example: Worked,
     events: &[Event],
-) -> Result<(Program<A>, Outcome<A>, Counts), Fail> {
+) -> Result<Counts, Fail> {
     let (program, query) = both_of(alloc, example.program, example.query)?;
-    let (outcome, counts) = replayed(rt, alloc, &program, query, events)?;
-    Ok((program, outcome, counts))
+    let (_, counts) = replayed(rt, alloc, &program, query, events)?;
+    Ok(counts)
 }
 
-/// The schedule of a run leads to the text of its example, and to its counts.
+/// The schedule of a run leads to the text of its example, and to its counts, over the program and the query.
+fn assert_replayed_with<A: Allocator + Copy>(
+    rt: &(impl Abort + Wait),
+    alloc: A,
+    example: Worked,
+    program: &Program<A>,
+    query: Query<A>,
+    run: &Run<A>,
+) -> Result<(), Fail>
+    requires { IsQueryBounded (query_view query) }
+{
+    let (outcome, counts) = replayed(rt, alloc, program, query, run.schedule.as_slice())?;
+    assert_eq!(rt; counts, run.counts, "{}", example.query);
+    assert_text(rt, alloc, example, program, &outcome)
+}
+
+/// The same with the texts of the example.
 fn assert_replayed<A: Allocator + Copy>(
     rt: &(impl Abort + Wait),
     alloc: A,
     example: Worked,
     run: &Run<A>,
 ) -> Result<(), Fail> {
-    let (program, outcome, counts) = replay_of(rt, alloc, example, run.schedule.as_slice())?;
-    assert_text(rt, alloc, example, &program, &outcome)?;
-    assert_eq!(rt; counts, run.counts, "{}", example.query);
-    Ok(())
+    let (program, query) = both_of(alloc, example.program, example.query)?;
+    assert_replayed_with(rt, alloc, example, &program, query, run)
 }

@@ -1,4 +1,4 @@
--- Text that is written in three parts.
+-- Text that is written in parts.
 use Rattle.std.proofs.Common.{◌≡◌, ℕ, List, [], ◌∷◌, ◌++◌, ap, ◌∙◌, append_assoc, append-nil, Result, Ok, Err, OnOk}
 
 joined : (out first second third a b c new : List ℕ) → first ≡ out ++ a → second ≡ first ++ b → third ≡ c → new ≡ second ++ third → new ≡ out ++ (a ++ (b ++ c))
@@ -7,6 +7,10 @@ joined out first second third a b c new e f k h = h ∙ ap (λ t. second ++ t) k
 pub joined_on_ok : {T E : Type 0} (r : Result T E) (out first second third a b c new : List ℕ) → first ≡ out ++ a → second ≡ first ++ b → third ≡ c → OnOk r (new ≡ second ++ third) → OnOk r (new ≡ out ++ (a ++ (b ++ c)))
 joined_on_ok (Ok x) out first second third a b c new e f k h = joined out first second third a b c new e f k h
 joined_on_ok (Err x) out first second third a b c new e f k h = tt
+
+pub two_on_ok : {T E : Type 0} (r : Result T E) (out first new a b : List ℕ) → first ≡ out ++ a → OnOk r (new ≡ first ++ b) → OnOk r (new ≡ out ++ (a ++ b))
+two_on_ok (Ok x) out first new a b e h = h ∙ ap (λ t. t ++ b) e ∙ append_assoc out a b
+two_on_ok (Err x) out first new a b e h = tt
 
 -- a name, its first argument, its second one, and what comes after that
 call : (out opening first second new name a b c rest : List ℕ) → opening ≡ out ++ (name ++ 40 ∷ []) → first ≡ opening ++ a → second ≡ first ++ 44 ∷ b → new ≡ second ++ 44 ∷ (c ++ (rest ++ 41 ∷ [])) → new ≡ out ++ (name ++ 40 ∷ (a ++ ((44 ∷ (b ++ 44 ∷ (c ++ rest))) ++ 41 ∷ [])))

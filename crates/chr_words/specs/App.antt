@@ -47,5 +47,8 @@ file_rules = record_rule ∷ replay_rule ∷ []
 abbrev pub chr_rules : List Rule
 chr_rules = program_rule ∷ query_rule ∷ budget_rule ∷ workers_rule ∷ record_rule ∷ replay_rule ∷ totals_rule ∷ []
 
+abbrev pub bare_app : App
+bare_app = on_top (λ s. record s { no_binary_name = true }) (new_app (codes "chr"))
+
 abbrev pub chr_app : App
-chr_app = fold with_rule (on_top (λ s. record s { no_binary_name = true }) (new_app (codes "chr"))) chr_rules
+chr_app = fold with_rule bare_app chr_rules

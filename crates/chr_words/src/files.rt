@@ -69,11 +69,11 @@ pub fn read_all<R: Read>(alloc: Global, input: &mut R) -> Option<Vec<u8>>
     let mut bytes = Vec::new(alloc);
     let mut buffer = [0u8; 4096];
     for _ in 0..READS {
-        let count = input.read(&mut buffer).ok()?;
-        if count == 0 {
-            return Some(bytes);
+        match input.read(&mut buffer) {
+            Ok(0) => return Some(bytes),
+            Ok(count) => bytes.extend_from_slice(&buffer[..count]).ok()?,
+            Err(_) => return None,
         }
-        bytes.extend_from_slice(&buffer[..count]).ok()?;
     }
     None
 }
@@ -87,19 +87,12 @@ pub fn read_file<O: Opens>(alloc: Global, opens: &O, path: &str) -> Option<Vec<u
     read_all(alloc, &mut file)
 }
 
-/// Writes all the bytes, or gives none where a write fails or takes nothing of what is left.
+/// Writes all the bytes, or gives none where a write fails or takes nothing of what is left. A write that was interrupted is made again.
 pub fn write_all<W: Write>(output: &mut W, bytes: &[u8]) -> Option<()>
     ensures { IfSome result
         (λ _. Appends (W.contents output.old) (W.contents output.new) bytes.now) }
 {
-    let mut rest = bytes;
-    while !rest.is_empty() {
-        match output.write(rest) {
-            Ok(0) | Err(_) => return None,
-            Ok(count) => rest = rest.split_at(count).1,
-        }
-    }
-    Some(())
+    output.write_all(bytes).ok()
 }
 
 /// Creates the file of a path and writes all the bytes to it, or gives none where it cannot.

@@ -2,7 +2,7 @@
 ghost use Rattle.std.specs.Prelude.{◌≡◌, ℕ, List, [], ◌∷◌, Some, None, IfOk, false, true, fold, map};
 ghost use Rattle.std.specs.String.{string_bytes};
 ghost use Rattle.clap.specs.Words.{app_of, found_of, kind_of, rule_of, with_rule};
-ghost use Rattle.chr_words.specs.App.{chr_app, text_rules, number_rules, file_rules, program_rule, query_rule, budget_rule, workers_rule, record_rule, replay_rule, totals_rule};
+ghost use Rattle.chr_words.specs.App.{bare_app, chr_app, text_rules, number_rules, file_rules, program_rule, query_rule, budget_rule, workers_rule, record_rule, replay_rule, totals_rule};
 ghost use Rattle.chr_words.specs.Answer.{IsAnswer, IsRead, IsRefusal, IsRun};
 ghost use Rattle.chr_words.specs.Words.{is_plain};
 
@@ -124,14 +124,20 @@ fn with_files<'a>(alloc: Global, command: Command<'a>) -> Result<Command<'a>, Al
     command.arg(record_arg(alloc))?.arg(replay_arg(alloc))
 }
 
+/// The command, before it takes any words.
+fn bare_command<'a>(alloc: Global) -> Command<'a>
+    ensures { app_of result ≡ bare_app }
+{
+    Command::new(alloc, "chr")
+        .no_binary_name(true)
+        .about("Runs a query over a program of Constraint Handling Rules")
+}
+
 /// The words that the program takes.
 fn chr_command<'a>(alloc: Global) -> Result<Command<'a>, AllocError>
     ensures { IfOk result (λ c. app_of c ≡ chr_app) }
 {
-    let command = Command::new(alloc, "chr")
-        .no_binary_name(true)
-        .about("Runs a query over a program of Constraint Handling Rules");
-    let command = with_texts(alloc, command)?;
+    let command = with_texts(alloc, bare_command(alloc))?;
     let command = with_numbers(alloc, command)?;
     with_files(alloc, command)?.arg(totals_arg(alloc))
 }

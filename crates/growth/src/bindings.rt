@@ -47,28 +47,53 @@ struct Times {
     resolved: Duration,
 }
 
-fn measured(rt: &HostRuntime, size: usize) -> io::Result<Times> {
-    let alloc = rt.alloc();
-    let mut bindings = Bindings::new(alloc);
-    bindings.fresh(size.saturating_mul(2))?;
-    let (left, right) = (list_of(alloc, 0, size)?, list_of(alloc, size, size)?);
-
+fn tell_time(
+    rt: &HostRuntime,
+    bindings: &mut Bindings,
+    left: &Term,
+    right: &Term,
+) -> io::Result<Duration> {
     let start = Instant::now(rt)?;
-    tell(&mut bindings, &left, &right)?;
-    let lists = start.elapsed(rt)?;
+    tell(bindings, left, right)?;
+    start.elapsed(rt)
+}
 
+fn chain_time(rt: &HostRuntime, bindings: &mut Bindings, size: usize) -> io::Result<Duration> {
     let start = Instant::now(rt)?;
-    chain(&mut bindings, size)?;
-    let chain = start.elapsed(rt)?;
+    chain(bindings, size)?;
+    start.elapsed(rt)
+}
 
+fn resolve_time(rt: &HostRuntime, bindings: &Bindings, term: &Term) -> io::Result<Duration> {
     let start = Instant::now(rt)?;
-    let _term = bindings.resolve(&right)?;
-    let resolved = start.elapsed(rt)?;
+    drop(bindings.resolve(term)?);
+    start.elapsed(rt)
+}
+
+/// The times of two lists, over bindings in which nothing is bound yet.
+fn measured_over(
+    rt: &HostRuntime,
+    bindings: &mut Bindings,
+    (left, right): (&Term, &Term),
+    size: usize,
+) -> io::Result<Times> {
+    let lists = tell_time(rt, bindings, left, right)?;
+    let chain = chain_time(rt, bindings, size)?;
+    let resolved = resolve_time(rt, bindings, right)?;
     Ok(Times {
         lists,
         chain,
         resolved,
     })
+}
+
+fn measured(rt: &HostRuntime, size: usize) -> io::Result<Times> {
+    let alloc = rt.alloc();
+    let left = list_of(alloc, 0, size)?;
+    let right = list_of(alloc, size, size)?;
+    let mut bindings = Bindings::new(alloc);
+    bindings.fresh(size.saturating_mul(2))?;
+    measured_over(rt, &mut bindings, (&left, &right), size)
 }
 
 /// Prints how long it takes.

@@ -17,14 +17,13 @@ const KEPT: u64 = 4_096;
 const STEP: u64 = 7_919;
 
 /// Puts in the keys below a size, in the order of the multiples of a step.
-fn put_all(alloc: Global, size: u64, step: u64) -> Result<Numbers, Memory> {
-    let mut map = Map::new(alloc);
+fn put_all(alloc: Global, map: &mut Numbers, size: u64, step: u64) -> Result<(), Memory> {
     let mut key: u64 = 0;
     for _ in 0..size {
         map.put(key, Pointer::new(alloc, key)?)?;
         key = key.wrapping_add(step) % size.max(1);
     }
-    Ok(map)
+    Ok(())
 }
 
 /// Takes the keys out again.
@@ -74,36 +73,67 @@ fn put_and_kept(alloc: Global, map: &mut Numbers, size: u64) -> Result<Vec<Numbe
     Ok(kept)
 }
 
-fn measured(rt: &HostRuntime, size: u64) -> io::Result<()> {
-    let alloc = rt.alloc();
+fn measured_put(
+    rt: &HostRuntime,
+    map: &mut Numbers,
+    size: u64,
+    (step, work): (u64, &str),
+) -> io::Result<()> {
     let start = Instant::now(rt)?;
-    let mut in_order = put_all(alloc, size, 1)?;
-    print_each(rt, size, "put in order", start.elapsed(rt)?, size)?;
+    put_all(rt.alloc(), map, size, step)?;
+    print_each(rt, size, work, start.elapsed(rt)?, size)
+}
+
+fn measured_looks(rt: &HostRuntime, map: &Numbers, size: u64) -> io::Result<u64> {
     let start = Instant::now(rt)?;
-    let mut other = put_all(alloc, size, STEP)?;
-    print_each(rt, size, "put in another order", start.elapsed(rt)?, size)?;
-    let start = Instant::now(rt)?;
-    let sum = looked_up(&in_order, size, STEP);
+    let sum = looked_up(map, size, STEP);
     print_each(rt, size, "looked up", start.elapsed(rt)?, size)?;
+    Ok(sum)
+}
+
+fn measured_walk(rt: &HostRuntime, map: &Numbers, size: u64) -> io::Result<u64> {
     let start = Instant::now(rt)?;
-    let same = walked(&other.entries(), 64);
+    let sum = walked(&map.entries(), 64);
     print_each(rt, size, "walked", start.elapsed(rt)?, size)?;
-    if sum != same {
-        eprintln!(rt; "{size}: the sums differ")?;
-    }
+    Ok(sum)
+}
+
+fn measured_kept(rt: &HostRuntime, map: &mut Numbers, size: u64) -> io::Result<()> {
     let start = Instant::now(rt)?;
-    let kept = put_and_kept(alloc, &mut in_order, size)?;
-    print_each(rt, size, "put and kept", start.elapsed(rt)?, KEPT)?;
-    drop(kept);
+    let _kept = put_and_kept(rt.alloc(), map, size)?;
+    print_each(rt, size, "put and kept", start.elapsed(rt)?, KEPT)
+}
+
+fn measured_takes(rt: &HostRuntime, map: &mut Numbers, size: u64) -> io::Result<()> {
     let start = Instant::now(rt)?;
-    take_all(&mut other, size, STEP)?;
+    take_all(map, size, STEP)?;
     print_each(rt, size, "taken out", start.elapsed(rt)?, size)
+}
+
+/// Keys that come in order, looked up and kept. Their sum.
+fn in_order(rt: &HostRuntime, size: u64) -> io::Result<u64> {
+    let mut map = Map::new(rt.alloc());
+    measured_put(rt, &mut map, size, (1, "put in order"))?;
+    let sum = measured_looks(rt, &map, size)?;
+    measured_kept(rt, &mut map, size)?;
+    Ok(sum)
+}
+
+/// Keys that come in another order, walked over and taken out. Their sum.
+fn in_another_order(rt: &HostRuntime, size: u64) -> io::Result<u64> {
+    let mut map = Map::new(rt.alloc());
+    measured_put(rt, &mut map, size, (STEP, "put in another order"))?;
+    let sum = measured_walk(rt, &map, size)?;
+    measured_takes(rt, &mut map, size)?;
+    Ok(sum)
 }
 
 /// Prints how long each of them takes.
 pub fn grow(rt: &HostRuntime) -> io::Result<()> {
     for size in SIZES {
-        measured(rt, size)?;
+        if in_order(rt, size)? != in_another_order(rt, size)? {
+            eprintln!(rt; "{size}: the sums differ")?;
+        }
     }
     Ok(())
 }

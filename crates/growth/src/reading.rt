@@ -11,78 +11,95 @@ const SIZES: [usize; 3] = [262_144, 524_288, 1_048_576];
 /// The size before the first.
 const HALF: usize = 131_072;
 
-/// A text of about so many bytes and not more: an opening, a part as often as it goes, and an end.
-fn text_of(
-    alloc: Global,
-    opening: &str,
-    part: &str,
-    end: &str,
-    size: usize,
-) -> Result<Vec<u8>, Memory> {
+/// What is read: a text of an opening, a part as often as it goes, and an end.
+#[derive(Clone, Copy, Drop)]
+struct Subject {
+    work: &'static str,
+    is_query: bool,
+    opening: &'static str,
+    part: &'static str,
+    end: &'static str,
+}
+
+const SUBJECTS: [Subject; 4] = [
+    Subject {
+        work: "bytes of one long rule",
+        is_query: false,
+        opening: "p <=> p",
+        part: ",p",
+        end: ".",
+    },
+    Subject {
+        work: "bytes of short rules",
+        is_query: false,
+        opening: "",
+        part: "p(X) <=> q(X).\n",
+        end: "",
+    },
+    Subject {
+        work: "bytes of one list",
+        is_query: true,
+        opening: "X = [1",
+        part: ",1",
+        end: "].",
+    },
+    Subject {
+        work: "bytes of one chain",
+        is_query: true,
+        opening: "X = 1",
+        part: "+1",
+        end: ".",
+    },
+];
+
+/// A text of about so many bytes and not more.
+fn text_of(alloc: Global, subject: Subject, size: usize) -> Result<Vec<u8>, Memory> {
     let mut text = Vec::new(alloc);
-    text.extend_from_slice(opening.as_bytes())?;
-    let fixed = opening.len().saturating_add(end.len());
-    let parts = size.saturating_sub(fixed) / part.len().max(1);
+    text.extend_from_slice(subject.opening.as_bytes())?;
+    let fixed = subject.opening.len().saturating_add(subject.end.len());
+    let parts = size.saturating_sub(fixed) / subject.part.len().max(1);
     for _ in 0..parts {
-        text.extend_from_slice(part.as_bytes())?;
+        text.extend_from_slice(subject.part.as_bytes())?;
     }
-    text.extend_from_slice(end.as_bytes())?;
+    text.extend_from_slice(subject.end.as_bytes())?;
     Ok(text)
 }
 
-/// How long the texts of a size take.
-#[derive(Clone, Copy, Drop)]
-struct Times {
-    rule: Duration,
-    rules: Duration,
-    list: Duration,
-    chain: Duration,
+/// Whether the text of a subject is read.
+fn is_read(alloc: Global, subject: Subject, text: &[u8]) -> bool {
+    if subject.is_query {
+        read_query(alloc, text).is_ok()
+    } else {
+        read_program(alloc, text).is_ok()
+    }
 }
 
-fn program_time(rt: &HostRuntime, text: &[u8]) -> io::Result<Duration> {
+/// How long a subject takes at a size.
+fn measured(rt: &HostRuntime, subject: Subject, size: usize) -> io::Result<Duration> {
+    let text = text_of(rt.alloc(), subject, size)?;
     let start = Instant::now(rt)?;
-    let read = read_program(rt.alloc(), text);
+    let is_read = is_read(rt.alloc(), subject, &text);
     let time = start.elapsed(rt)?;
-    if read.is_err() {
-        eprintln!(rt; "a program was refused")?;
+    if !is_read {
+        eprintln!(rt; "{size}: {} were refused", subject.work)?;
     }
     Ok(time)
 }
 
-fn query_time(rt: &HostRuntime, text: &[u8]) -> io::Result<Duration> {
-    let start = Instant::now(rt)?;
-    let read = read_query(rt.alloc(), text);
-    let time = start.elapsed(rt)?;
-    if read.is_err() {
-        eprintln!(rt; "a query was refused")?;
+fn grow_subject(rt: &HostRuntime, subject: Subject) -> io::Result<()> {
+    let mut before = measured(rt, subject, HALF)?;
+    for size in SIZES {
+        let now = measured(rt, subject, size)?;
+        print_beside(rt, size, subject.work, now, before)?;
+        before = now;
     }
-    Ok(time)
-}
-
-fn measured(rt: &HostRuntime, size: usize) -> io::Result<Times> {
-    let alloc = rt.alloc();
-    let rule = text_of(alloc, "p <=> p", ",p", ".", size)?;
-    let rules = text_of(alloc, "", "p(X) <=> q(X).\n", "", size)?;
-    let list = text_of(alloc, "X = [1", ",1", "].", size)?;
-    let chain = text_of(alloc, "X = 1", "+1", ".", size)?;
-    Ok(Times {
-        rule: program_time(rt, &rule)?,
-        rules: program_time(rt, &rules)?,
-        list: query_time(rt, &list)?,
-        chain: query_time(rt, &chain)?,
-    })
+    Ok(())
 }
 
 /// Prints how long it takes.
 pub fn grow(rt: &HostRuntime) -> io::Result<()> {
-    let mut before = measured(rt, HALF)?;
-    for size in SIZES {
-        let now = measured(rt, size)?;
-        print_beside(rt, size, "bytes of one long rule", now.rule, before.rule)?;
-        print_beside(rt, size, "bytes of short rules", now.rules, before.rules)?;
-        print_beside(rt, size, "bytes of one list", now.list, before.list)?;
-        print_beside(rt, size, "bytes of one chain", now.chain, before.chain)?;
-        before = now;
+    for subject in SUBJECTS {
+        grow_subject(rt, subject)?;
     }
     Ok(())
 }

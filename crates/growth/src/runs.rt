@@ -98,26 +98,35 @@ fn whole_run<R: AllocGlobal + Threads + Wait + Sync>(
 }
 
 /// The run of a query beside so many workers, and how long it took. A refusal is printed.
+fn timed_run<R: AllocGlobal + Clock + Eprint + Threads + Wait + Sync>(
+    rt: &R,
+    program: &Program,
+    query: Query,
+    workers: u32,
+) -> io::Result<Option<(Duration, Run)>>
+    requires { IsQueryBounded (query_view query) }
+{
+    let start = Instant::now(rt)?;
+    match whole_run(rt, program, query, workers) {
+        Ok(run) => Ok(Some((start.elapsed(rt)?, run))),
+        Err(error) => {
+            eprintln!(rt; "the run is refused: {error}")?;
+            Ok(None)
+        }
+    }
+}
+
+/// The same of the text of a query.
 fn timed<R: AllocGlobal + Clock + Eprint + Threads + Wait + Sync>(
     rt: &R,
     program: &mut Program,
     query: &str,
     workers: u32,
 ) -> io::Result<Option<(Duration, Run)>> {
-    let query = match query_of(rt.alloc(), program, query) {
-        Ok(query) => query,
+    match query_of(rt.alloc(), program, query) {
+        Ok(query) => timed_run(rt, program, query, workers),
         Err(mistake) => {
             eprintln!(rt; "the query is refused: {mistake}")?;
-            return Ok(None);
-        }
-    };
-    let start = Instant::now(rt)?;
-    let made = whole_run(rt, program, query, workers);
-    let time = start.elapsed(rt)?;
-    match made {
-        Ok(run) => Ok(Some((time, run))),
-        Err(error) => {
-            eprintln!(rt; "the run is refused: {error}")?;
             Ok(None)
         }
     }
@@ -142,12 +151,65 @@ fn print_counts(rt: &impl Eprint, run: &Run) -> io::Result<()> {
     )
 }
 
-/// Prints what part of the time of a run with no worker each of its searches has.
+/// Prints how long each search of a run with no worker takes.
 fn print_search(rt: &impl Eprint, work: &str, time: Duration, searches: u64) -> io::Result<()> {
     eprintln!(rt;
         "{work}: {searches} searches, {} us each",
         time.as_micros() / u128::from(searches.max(1))
     )
+}
+
+/// Prints the time of a run beside so many workers, and what part it is of the time with none.
+fn print_run(
+    rt: &impl Eprint,
+    (work, workers): (&str, u32),
+    (time, alone): (Duration, Duration),
+    run: &Run,
+) -> io::Result<()> {
+    eprint!(rt;
+        "{work}, workers {workers}: {} ms, {} percent of the time with none",
+        time.as_millis(),
+        percent(time, alone)
+    )?;
+    print_counts(rt, run)?;
+    if run.outcome.status != Status::Done {
+        eprintln!(rt; "{work}, workers {workers}: the run did not end")?;
+    }
+    Ok(())
+}
+
+/// The time with no worker, which is that of the first run.
+fn time_alone(
+    rt: &impl Eprint,
+    work: &str,
+    first: Option<Duration>,
+    (time, run): (Duration, &Run),
+) -> io::Result<Duration> {
+    match first {
+        Some(alone) => Ok(alone),
+        None => {
+            print_search(rt, work, time, run.counts.own)?;
+            Ok(time)
+        }
+    }
+}
+
+/// Prints the time of a query's run beside so many workers. The time with none, if the run was not refused.
+fn measured_beside<R: AllocGlobal + Clock + Eprint + Threads + Wait + Sync>(
+    rt: &R,
+    (work, workers): (&str, u32),
+    program: &mut Program,
+    query: &str,
+    first: Option<Duration>,
+) -> io::Result<Option<Duration>> {
+    match timed(rt, program, query, workers)? {
+        None => Ok(None),
+        Some((time, run)) => {
+            let alone = time_alone(rt, work, first, (time, &run))?;
+            print_run(rt, (work, workers), (time, alone), &run)?;
+            Ok(Some(alone))
+        }
+    }
 }
 
 /// Prints the times of a query's runs beside all numbers of workers.
@@ -157,29 +219,9 @@ fn measured<R: AllocGlobal + Clock + Eprint + Threads + Wait + Sync>(
     program: &mut Program,
     query: &str,
 ) -> io::Result<()> {
-    let mut first = None;
+    let mut alone = None;
     for workers in WORKERS {
-        let (time, run) = match timed(rt, program, query, workers)? {
-            Some(timed) => timed,
-            None => return Ok(()),
-        };
-        let alone = match first {
-            Some(alone) => alone,
-            None => {
-                print_search(rt, work, time, run.counts.own)?;
-                time
-            }
-        };
-        first = Some(alone);
-        eprint!(rt;
-            "{work}, workers {workers}: {} ms, {} percent of the time with none",
-            time.as_millis(),
-            percent(time, alone)
-        )?;
-        print_counts(rt, &run)?;
-        if run.outcome.status != Status::Done {
-            eprintln!(rt; "{work}, workers {workers}: the run did not end")?;
-        }
+        alone = measured_beside(rt, (work, workers), program, query, alone)?;
     }
     Ok(())
 }
@@ -197,15 +239,23 @@ fn measured_texts<R: AllocGlobal + Clock + Eprint + Threads + Wait + Sync>(
     }
 }
 
+/// Long searches of constraints with so many occurrences.
 fn long_searches<R: AllocGlobal + Clock + Eprint + Threads + Wait + Sync>(
     rt: &R,
+    query: &str,
+    occurrences: u64,
 ) -> io::Result<()> {
-    let alloc = rt.alloc();
-    let query = long_query(alloc)?;
+    let work = format!(in rt.alloc(); "long searches, {occurrences} occurrences")?;
+    let program = long_rules(rt.alloc(), occurrences)?;
+    measured_texts(rt, &work, &program, query)
+}
+
+fn all_long_searches<R: AllocGlobal + Clock + Eprint + Threads + Wait + Sync>(
+    rt: &R,
+) -> io::Result<()> {
+    let query = long_query(rt.alloc())?;
     for occurrences in OCCURRENCES {
-        let work = format!(in alloc; "long searches, {occurrences} occurrences")?;
-        let program = long_rules(alloc, occurrences)?;
-        measured_texts(rt, &work, &program, &query)?;
+        long_searches(rt, &query, occurrences)?;
     }
     Ok(())
 }
@@ -219,6 +269,6 @@ fn short_searches<R: AllocGlobal + Clock + Eprint + Threads + Wait + Sync>(
 
 /// Prints how long they take.
 pub fn grow<R: AllocGlobal + Clock + Eprint + Threads + Wait + Sync>(rt: &R) -> io::Result<()> {
-    long_searches(rt)?;
+    all_long_searches(rt)?;
     short_searches(rt)
 }

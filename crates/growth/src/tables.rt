@@ -35,13 +35,13 @@ struct Pairs {
 fn pair_of(alloc: Global, pairs: Pairs, id: u64) -> Result<Pointer<Row>, Memory> {
     let key = i128::from(id % pairs.keys.max(1));
     let args = Vec::from_array(alloc, [Term::Int(key), Term::Int(key)])?;
-    Pointer::new(
-        alloc,
-        Row {
-            sym: pairs.sym,
-            args,
-        },
-    )
+    let sym = pairs.sym;
+    Pointer::new(alloc, Row { sym, args })
+}
+
+fn without_arguments(alloc: Global, sym: Sym) -> Result<Pointer<Row>, Memory> {
+    let args = Vec::new(alloc);
+    Pointer::new(alloc, Row { sym, args })
 }
 
 /// Adds a constraint, unless its identity is taken.
@@ -183,103 +183,135 @@ fn resident(rt: &HostRuntime) -> Option<u64> {
     Some(pages.saturating_mul(4096) / 1_000_000)
 }
 
+fn measured_adds(rt: &HostRuntime, table: &mut Table, pairs: Pairs) -> io::Result<()> {
+    let start = Instant::now(rt)?;
+    add_all(rt.alloc(), table, pairs)?;
+    print_each(rt, pairs.count, "  added", start.elapsed(rt)?, pairs.count)
+}
+
+fn measured_removals(rt: &HostRuntime, table: &mut Table, pairs: Pairs) -> io::Result<()> {
+    let start = Instant::now(rt)?;
+    remove_all(table, pairs)?;
+    print_each(
+        rt,
+        pairs.count,
+        "  removed",
+        start.elapsed(rt)?,
+        pairs.count,
+    )
+}
+
 fn changed(rt: &HostRuntime, program: &Program, pairs: Pairs, keys: &str) -> io::Result<()> {
-    let alloc = rt.alloc();
+    eprintln!(rt; "{}: {keys}", pairs.count)?;
+    let mut table = empty(rt.alloc(), program)?;
+    measured_adds(rt, &mut table, pairs)?;
+    measured_removals(rt, &mut table, pairs)
+}
+
+/// The searches of all these constraints at an occurrence, each of which has partners.
+fn searched(
+    rt: &HostRuntime,
+    program: &Program,
+    table: &mut Table,
+    (pairs, occurrence): (Pairs, u32),
+    work: &str,
+) -> io::Result<()> {
     let size = pairs.count;
-    let mut table = empty(alloc, program)?;
     let start = Instant::now(rt)?;
-    add_all(alloc, &mut table, pairs)?;
-    let added = start.elapsed(rt)?;
-    let start = Instant::now(rt)?;
-    remove_all(&mut table, pairs)?;
-    let removed = start.elapsed(rt)?;
-    eprintln!(rt; "{size}: {keys}")?;
-    print_each(rt, size, "  added", added, size)?;
-    print_each(rt, size, "  removed", removed, size)
+    let found = search_all(program, table, pairs, occurrence)?;
+    print_each(rt, size, work, start.elapsed(rt)?, size)?;
+    if found != size {
+        eprintln!(rt; "{size}: {found} found partners")?;
+    }
+    Ok(())
 }
 
 /// As many of each of three symbols as the size says, each with a partner of each other one.
 fn joined(rt: &HostRuntime, program: &Program, symbols: Symbols, size: u64) -> io::Result<()> {
-    let alloc = rt.alloc();
-    let mut table = empty(alloc, program)?;
-    let of = |sym: Sym, first: u64| Pairs {
-        sym,
+    let p = Pairs {
+        sym: symbols.p,
         keys: size,
-        first,
+        first: size,
         count: size,
     };
-    let p = of(symbols.p, size);
-    let q = of(symbols.q, size.saturating_mul(2));
-    let r = of(symbols.r, size.saturating_mul(3));
-    add_all(alloc, &mut table, p)?;
-    add_all(alloc, &mut table, q)?;
-    add_all(alloc, &mut table, r)?;
+    let q = Pairs {
+        sym: symbols.q,
+        first: size.saturating_mul(2),
+        ..p
+    };
+    let r = Pairs {
+        sym: symbols.r,
+        first: size.saturating_mul(3),
+        ..p
+    };
+    let mut table = empty(rt.alloc(), program)?;
+    for pairs in [p, q, r] {
+        add_all(rt.alloc(), &mut table, pairs)?;
+    }
     for (pairs, occurrence, work) in [
         (p, 1, "partner at the second of two heads"),
         (q, 1, "partner at the first of two heads"),
         (p, 2, "partners behind the first of three heads"),
         (q, 2, "partners on both sides of three heads"),
     ] {
-        let start = Instant::now(rt)?;
-        let found = search_all(program, &mut table, pairs, occurrence)?;
-        print_each(rt, size, work, start.elapsed(rt)?, size)?;
-        if found != size {
-            eprintln!(rt; "{size}: {found} found partners")?;
-        }
+        searched(rt, program, &mut table, (pairs, occurrence), work)?;
     }
     Ok(())
 }
 
-fn fired(rt: &HostRuntime, program: &Program, symbols: Symbols, size: u64) -> io::Result<()> {
-    let alloc = rt.alloc();
-    let mut table = empty(alloc, program)?;
-    let pairs = Pairs {
-        sym: symbols.s,
-        keys: size,
-        first: 2,
-        count: size,
-    };
-    let go = Row {
-        sym: symbols.go,
-        args: Vec::new(alloc),
-    };
-    add(&mut table, 1, Pointer::new(alloc, go)?)?;
-    add_all(alloc, &mut table, pairs)?;
+fn measured_firings(
+    rt: &HostRuntime,
+    program: &Program,
+    table: &mut Table,
+    (go, size): (Sym, u64),
+) -> io::Result<()> {
     let start = Instant::now(rt)?;
-    let count = fire_all(program, &mut table, symbols.go, 1)?;
-    print_each(
-        rt,
-        size,
-        "firing of one constraint",
-        start.elapsed(rt)?,
-        count,
-    )?;
+    let count = fire_all(program, table, go, 1)?;
+    let time = start.elapsed(rt)?;
+    print_each(rt, size, "firing of one constraint", time, count)?;
     if count != size {
         eprintln!(rt; "{size}: {count} firings")?;
     }
     Ok(())
 }
 
-fn kept(rt: &HostRuntime, program: &Program, symbols: Symbols, size: u64) -> io::Result<()> {
+fn fired(rt: &HostRuntime, program: &Program, symbols: Symbols, size: u64) -> io::Result<()> {
     let alloc = rt.alloc();
+    let pairs = Pairs {
+        sym: symbols.s,
+        keys: size,
+        first: 2,
+        count: size,
+    };
     let mut table = empty(alloc, program)?;
+    add(&mut table, 1, without_arguments(alloc, symbols.go)?)?;
+    add_all(alloc, &mut table, pairs)?;
+    measured_firings(rt, program, &mut table, (symbols.go, size))
+}
+
+fn measured_shares(rt: &HostRuntime, table: &mut Table, pairs: Pairs) -> io::Result<()> {
+    let size = pairs.count;
+    let start = Instant::now(rt)?;
+    let _tables = share_all(rt.alloc(), table, pairs)?;
+    print_each(rt, size, "kept, and a change", start.elapsed(rt)?, KEPT)?;
+    if let Some(megabytes) = resident(rt) {
+        eprintln!(rt; "{size}: {KEPT} kept: {megabytes} MB resident")?;
+    }
+    Ok(())
+}
+
+fn kept(rt: &HostRuntime, program: &Program, symbols: Symbols, size: u64) -> io::Result<()> {
     let pairs = Pairs {
         sym: symbols.p,
         keys: size,
         first: 1,
         count: size,
     };
-    add_all(alloc, &mut table, pairs)?;
+    let mut table = empty(rt.alloc(), program)?;
+    add_all(rt.alloc(), &mut table, pairs)?;
     table.settle_all()?;
     table.keep_keys()?;
-    let start = Instant::now(rt)?;
-    let tables = share_all(alloc, &mut table, pairs)?;
-    print_each(rt, size, "kept, and a change", start.elapsed(rt)?, KEPT)?;
-    if let Some(megabytes) = resident(rt) {
-        eprintln!(rt; "{size}: {KEPT} kept: {megabytes} MB resident")?;
-    }
-    drop(tables);
-    Ok(())
+    measured_shares(rt, &mut table, pairs)
 }
 
 fn measured(rt: &HostRuntime, program: &Program, symbols: Symbols, size: u64) -> io::Result<()> {
@@ -296,19 +328,22 @@ fn measured(rt: &HostRuntime, program: &Program, symbols: Symbols, size: u64) ->
     fired(rt, program, symbols, size)
 }
 
-/// Prints how long each of them takes.
-pub fn grow(rt: &HostRuntime) -> io::Result<()> {
-    let program = match program_of(rt.alloc(), RULES) {
-        Ok(program) => program,
-        Err(mistake) => return eprintln!(rt; "the rules are refused: {mistake}"),
-    };
-    match symbols_of(&program) {
+fn measured_sizes(rt: &HostRuntime, program: &Program) -> io::Result<()> {
+    match symbols_of(program) {
         None => eprintln!(rt; "a symbol is not there"),
         Some(symbols) => {
             for size in SIZES {
-                measured(rt, &program, symbols, size)?;
+                measured(rt, program, symbols, size)?;
             }
             Ok(())
         }
+    }
+}
+
+/// Prints how long each of them takes.
+pub fn grow(rt: &HostRuntime) -> io::Result<()> {
+    match program_of(rt.alloc(), RULES) {
+        Ok(program) => measured_sizes(rt, &program),
+        Err(mistake) => eprintln!(rt; "the rules are refused: {mistake}"),
     }
 }

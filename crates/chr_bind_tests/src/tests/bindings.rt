@@ -29,20 +29,30 @@ fn stands_for<A: Allocator + Copy>(
     Ok(same(&bindings.resolve(term)?, wanted) && bindings.resolves_to(term, wanted))
 }
 
+/// X is Y, and so is no f(Y).
+fn follow<A: Allocator + Copy>(
+    rt: &impl Abort,
+    bindings: &mut Bindings<A>,
+    inside: &Term<A>,
+) -> Result<(), Memory> {
+    let (x, y) = (Term::Var(0), Term::Var(1));
+    assert_eq!(rt; unify(rt, bindings, &x, &y)?, Unified::Bound);
+    assert!(rt; stands_for(bindings, &y, &x)?);
+    assert_eq!(rt; unify(rt, bindings, &x, &y)?, Unified::Same);
+    assert_eq!(rt; unify(rt, bindings, &x, inside)?, Unified::Clash);
+    assert!(rt; stands_for(bindings, &y, &x)?);
+    assert!(rt; !bindings.ground(inside));
+    Ok(())
+}
+
 #[test]
 fn binding_calls(rt: HostRuntime) -> Result<(), Fail> {
     let mut bindings = Bindings::new(rt.alloc());
     bindings.room(2)?;
     assert_eq!(&rt; bindings.fresh(2)?, 0);
     assert_eq!(&rt; bindings.len(), 2);
-    let (x, y) = (Term::Var(0), Term::Var(1));
     let inside = node(rt.alloc(), F, [Term::Var(1)])?;
-    assert_eq!(&rt; unify(&rt, &mut bindings, &x, &y)?, Unified::Bound);
-    assert!(&rt; stands_for(&bindings, &y, &x)?);
-    assert_eq!(&rt; unify(&rt, &mut bindings, &x, &y)?, Unified::Same);
-    assert_eq!(&rt; unify(&rt, &mut bindings, &x, &inside)?, Unified::Clash);
-    assert!(&rt; stands_for(&bindings, &y, &x)?);
-    assert!(&rt; !bindings.ground(&inside));
+    follow(&rt, &mut bindings, &inside)?;
     Ok(())
 }
 
@@ -202,9 +212,29 @@ fn holds_refused(rt: HostRuntime) -> Result<(), Fail> {
     Ok(())
 }
 
+/// The value of a symbol over two terms.
+fn value_over(
+    alloc: Global,
+    sym: Sym,
+    left: Term,
+    right: Term,
+) -> Result<Result<i128, Fault>, Memory> {
+    let term = node(alloc, sym, [left, right])?;
+    Ok(value(&term))
+}
+
+/// The same of two numbers.
+fn value_of(
+    alloc: Global,
+    sym: Sym,
+    left: i128,
+    right: i128,
+) -> Result<Result<i128, Fault>, Memory> {
+    value_over(alloc, sym, Term::Int(left), Term::Int(right))
+}
+
 #[test]
 fn whole_numbers(rt: HostRuntime) -> Result<(), Fail> {
-    let alloc = rt.alloc();
     for (sym, left, right, wanted) in [
         (Sym::PLUS, 9223372036854775807, 1, Ok(9223372036854775808)),
         (
@@ -220,14 +250,20 @@ fn whole_numbers(rt: HostRuntime) -> Result<(), Fail> {
         (Sym::MODULO, i128::MIN, -1, Ok(0)),
         (Sym::DIVIDE, 1, 0, Err(Fault::ZeroDivisor)),
     ] {
-        let term = node(alloc, sym, [Term::Int(left), Term::Int(right)])?;
-        assert_eq!(&rt; value(&term), wanted);
+        assert_eq!(&rt; value_of(rt.alloc(), sym, left, right)?, wanted);
     }
-    let (name, variable) = (Term::Node(A, Vec::new(alloc)), Term::Var(0));
-    let sum = node(alloc, Sym::PLUS, [variable, name])?;
-    assert_eq!(&rt; value(&sum), Err(Fault::Unbound));
-    let (name, variable) = (Term::Node(A, Vec::new(alloc)), Term::Var(0));
-    let sum = node(alloc, Sym::PLUS, [name, variable])?;
-    assert_eq!(&rt; value(&sum), Err(Fault::NotNumber));
+    Ok(())
+}
+
+/// The left side is looked at first.
+#[test]
+fn no_numbers(rt: HostRuntime) -> Result<(), Fail> {
+    let alloc = rt.alloc();
+    let name = Term::Node(A, Vec::new(alloc));
+    let unbound = value_over(alloc, Sym::PLUS, Term::Var(0), name)?;
+    assert_eq!(&rt; unbound, Err(Fault::Unbound));
+    let name = Term::Node(A, Vec::new(alloc));
+    let not_number = value_over(alloc, Sym::PLUS, name, Term::Var(0))?;
+    assert_eq!(&rt; not_number, Err(Fault::NotNumber));
     Ok(())
 }

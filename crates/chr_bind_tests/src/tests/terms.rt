@@ -2,29 +2,40 @@
 use super::*;
 use chr_term::{Names, VarNames, copy, is_ground, print, same};
 
+/// Symbols that are new, and known ones.
+fn follow_names(rt: &impl Abort, names: &mut Names) -> Result<(), Memory> {
+    for (name, arity, number) in [("f", 2, 7), ("a", 0, 8), ("f", 2, 7), ("f", 1, 9)] {
+        assert!(rt; names.len() < 100);
+        assert_eq!(rt; names.intern(name, arity)?, Sym(number));
+    }
+    assert_eq!(rt; names.len(), 10);
+    assert_eq!(rt; names.find("a", 0), Some(Sym(8)));
+    assert_eq!(rt; names.name(Sym(9)), "f");
+    assert_eq!(rt; names.arity(Sym(9)), 1);
+    Ok(())
+}
+
 #[test]
 fn names_calls(rt: HostRuntime) -> Result<(), Fail> {
     let mut names = Names::new(rt.alloc())?;
-    for (name, arity, number) in [("f", 2, 7), ("a", 0, 8), ("f", 2, 7), ("f", 1, 9)] {
-        assert!(&rt; names.len() < 100);
-        assert_eq!(&rt; names.intern(name, arity)?, Sym(number));
-    }
-    assert_eq!(&rt; names.len(), 10);
-    assert_eq!(&rt; names.find("a", 0), Some(Sym(8)));
-    assert_eq!(&rt; names.name(Sym(9)), "f");
-    assert_eq!(&rt; names.arity(Sym(9)), 1);
+    follow_names(&rt, &mut names)?;
     Ok(())
 }
 
 /// So many different names that their numbers have more than 16 bits.
+fn fill(rt: &impl Abort, alloc: Global, names: &mut Names) -> Result<(), Memory> {
+    for number in 0..70_000u32 {
+        let name = format!(in alloc; "{number}")?;
+        assert!(rt; names.len() < 100_000);
+        assert_eq!(rt; names.intern(&name, 1)?, Sym(number + 7));
+    }
+    Ok(())
+}
+
 #[test]
 fn seventy_thousand_names(rt: HostRuntime) -> Result<(), Fail> {
     let mut names = Names::new(rt.alloc())?;
-    for number in 0..70_000u32 {
-        let name = format!(in rt.alloc(); "{number}")?;
-        assert!(&rt; names.len() < 100_000);
-        assert_eq!(&rt; names.intern(&name, 1)?, Sym(number + 7));
-    }
+    fill(&rt, rt.alloc(), &mut names)?;
     assert_eq!(&rt; names.find("65536", 1), Some(Sym(65_543)));
     Ok(())
 }
@@ -46,19 +57,35 @@ fn var_names<A: Allocator + Copy>(alloc: A, is_named: bool) -> Result<VarNames<A
     Ok(VarNames::new(texts))
 }
 
+/// The term is printed so, where its variable is named, or is not.
+fn assert_printed(
+    rt: &impl Abort,
+    alloc: Global,
+    (names, term): (&Names, &Term),
+    (is_named, text): (bool, &str),
+) -> Result<(), Memory> {
+    let meter = Refusing::new(alloc, 0);
+    let vars = var_names(alloc, is_named)?;
+    assert_eq!(rt; vars.name(0), is_named.then_some("X"));
+    assert_eq!(rt; vars.len(), usize::from(is_named));
+    assert!(rt; is_printed(rt, &meter, &meter, (names, &vars, term), text, AMPLE)?);
+    Ok(())
+}
+
+/// The calls of the term f(X,1), which is printed with its variable's name and without.
+fn follow_term(rt: &impl Abort, alloc: Global, names: &Names) -> Result<(), Memory> {
+    let term = node(alloc, Sym(7), [Term::Var(0), Term::Int(1)])?;
+    assert!(rt; !is_ground(&term));
+    for printed in [(true, ">f(X,1)"), (false, ">f(_0,1)")] {
+        assert_printed(rt, alloc, (names, &term), printed)?;
+    }
+    Ok(())
+}
+
 #[test]
 fn term_calls(rt: HostRuntime) -> Result<(), Fail> {
-    let (alloc, meter) = (rt.alloc(), Refusing::new(rt.alloc(), 0));
-    let names = names_with_f(&rt, alloc)?;
-    let term = node(alloc, Sym(7), [Term::Var(0), Term::Int(1)])?;
-    assert!(&rt; !is_ground(&term));
-    assert!(&rt; is_copied(&rt, &meter, &meter, &term, AMPLE));
-    for (is_named, text) in [(true, ">f(X,1)"), (false, ">f(_0,1)")] {
-        let vars = var_names(alloc, is_named)?;
-        assert_eq!(&rt; vars.name(0), is_named.then_some("X"));
-        assert_eq!(&rt; vars.len(), usize::from(is_named));
-        assert!(&rt; is_printed(&rt, &meter, &meter, (&names, &vars, &term), text, AMPLE)?);
-    }
+    let names = names_with_f(&rt, rt.alloc())?;
+    follow_term(&rt, rt.alloc(), &names)?;
     Ok(())
 }
 
@@ -115,14 +142,12 @@ fn are_new<M: Allocator + Copy>(
 }
 
 /// Whether `intern` of a new symbol goes through with so many growths. A refused one leaves the names as they were.
-fn is_interned<M: Allocator + Copy>(
+fn is_interned_in<M: Allocator + Copy>(
     rt: &impl Abort,
-    alloc: M,
     meter: &Refusing<Global>,
+    names: &mut Names<M>,
     left: u64,
 ) -> Result<bool, Memory> {
-    meter.allow(AMPLE);
-    let mut names = names_with_f(rt, alloc)?;
     assert_eq!(rt; names.len(), 8);
     meter.allow(left);
     let is_done = names.intern("a", 0).is_ok();
@@ -135,31 +160,75 @@ fn is_interned<M: Allocator + Copy>(
     Ok(is_done)
 }
 
+/// The same in names of its own.
+fn is_interned<M: Allocator + Copy>(
+    rt: &impl Abort,
+    alloc: M,
+    meter: &Refusing<Global>,
+    left: u64,
+) -> Result<bool, Memory> {
+    meter.allow(AMPLE);
+    let mut names = names_with_f(rt, alloc)?;
+    is_interned_in(rt, meter, &mut names, left)
+}
+
 #[test]
 fn names_refused(rt: HostRuntime) -> Result<(), Fail> {
     let meter = Refusing::new(rt.alloc(), 0);
-    let made = refused_in_turn(MOST, |left| -> Result<bool, Memory> {
+    let refused = refused_in_turn(MOST, |left| -> Result<bool, Memory> {
         Ok(are_new(&rt, &meter, &meter, left))
     })?;
-    assert!(&rt; made > 0 && made < MOST, "{made}");
-    let interned = refused_in_turn(MOST, |left| is_interned(&rt, &meter, &meter, left))?;
-    assert!(&rt; interned > 0 && interned < MOST, "{interned}");
+    assert!(&rt; refused > 0 && refused < MOST, "{refused}");
     Ok(())
 }
 
 #[test]
-fn terms_refused(rt: HostRuntime) -> Result<(), Fail> {
-    let (alloc, meter) = (rt.alloc(), Refusing::new(rt.alloc(), 0));
-    let (names, vars) = (names_with_f(&rt, alloc)?, var_names(alloc, true)?);
+fn intern_refused(rt: HostRuntime) -> Result<(), Fail> {
+    let meter = Refusing::new(rt.alloc(), 0);
+    let refused = refused_in_turn(MOST, |left| is_interned(&rt, &meter, &meter, left))?;
+    assert!(&rt; refused > 0 && refused < MOST, "{refused}");
+    Ok(())
+}
+
+/// How often the copy of a term is refused.
+fn copies_refused(rt: &impl Abort, alloc: Global, term: &Term) -> Result<u64, Memory> {
+    let meter = Refusing::new(alloc, 0);
+    refused_in_turn(MOST, |left| -> Result<bool, Memory> {
+        Ok(is_copied(rt, &meter, &meter, term, left))
+    })
+}
+
+#[test]
+fn copy_refused(rt: HostRuntime) -> Result<(), Fail> {
+    let term = node(rt.alloc(), Sym(7), [Term::Var(0), Term::Int(1)])?;
+    let refused = copies_refused(&rt, rt.alloc(), &term)?;
+    assert!(&rt; refused > 0 && refused < MOST, "{refused}");
+    Ok(())
+}
+
+/// How often the print of f(X,1) is refused.
+fn prints_refused(
+    rt: &impl Abort,
+    alloc: Global,
+    known: (&Names, &VarNames, &Term),
+) -> Result<u64, Memory> {
+    let meter = Refusing::new(alloc, 0);
+    refused_in_turn(MOST, |left| {
+        is_printed(rt, &meter, &meter, known, ">f(X,1)", left)
+    })
+}
+
+/// The same with a term of its own.
+fn prints_refused_over(rt: &impl Abort, alloc: Global, names: &Names) -> Result<u64, Memory> {
+    let vars = var_names(alloc, true)?;
     let term = node(alloc, Sym(7), [Term::Var(0), Term::Int(1)])?;
-    let copied = refused_in_turn(MOST, |left| -> Result<bool, Memory> {
-        Ok(is_copied(&rt, &meter, &meter, &term, left))
-    })?;
-    assert!(&rt; copied > 0 && copied < MOST, "{copied}");
-    let known = (&names, &vars, &term);
-    let printed = refused_in_turn(MOST, |left| {
-        is_printed(&rt, &meter, &meter, known, ">f(X,1)", left)
-    })?;
-    assert!(&rt; printed > 0 && printed < MOST, "{printed}");
+    prints_refused(rt, alloc, (names, &vars, &term))
+}
+
+#[test]
+fn print_refused(rt: HostRuntime) -> Result<(), Fail> {
+    let names = names_with_f(&rt, rt.alloc())?;
+    let refused = prints_refused_over(&rt, rt.alloc(), &names)?;
+    assert!(&rt; refused > 0 && refused < MOST, "{refused}");
     Ok(())
 }

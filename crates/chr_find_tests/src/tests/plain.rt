@@ -3,55 +3,72 @@ use chr_bind::{Match, are_below, fit, guard_holds};
 use chr_find::Memory;
 use chr_rules::Rule;
 use chr_semantics::limits::MAX_RULE_VARIABLES;
-use chr_store::Row;
-use std::alloc::Allocator;
+use chr_store::{Fired, Id, Row};
+use std::alloc::Global;
 
 /// The constraints that live, by ascending identity.
-pub(crate) type Rows<A> = Vec<(u64, Row<A>), A>;
+pub(super) type Rows = Vec<(Id, Row)>;
 
-/// What has fired: the number of a rule, and identities.
-pub(crate) type Firings<A> = Vec<(u64, Vec<u64, A>), A>;
+/// A rule, its number, and the head that the own constraint stands at.
+#[derive(Clone, Copy)]
+pub(super) struct Sought<'a> {
+    pub rule: &'a Rule,
+    pub number: usize,
+    pub place: usize,
+    pub own: Id,
+}
 
-/// Whether the rule has fired with these identities.
-fn was_fired<A: Allocator>(fired: &Firings<A>, number: u64, ids: &[u64]) -> bool {
-    for (rule, others) in fired {
-        if *rule == number && others.as_slice() == ids {
+/// Whether the rule has fired with these constraints.
+fn was_fired(history: &[Fired], number: usize, ids: &[Id]) -> bool {
+    for fired in history {
+        if fired.rule == number && fired.ids.as_slice() == ids {
             return true;
         }
     }
     false
 }
 
-/// Whether the list of rows, given by their places among the rows, can fire the rule.
-fn can_fire<A: Allocator + Copy>(
-    alloc: A,
-    rows: &Rows<A>,
-    rule: &Rule<A>,
-    number: u64,
-    fired: &Firings<A>,
-    list: &[usize],
+/// Adds a row to those that fit the heads before it, if it is another one than these and fits the next head.
+fn fits_next<'a>(
+    sought: Sought<'_>,
+    (id, row): (Id, &'a Row),
+    ids: &mut Vec<Id>,
+    matching: &mut Match<'a>,
 ) -> Result<bool, Memory> {
+    let (sym, args) = match sought.rule.heads.get(ids.len()) {
+        None => return Ok(false),
+        Some((sym, args)) => (*sym, args.as_slice()),
+    };
+    if ids.contains(&id) || sym != row.sym || !are_below(MAX_RULE_VARIABLES as u64, args) {
+        return Ok(false);
+    }
+    ids.push(id)?;
+    Ok(fit(args, row.args.as_slice(), matching))
+}
+
+/// The identities of the list of rows, given by their places among the rows, if it fits the heads and the guard holds.
+fn fitting(
+    alloc: Global,
+    rows: &[(Id, Row)],
+    sought: Sought<'_>,
+    list: &[usize],
+) -> Result<Option<Vec<Id>>, Memory> {
     let mut matching = Match::new();
     let mut ids = Vec::new(alloc);
-    for level in 0..list.len().min(rule.heads.len()) {
-        let (id, row) = match rows.get(list[level]) {
-            None => return Ok(false),
-            Some((id, row)) => (*id, row),
+    for place in list {
+        let fits = match rows.get(*place) {
+            None => false,
+            Some((id, row)) => fits_next(sought, (*id, row), &mut ids, &mut matching)?,
         };
-        let (sym, args) = &rule.heads[level];
-        let args = args.as_slice();
-        if ids.contains(&id) || *sym != row.sym || !are_below(MAX_RULE_VARIABLES as u64, args) {
-            return Ok(false);
+        if !fits {
+            return Ok(None);
         }
-        if !fit(args, row.args.as_slice(), &mut matching) {
-            return Ok(false);
-        }
-        ids.push(id)?;
     }
-    Ok(
-        guard_holds(alloc, rule.guard.as_slice(), &matching)?
-            && !was_fired(fired, number, ids.as_slice()),
-    )
+    if guard_holds(alloc, sought.rule.guard.as_slice(), &matching)? {
+        Ok(Some(ids))
+    } else {
+        Ok(None)
+    }
 }
 
 /// The next list of places in lexicographic order, or none after the last.
@@ -66,55 +83,39 @@ fn next(list: &mut [usize], count: usize) -> bool {
     false
 }
 
-/// The first list with the own constraint at the place that can fire, as places among the rows.
-pub(crate) fn plain_first<A: Allocator + Copy>(
-    alloc: A,
-    rows: &Rows<A>,
-    rule: &Rule<A>,
-    number: u64,
-    place: usize,
-    own: u64,
-    fired: &Firings<A>,
-) -> Result<Option<Vec<u64, A>>, Memory> {
+/// Whether the own constraint stands at its head.
+fn is_own(sought: Sought<'_>, ids: &[Id]) -> bool {
+    ids.get(sought.place) == Some(&sought.own)
+}
+
+/// A list of the first row for each head.
+fn first_list(alloc: Global, heads: usize) -> Result<Vec<usize>, Memory> {
     let mut list = Vec::new(alloc);
-    for _ in 0..rule.heads.len() {
+    for _ in 0..heads {
         list.push(0)?;
     }
+    Ok(list)
+}
+
+/// The first list of rows with the own constraint at its head that can fire.
+pub(super) fn plain_first(
+    alloc: Global,
+    rows: &[(Id, Row)],
+    history: &[Fired],
+    sought: Sought<'_>,
+) -> Result<Option<Vec<Id>>, Memory> {
+    let mut list = first_list(alloc, sought.rule.heads.len())?;
     for _ in 0..1_000_000u64 {
-        if stands_at(rows, list.as_slice(), place, own)
-            && can_fire(alloc, rows, rule, number, fired, list.as_slice())?
-        {
-            return Ok(Some(ids_at(alloc, rows, list.as_slice())?));
+        if let Some(ids) = fitting(alloc, rows, sought, list.as_slice())? {
+            if is_own(sought, ids.as_slice())
+                && !was_fired(history, sought.number, ids.as_slice())
+            {
+                return Ok(Some(ids));
+            }
         }
         if !next(list.as_mut_slice(), rows.len()) {
             return Ok(None);
         }
     }
     Ok(None)
-}
-
-/// Whether the row for the place is the own one.
-fn stands_at<A: Allocator>(rows: &Rows<A>, list: &[usize], place: usize, own: u64) -> bool {
-    match list.get(place) {
-        None => false,
-        Some(at) => match rows.get(*at) {
-            None => false,
-            Some((id, _)) => *id == own,
-        },
-    }
-}
-
-/// The identities of the rows at these places.
-fn ids_at<A: Allocator + Copy>(
-    alloc: A,
-    rows: &Rows<A>,
-    list: &[usize],
-) -> Result<Vec<u64, A>, Memory> {
-    let mut ids = Vec::new(alloc);
-    for at in list {
-        if let Some((id, _)) = rows.get(*at) {
-            ids.push(*id)?;
-        }
-    }
-    Ok(ids)
 }

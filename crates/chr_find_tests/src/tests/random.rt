@@ -1,9 +1,8 @@
-//! The search of a table against a plain search, on random small stores.
-use super::cursor::{at_the_start, go_on};
-use super::plain::{Firings, Rows, plain_first};
+//! Searches against a plain search, on random small stores.
+use super::plain::{Rows, Sought, plain_first};
 use super::*;
 use chr_rules::Occurrence;
-use chr_term::{are_ground, copy_all};
+use chr_store::Row;
 
 /// Numbers that look random, the same in each run.
 #[derive(Drop)]
@@ -50,10 +49,13 @@ const CONSTRAINTS: [&str; 16] = [
     "r(U,V)",
 ];
 
+/// A query has fewer constraints.
+const MOST: u64 = 8;
+
 /// A query of some of the constraints.
 fn query_text(alloc: Global, dice: &mut Dice) -> Result<String, Memory> {
     let mut text = String::new(alloc);
-    for _ in 0..dice.below(11) {
+    for _ in 0..dice.below(MOST) {
         let place = dice.below(16) as usize;
         if let Some(constraint) = CONSTRAINTS.get(place) {
             text.push_str(constraint)?;
@@ -64,250 +66,216 @@ fn query_text(alloc: Global, dice: &mut Dice) -> Result<String, Memory> {
     Ok(text)
 }
 
-fn row_like<A: Allocator + Copy>(alloc: A, row: &Row<A>) -> Result<Row<A>, Memory> {
-    Ok(Row {
-        sym: row.sym,
-        args: copy_all(alloc, row.args.as_slice())?,
-    })
+/// Adds the constraint of an identity, if it lives, under another identity.
+fn push_row(scene: &Scene<Global>, id: Id, under: Id, rows: &mut Rows) -> Result<(), Memory> {
+    if let Some(row) = scene.store.row(id) {
+        let args = scene.bindings.resolve_all(row.args.as_slice())?;
+        let sym = row.sym;
+        rows.push((under, Row { sym, args }))?;
+    }
+    Ok(())
 }
 
-/// The constraints of a query with the identities from 1 on.
-fn rows_of<A: Allocator + Copy>(alloc: A, query: &Query<A>) -> Result<Rows<A>, Memory> {
+/// The constraints that live, under the bindings.
+fn rows_of(alloc: Global, scene: &Scene<Global>) -> Result<Rows, Memory> {
     let mut rows = Vec::new(alloc);
-    let mut id = 0u64;
-    for goal in &query.goals {
-        if let Goal::Chr(sym, args) = goal {
-            id = id.saturating_add(1);
-            let args = copy_all(alloc, args.as_slice())?;
-            rows.push((id, Row { sym: *sym, args }))?;
-        }
+    for number in 1..scene.store.next().0 {
+        push_row(scene, Id(number), Id(number), &mut rows)?;
     }
     Ok(rows)
 }
 
-/// Notes that a random rule has fired with random ones of the first so many constraints.
-fn fire_some(
-    alloc: Global,
-    dice: &mut Dice,
-    trial: &mut Trial<Global>,
-    count: u64,
-    fired: &mut Firings<Global>,
-) -> Result<(), Memory> {
-    let rules = trial.program.rules();
-    let rule = dice.below(rules as u64);
-    if count == 0 || rule as usize >= rules {
+/// A random rule has fired with random constraints that were added.
+fn fire_some(alloc: Global, dice: &mut Dice, scene: &mut Scene<Global>) -> Result<(), Memory> {
+    let rule = dice.below(2) as usize;
+    if rule >= scene.program.rules() {
         return Ok(());
     }
+    let next = scene.store.next().0;
     let mut ids = Vec::new(alloc);
-    for _ in 0..trial.program.rule(rule as usize).heads.len() {
-        ids.push(dice.below(count).saturating_add(1))?;
+    for _ in 0..scene.program.rule(rule).heads.len() {
+        ids.push(Id(dice.below(next)))?;
     }
-    fire(&mut trial.table, rule, ids.as_slice())?;
-    fired.push((rule, ids))?;
+    scene.history.put(Fired { rule, ids })?;
     Ok(())
 }
 
-/// Binds a random one of the first so many variables to a number or to another of them.
-fn bind_some(dice: &mut Dice, count: u64, bindings: &mut Bindings) -> Result<(), Memory> {
-    let var = dice.below(count);
-    let term = match dice.below(4) {
+/// Binds a random one of the variables to a number or to another of them.
+fn bind_some(dice: &mut Dice, bindings: &mut Bindings) -> Result<(), Memory> {
+    let count = bindings.len();
+    let left = Term::Var(dice.below(count));
+    let right = match dice.below(4) {
         3 => Term::Var(dice.below(count)),
         number => Term::Int(i128::from(number)),
     };
-    bind(bindings, var, term)?;
+    if is_below(count, &left) && is_below(count, &right) {
+        bindings.unify(&left, &right)?;
+    }
     Ok(())
 }
 
-/// The rows under the bindings.
-fn resolved(
-    alloc: Global,
-    rows: &Rows<Global>,
-    bindings: &Bindings,
-) -> Result<Rows<Global>, Memory> {
-    let mut resolved = Vec::new(alloc);
-    for (id, row) in rows {
-        let args = bindings.resolve_all(row.args.as_slice())?;
-        resolved.push((*id, Row { sym: row.sym, args }))?;
+/// Removes a random constraint, if it lives.
+fn remove_some(dice: &mut Dice, store: &mut Store<Global>) {
+    if store.changes() < MAX_CHANGES {
+        store.remove(Id(dice.below(MOST)));
     }
-    Ok(resolved)
 }
 
-/// The identities of the rows that have variables.
-fn open_ids(alloc: Global, rows: &Rows<Global>) -> Result<Vec<u64>, Memory> {
-    let mut ids = Vec::new(alloc);
-    for (id, row) in rows {
-        if !are_ground(row.args.as_slice()) {
-            ids.push(*id)?;
-        }
-    }
-    Ok(ids)
-}
-
-/// Whether the searches of a constraint at an occurrence find the same, one that starts anew and one that goes on. What is found is noted as
-/// fired.
-fn are_same(
-    rt: &impl Abort,
-    alloc: Global,
-    trial: &mut Trial<Global>,
-    rows: &Rows<Global>,
-    fired: &mut Firings<Global>,
-    at: (u64, u32),
-    occurrence: Occurrence,
-) -> Result<bool, Memory> {
-    trial.cursor = at_the_start(100);
-    for _ in 0..2u32 {
-        let wanted = plain_at(rt, alloc, &trial.program, rows, at.0, occurrence, fired)?;
-        let (anew, _) = first(alloc, &mut trial.table, &trial.program, at)?;
-        let (found, _) = go_on(trial, at, 100)?;
-        if anew != wanted || found != wanted {
-            return Ok(false);
-        }
-        match wanted {
-            None => return Ok(true),
-            Some(ids) => fired.push((occurrence.rule as u64, ids))?,
-        }
-    }
-    Ok(true)
-}
-
-/// What a plain search finds for a constraint at an occurrence.
+/// What the plain search finds for a constraint at an occurrence.
 fn plain_at(
     rt: &impl Abort,
     alloc: Global,
-    program: &Program,
-    rows: &Rows<Global>,
-    id: u64,
+    scene: &Scene<Global>,
+    rows: &[(Id, Row)],
+    own: Id,
     occurrence: Occurrence,
-    fired: &Firings<Global>,
-) -> Result<Option<Vec<u64>>, Memory> {
-    assert!(rt; occurrence.rule < program.rules());
-    let rule = program.rule(occurrence.rule);
-    let number = occurrence.rule as u64;
-    plain_first(alloc, rows, rule, number, occurrence.place, id, fired)
+) -> Result<Option<Vec<Id>>, Memory> {
+    assert!(rt; occurrence.rule < scene.program.rules());
+    let sought = Sought {
+        rule: scene.program.rule(occurrence.rule),
+        number: occurrence.rule,
+        place: occurrence.place,
+        own,
+    };
+    plain_first(alloc, rows, scene.history.list(), sought)
 }
 
-/// Whether each search of a constraint finds the same.
+/// Whether a search in a snapshot finds just this.
+fn finds_just(
+    program: &Program,
+    snapshot: &Snapshot,
+    at: (u64, u32),
+    wanted: &Option<Vec<Id>>,
+) -> Result<bool, Memory> {
+    let found = find(program, snapshot, task(at))?;
+    Ok(match (&found.ids, wanted) {
+        (None, None) => true,
+        (Some(ids), Some(wanted)) => ids.as_slice() == wanted.as_slice(),
+        _ => false,
+    })
+}
+
+/// The same in a snapshot of all, with a guest.
+fn finds_just_taken(
+    alloc: Global,
+    scene: &Scene<Global>,
+    at: (u64, u32),
+    guest: Id,
+    wanted: &Option<Vec<Id>>,
+) -> Result<bool, Memory> {
+    let snapshot = taken(alloc, scene, at, guest)?;
+    finds_just(&scene.program, &snapshot, at, wanted)
+}
+
+/// The same in the task's own snapshot.
+fn finds_just_own(
+    alloc: Global,
+    scene: &Scene<Global>,
+    at: (u64, u32),
+    wanted: &Option<Vec<Id>>,
+) -> Result<bool, Memory> {
+    let snapshot = own(alloc, scene, at)?;
+    finds_just(&scene.program, &snapshot, at, wanted)
+}
+
+/// The searches for a constraint, or for the guest, at an occurrence find what the plain one finds.
+fn assert_found(
+    rt: &impl Abort,
+    alloc: Global,
+    scene: &Scene<Global>,
+    guest: Id,
+    rows: &[(Id, Row)],
+    (own, number): (Id, u32),
+    occurrence: Occurrence,
+) -> Result<(), Memory> {
+    let wanted = plain_at(rt, alloc, scene, rows, own, occurrence)?;
+    let at = (own.0, number);
+    assert!(rt; finds_just_taken(alloc, scene, at, guest, &wanted)?);
+    if own != scene.store.next() {
+        assert!(rt; finds_just_own(alloc, scene, at, &wanted)?);
+    }
+    Ok(())
+}
+
+/// At each occurrence of its symbol.
 fn assert_same_at(
     rt: &impl Abort,
     alloc: Global,
-    trial: &mut Trial<Global>,
-    rows: &Rows<Global>,
-    fired: &mut Firings<Global>,
-    case: u64,
-    own: (u64, Sym),
+    scene: &Scene<Global>,
+    guest: Id,
+    rows: &[(Id, Row)],
+    (own, sym): (Id, Sym),
 ) -> Result<(), Memory> {
     for number in 1..8u32 {
-        let occurrence = match trial.program.occurrence(own.1, number) {
+        match scene.program.occurrence(sym, number) {
             None => return Ok(()),
-            Some(occurrence) => occurrence,
-        };
-        let is_same = are_same(rt, alloc, trial, rows, fired, (own.0, number), occurrence)?;
-        assert!(rt; is_same, "case {case}, {} at {number}", own.0);
+            Some(occurrence) => {
+                let at = (own, number);
+                assert_found(rt, alloc, scene, guest, rows, at, occurrence)?;
+            }
+        }
     }
     Ok(())
 }
 
-/// Whether each search of each constraint finds the same.
+/// For the guest, which has the next identity, if there is one.
+fn assert_same_guest(
+    rt: &impl Abort,
+    alloc: Global,
+    scene: &Scene<Global>,
+    guest: Id,
+    rows: &[(Id, Row)],
+) -> Result<(), Memory> {
+    match rows.last() {
+        None => Ok(()),
+        Some((id, row)) => {
+            if *id == scene.store.next() {
+                assert_same_at(rt, alloc, scene, guest, rows, (*id, row.sym))?;
+            }
+            Ok(())
+        }
+    }
+}
+
+/// For each constraint, and for a guest that is as a random one, which no other search sees.
 fn assert_same(
     rt: &impl Abort,
     alloc: Global,
-    trial: &mut Trial<Global>,
-    rows: &Rows<Global>,
-    fired: &mut Firings<Global>,
-    case: u64,
+    dice: &mut Dice,
+    scene: &Scene<Global>,
 ) -> Result<(), Memory> {
-    for (id, row) in rows {
-        assert_same_at(rt, alloc, trial, rows, fired, case, (*id, row.sym))?;
+    let guest = Id(dice.below(MOST));
+    let mut rows = rows_of(alloc, scene)?;
+    for (id, row) in rows.as_slice() {
+        assert_same_at(rt, alloc, scene, guest, rows.as_slice(), (*id, row.sym))?;
     }
-    Ok(())
+    push_row(scene, guest, scene.store.next(), &mut rows)?;
+    assert_same_guest(rt, alloc, scene, guest, rows.as_slice())
 }
 
-/// The rows after a random binding in the table, which names those that have variables still.
-fn bound_rows(
+/// As the store is, with a binding, and after a removal.
+fn assert_scene(
     rt: &impl Abort,
     alloc: Global,
     dice: &mut Dice,
-    trial: &mut Trial<Global>,
-    rows: &Rows<Global>,
-) -> Result<Rows<Global>, Memory> {
-    let count = trial.bindings.len();
-    bind_some(dice, count, &mut trial.bindings)?;
-    let rows = resolved(alloc, rows, &trial.bindings)?;
-    let woken = rebind(alloc, &mut trial.table, &trial.bindings)?;
-    assert!(rt; woken == open_ids(alloc, &rows)?);
-    Ok(rows)
-}
-
-/// Removes a random constraint, and adds one that is the same as another random one.
-fn change_some(
-    alloc: Global,
-    dice: &mut Dice,
-    table: &mut Table,
-    rows: &mut Rows<Global>,
+    scene: &mut Scene<Global>,
 ) -> Result<(), Memory> {
-    let place = dice.below(11) as usize;
-    if place < rows.len() {
-        let (id, _) = rows.remove(place);
-        remove(table, id)?;
-    }
-    let place = dice.below(11) as usize;
-    let (id, row) = match rows.get(place) {
-        None => return Ok(()),
-        Some((id, row)) => (*id, row_like(alloc, row)?),
-    };
-    add_like(table, id, 20)?;
-    rows.push((20, row))?;
-    Ok(())
-}
-
-/// The searches of a store with random firings: as it is, in some cases with a binding, and after a removal and an addition.
-fn assert_store(
-    rt: &impl Abort,
-    alloc: Global,
-    dice: &mut Dice,
-    trial: &mut Trial<Global>,
-    rows: &mut Rows<Global>,
-    case: u64,
-) -> Result<(), Memory> {
-    let mut fired = Vec::new(alloc);
     for _ in 0..dice.below(4) {
-        let count = rows.len() as u64;
-        fire_some(alloc, dice, trial, count, &mut fired)?;
+        fire_some(alloc, dice, scene)?;
     }
-    assert_same(rt, alloc, trial, rows, &mut fired, case)?;
-    if dice.below(2) == 0 {
-        *rows = bound_rows(rt, alloc, dice, trial, rows)?;
-        assert_same(rt, alloc, trial, rows, &mut fired, case)?;
-    }
-    change_some(alloc, dice, &mut trial.table, rows)?;
-    assert_same(rt, alloc, trial, rows, &mut fired, case)
-}
-
-/// The searches of the store of a query.
-fn assert_query(
-    rt: &impl Abort,
-    alloc: Global,
-    dice: &mut Dice,
-    texts: (&str, &str),
-    case: u64,
-) -> Result<(), Fail> {
-    let (program, query) = both_of(alloc, texts.0, texts.1)?;
-    let mut rows = rows_of(alloc, &query)?;
-    let mut trial = Trial::new(alloc, program, query)?;
-    assert_store(rt, alloc, dice, &mut trial, &mut rows, case)?;
-    Ok(())
+    assert_same(rt, alloc, dice, scene)?;
+    bind_some(dice, &mut scene.bindings)?;
+    assert_same(rt, alloc, dice, scene)?;
+    remove_some(dice, &mut scene.store);
+    assert_same(rt, alloc, dice, scene)
 }
 
 /// The searches of a random store.
-fn assert_case(
-    rt: &impl Abort,
-    alloc: Global,
-    dice: &mut Dice,
-    program: &str,
-    case: u64,
-) -> Result<(), Fail> {
+fn assert_case(rt: &impl Abort, alloc: Global, dice: &mut Dice, program: &str) -> Result<(), Fail> {
     let text = query_text(alloc, dice)?;
-    assert_query(rt, alloc, dice, (program, text.as_str()), case)
+    let mut scene = scene_of_texts(rt, alloc, (program, text.as_str()))?;
+    assert_scene(rt, alloc, dice, &mut scene)?;
+    Ok(())
 }
 
 /// Random stores, as a plain search sees them.
@@ -315,9 +283,9 @@ fn assert_case(
 fn as_a_plain_search(rt: HostRuntime) -> Result<(), Fail> {
     let alloc = rt.alloc();
     let mut dice = Dice { state: 1 };
-    for case in 0..4_000u64 {
-        if let Some(program) = PROGRAMS.get(dice.below(6) as usize) {
-            assert_case(&rt, alloc, &mut dice, program, case)?;
+    for _ in 0..40u64 {
+        for program in PROGRAMS {
+            assert_case(&rt, alloc, &mut dice, program)?;
         }
     }
     Ok(())

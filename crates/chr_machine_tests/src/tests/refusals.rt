@@ -149,11 +149,11 @@ fn is_written_over<A: Allocator + Copy>(
     meter: &Meter,
     program: &Program<A>,
     query: Query<A>,
-    example: Worked,
-    left: u64,
+    at: (Worked, u64),
 ) -> Result<bool, Memory>
     requires { IsQueryBounded (query_view query) }
 {
+    let (example, left) = at;
     let mut out = Vec::new(alloc);
     out.push(b'!')?;
     let outcome = outcome_of(alloc, program, query)?;
@@ -195,10 +195,10 @@ fn run_on<A: Allocator + Copy>(
     lists: &Lists<A>,
     meter: &Meter,
     machine: &mut Machine<A>,
-    (example, refused, left): (Worked, Refused, u64),
+    (example, refused, left): (Worked, Option<(u64, Call)>, u64),
 ) -> Result<bool, Memory> {
     let mut made = true;
-    if let Refused::Call(done, call) = refused {
+    if let Some((done, call)) = refused {
         run_alone(machine, done)?;
         made = is_through(rt, lists, meter, machine, (call, left));
     }
@@ -208,6 +208,39 @@ fn run_on<A: Allocator + Copy>(
     assert_eq!(rt; machine.steps(), example.transitions as u64);
     assert_lines(rt, machine, example.text);
     Ok(made)
+}
+
+/// Whether `start` goes through with so many growths. Then the machine runs an example.
+fn is_started_over<A: Allocator + Copy>(
+    rt: &impl Abort,
+    lists: &Lists<A>,
+    meter: &Meter,
+    program: &Program<A>,
+    query: Query<A>,
+    at: (Worked, u64),
+) -> Result<bool, Memory>
+    requires { IsQueryBounded (query_view query) }
+{
+    let (example, left) = at;
+    let again = query.copy()?;
+    let (mut machine, is_started) = started(rt, lists.alloc, meter, program, query, again, left)?;
+    run_on(rt, lists, meter, &mut machine, (example, None, left))?;
+    Ok(is_started)
+}
+
+/// Whether the call after so many transitions goes through with so many growths. Then the machine runs on.
+fn is_called_over<A: Allocator + Copy>(
+    rt: &impl Abort,
+    lists: &Lists<A>,
+    meter: &Meter,
+    program: &Program<A>,
+    query: Query<A>,
+    at: (Worked, Option<(u64, Call)>, u64),
+) -> Result<bool, Memory>
+    requires { IsQueryBounded (query_view query) }
+{
+    let mut machine = start(lists.alloc, program, query)?;
+    run_on(rt, lists, meter, &mut machine, at)
 }
 
 /// Whether that goes through with so many growths, in a run of an example over its program.
@@ -222,18 +255,16 @@ fn is_through_over<A: Allocator + Copy>(
     requires { IsQueryBounded (query_view query) }
 {
     let (example, refused, left) = at;
-    if let Refused::Text = refused {
-        return is_written_over(rt, lists.alloc, meter, program, query, example, left);
+    match refused {
+        Refused::Start => is_started_over(rt, lists, meter, program, query, (example, left)),
+        Refused::Call(done, call) => {
+            let at = (example, Some((done, call)), left);
+            is_called_over(rt, lists, meter, program, query, at)
+        }
+        Refused::Text => {
+            is_written_over(rt, lists.alloc, meter, program, query, (example, left))
+        }
     }
-    let again = query.copy()?;
-    let at_start = if let Refused::Start = refused {
-        left
-    } else {
-        AMPLE
-    };
-    let made = started(rt, lists.alloc, meter, program, query, again, at_start)?;
-    let (mut machine, is_started) = made;
-    Ok(run_on(rt, lists, meter, &mut machine, at)? && is_started)
 }
 
 /// The same for a program of its own.

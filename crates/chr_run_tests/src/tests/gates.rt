@@ -130,8 +130,7 @@ fn used_within<A: Allocator + Copy>(
     count: usize,
 ) -> Result<u64, Fail> {
     let events = &events[..count.min(events.len())];
-    let (_, _, counts) = replay_of(rt, alloc, SPECULATION, events)?;
-    Ok(counts.used)
+    Ok(counts_of(rt, alloc, SPECULATION, events)?.used)
 }
 
 /// The Step of the first own point uses an answer.

@@ -1,25 +1,34 @@
 use Rattle.std.proofs.Common.{◌∙◌, ◌∷◌, ◌++◌, [], ap, arith, sym}
 use Rattle.chr_tokens.specs.TokenView.{placed_views}
-use Rattle.chr_read.specs.Automaton.{declared, limited_room, run}
+use Rattle.chr_read.specs.Automaton.{declared, limited_room, run, symbol}
 use Rattle.chr_read.specs.Parts.{listing}
 use Rattle.chr_read.specs.SyntaxView.{declaration_view, declaration_views}
+use Rattle.chr_read.proofs.Halted.{halts}
 use Rattle.chr_read.proofs.Views.{map_pushed}
 use Rattle.chr_read.proofs.directives.symbols.Goals as goal
 
-pub loop-after-preserved : goal.loop-after-preserved
-loop-after-preserved g c =
-    let front = declaration_views c.loop-after.symbols.items ++ declaration_view c.loop-after.last ∷ [] in
-    let next = declaration_view c.in_ok-next.next in
-    let pushed = ap declaration_views c.in_ok-push.ensures.items ∙ map_pushed declaration_view c.loop-after.symbols.items c.loop-after.last in
+pub returns-in_err-found-clause-reads : goal.returns-in_err-found-clause-reads
+returns-in_err-found-clause-reads g c m l ps =
+    let before = listing m l ps (declaration_views c.loop-symbols.symbols.items) in
+    halts _ _ _ c.from_residual.result c.in_err-found.field-0.0 c.from_residual.ensures.1 (c.loop-symbols.invariant.reads m l ps) (c.in_err-found.ensures.reads before)
+
+pub loop-symbols-preserved : goal.loop-symbols-preserved
+loop-symbols-preserved g c =
+    let before = declaration_views c.loop-symbols.symbols.items in
+    let after = before ++ declaration_view c.in_ok-found.found ∷ [] in
+    let pushed = ap declaration_views c.in_ok-push.ensures.items ∙ map_pushed declaration_view c.loop-symbols.symbols.items c.in_ok-found.found in
     record {
-      reads = λ m l ps. c.loop-after.invariant.reads m l ps
-          ∙ ap (run limited_room (declared (listing m l ps front))) c.in-Some.ensures.first.are
-          ∙ c.in_ok-next.ensures.reads (listing m l ps front)
-          ∙ ap (λ ds. run limited_room (declared (listing m l ps (ds ++ next ∷ []))) (placed_views c.in_ok-next.others.now)) (sym pushed);
-      shorter = omega (arith, c.loop-after.invariant.shorter, c.in-Some.ensures.shorter, c.in_ok-next.ensures.shorter);
+      reads = λ m l ps. c.loop-symbols.invariant.reads m l ps
+          ∙ c.in_ok-found.ensures.reads (listing m l ps before)
+          ∙ ap (run limited_room (declared (listing m l ps after))) c.in-Some.ensures.first.are
+          ∙ ap (λ ds. run limited_room (symbol (listing m l ps ds)) (placed_views c.in-Some.after.now)) (sym pushed);
+      within = omega (arith, c.loop-symbols.invariant.within, c.in-Some.ensures.shorter, c.in_ok-found.ensures.shorter);
     }
 
-pub returns-clause-reads : goal.returns-clause-reads
-returns-clause-reads g c m l ps =
-    let pushed = ap declaration_views c.in_ok-push-2.ensures.items ∙ map_pushed declaration_view c.loop-after.symbols.items c.loop-after.last in
-    c.loop-after.invariant.reads m l ps ∙ ap (λ ds. run limited_room (declared (listing m l ps ds)) (placed_views c.loop-after.rest.now)) (sym pushed)
+pub returns-in-None-clause-reads : goal.returns-in-None-clause-reads
+returns-in-None-clause-reads g c m l ps =
+    let before = declaration_views c.loop-symbols.symbols.items in
+    let pushed = ap declaration_views c.in_ok-push.ensures.items ∙ map_pushed declaration_view c.loop-symbols.symbols.items c.in_ok-found.found in
+    c.loop-symbols.invariant.reads m l ps
+    ∙ c.in_ok-found.ensures.reads (listing m l ps before)
+    ∙ ap (λ ds. run limited_room (declared (listing m l ps ds)) (placed_views c.in_ok-found.end.now)) (sym pushed)

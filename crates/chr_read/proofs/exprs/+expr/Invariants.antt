@@ -1,10 +1,10 @@
-use Rattle.std.proofs.Common.{◌≡◌, ◌+◌, ◌*◌, ◌<◌, List, [], ◌∷◌, Option, None, length}
+use Rattle.std.proofs.Common.{◌≡◌, ◌+◌, ◌*◌, ◌<◌, ◌≤◌, List, [], ◌∷◌, Option, None, length}
 use Rattle.chr_semantics.specs.Tokens.{Additive}
 use Rattle.chr_semantics.specs.Syntax as syntax
 use Rattle.chr_tokens.specs.TokenView.{placed_views}
 use Rattle.chr_read.specs.SyntaxView.{chain, operand_views, view, views}
 use Rattle.chr_read.specs.Automaton.{Prefix, Frame, Container, elements, want, have, no_prefix, run, limited_room}
-use Rattle.chr_read.specs.Reads.{Leaves, NoAdditive, NoMultiplicative}
+use Rattle.chr_read.specs.Reads.{Leaves, NoMultiplicative}
 use Rattle.chr_read.proofs.exprs.+expr.Given as goal
 
 abbrev pub decreases-primary : goal.decreases-primary
@@ -50,13 +50,11 @@ invariant-sum-loop-operator g l = record {
 abbrev pub decreases-sum-loop-operator : goal.decreases-sum-loop-operator
 decreases-sum-loop-operator g l = length l.rest
 
-abbrev pub invariant-elements-loop-after : goal.invariant-elements-loop-after
-invariant-elements-loop-after g l = record {
-  reads : (q : Container) (b : Prefix) (k : List Frame) → Leaves l.room (elements q [] b ∷ k) → run limited_room (want no_prefix (elements q [] b ∷ k)) (placed_views l.fn.text) ≡ run limited_room (have None (view l.last) (elements q (views l.items.items) b ∷ k)) (placed_views l.rest);
-  shorter : length l.rest < length l.fn.text;
-  no_sum : NoAdditive (placed_views l.rest);
-  no_product : NoMultiplicative (placed_views l.rest);
+abbrev pub invariant-elements-loop-items : goal.invariant-elements-loop-items
+invariant-elements-loop-items g l = record {
+  reads : (q : Container) (b : Prefix) (k : List Frame) → Leaves l.room (elements q [] b ∷ k) → run limited_room (want no_prefix (elements q [] b ∷ k)) (placed_views l.fn.text) ≡ run limited_room (want no_prefix (elements q (views l.items.items) b ∷ k)) (placed_views l.rest);
+  within : length l.rest ≤ length l.fn.text;
 }
 
-abbrev pub decreases-elements-loop-after : goal.decreases-elements-loop-after
-decreases-elements-loop-after g l = length l.rest
+abbrev pub decreases-elements-loop-items : goal.decreases-elements-loop-items
+decreases-elements-loop-items g l = length l.rest

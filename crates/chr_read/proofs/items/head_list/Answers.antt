@@ -1,24 +1,33 @@
 use Rattle.std.proofs.Common.{◌∙◌, ◌∷◌, ◌++◌, [], ap, arith, sym}
 use Rattle.chr_tokens.specs.TokenView.{placed_views}
+use Rattle.chr_read.specs.Automaton.{limited_room, run, state_before_item}
 use Rattle.chr_read.specs.Reads.{side_section, items_verdict}
 use Rattle.chr_read.specs.SyntaxView.{head_view, head_views}
+use Rattle.chr_read.proofs.Halted.{halts}
 use Rattle.chr_read.proofs.Views.{map_pushed}
 use Rattle.chr_read.proofs.items.head_list.Goals as goal
 
-pub loop-after-preserved : goal.loop-after-preserved
-loop-after-preserved g c =
-    let front = head_views c.loop-after.heads.items ++ head_view c.loop-after.last ∷ [] in
-    let next = head_view c.in_ok-next.next in
-    let pushed = ap head_views c.in_ok-push.ensures.items ∙ map_pushed head_view c.loop-after.heads.items c.loop-after.last in
+pub returns-in_err-found-clause-reads : goal.returns-in_err-found-clause-reads
+returns-in_err-found-clause-reads g c f ps =
+    halts _ _ _ c.from_residual.result c.in_err-found.field-0.0 c.from_residual.ensures.1 (c.loop-heads.invariant.reads f ps) (c.in_err-found.ensures.reads f (head_views c.loop-heads.heads.items) ps)
+
+pub loop-heads-preserved : goal.loop-heads-preserved
+loop-heads-preserved g c =
+    let before = head_views c.loop-heads.heads.items in
+    let after = before ++ head_view c.in_ok-found.found ∷ [] in
+    let pushed = ap head_views c.in_ok-push.ensures.items ∙ map_pushed head_view c.loop-heads.heads.items c.in_ok-found.found in
     record {
-      reads = λ f ps. c.loop-after.invariant.reads f ps
-          ∙ ap (items_verdict (side_section f front) ps) c.in-Some.ensures.first.are
-          ∙ c.in_ok-next.ensures.reads f front ps
-          ∙ ap (λ hs. items_verdict (side_section f (hs ++ next ∷ [])) ps (placed_views c.in_ok-next.others.now)) (sym pushed);
-      shorter = omega (arith, c.loop-after.invariant.shorter, c.in-Some.ensures.shorter, c.in_ok-next.ensures.shorter);
+      reads = λ f ps. c.loop-heads.invariant.reads f ps
+          ∙ c.in_ok-found.ensures.reads f before ps
+          ∙ ap (items_verdict (side_section f after) ps) c.in-Some.ensures.first.are
+          ∙ ap (λ us. run limited_room (state_before_item (side_section f us) ps) (placed_views c.in-Some.after.now)) (sym pushed);
+      within = omega (arith, c.loop-heads.invariant.within, c.in-Some.ensures.shorter, c.in_ok-found.ensures.shorter);
     }
 
-pub returns-clause-reads : goal.returns-clause-reads
-returns-clause-reads g c f ps =
-    let pushed = ap head_views c.in_ok-push-2.ensures.items ∙ map_pushed head_view c.loop-after.heads.items c.loop-after.last in
-    c.loop-after.invariant.reads f ps ∙ ap (λ hs. items_verdict (side_section f hs) ps (placed_views c.loop-after.rest.now)) (sym pushed)
+pub returns-in-None-clause-reads : goal.returns-in-None-clause-reads
+returns-in-None-clause-reads g c f ps =
+    let before = head_views c.loop-heads.heads.items in
+    let pushed = ap head_views c.in_ok-push.ensures.items ∙ map_pushed head_view c.loop-heads.heads.items c.in_ok-found.found in
+    c.loop-heads.invariant.reads f ps
+    ∙ c.in_ok-found.ensures.reads f before ps
+    ∙ ap (λ us. items_verdict (side_section f us) ps (placed_views c.in_ok-found.end.now)) (sym pushed)

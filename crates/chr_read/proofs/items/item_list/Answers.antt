@@ -1,26 +1,36 @@
 use Rattle.std.proofs.Common.{◌∙◌, ◌∷◌, ◌++◌, [], ap, arith, sym}
 use Rattle.chr_tokens.specs.TokenView.{placed_views}
+use Rattle.chr_read.specs.Automaton.{limited_room, run, state_before_item}
 use Rattle.chr_read.specs.Reads.{slot_section, items_verdict}
 use Rattle.chr_read.specs.SyntaxView.{item_view, item_views}
+use Rattle.chr_read.proofs.Halted.{halts}
 use Rattle.chr_read.proofs.Steps.{slot_closes}
 use Rattle.chr_read.proofs.Views.{map_pushed}
 use Rattle.chr_read.proofs.items.item_list.Goals as goal
 
-pub loop-after-preserved : goal.loop-after-preserved
-loop-after-preserved g c =
-    let front = item_views c.loop-after.items.items ++ item_view c.loop-after.last ∷ [] in
-    let next = item_view c.in_ok-next.next in
-    let pushed = ap item_views c.in_ok-push.ensures.items ∙ map_pushed item_view c.loop-after.items.items c.loop-after.last in
+pub returns-in_err-found-clause-reads : goal.returns-in_err-found-clause-reads
+returns-in_err-found-clause-reads g c f ps =
+    halts _ _ _ c.from_residual.result c.in_err-found.field-0.0 c.from_residual.ensures.1 (c.loop-items.invariant.reads f ps) (c.in_err-found.ensures.reads (slot_section f (item_views c.loop-items.items.items)) ps)
+
+pub loop-items-preserved : goal.loop-items-preserved
+loop-items-preserved g c =
+    let before = item_views c.loop-items.items.items in
+    let after = before ++ item_view c.in_ok-found.found ∷ [] in
+    let pushed = ap item_views c.in_ok-push.ensures.items ∙ map_pushed item_view c.loop-items.items.items c.in_ok-found.found in
     record {
-      reads = λ f ps. c.loop-after.invariant.reads f ps
-          ∙ ap (items_verdict (slot_section f front) ps) c.in-Some.ensures.first.are
-          ∙ c.in_ok-next.ensures.reads (slot_section f front) ps
-          ∙ slot_closes f front ps next (placed_views c.in_ok-next.others.now)
-          ∙ ap (λ is. items_verdict (slot_section f (is ++ next ∷ [])) ps (placed_views c.in_ok-next.others.now)) (sym pushed);
-      shorter = omega (arith, c.loop-after.invariant.shorter, c.in-Some.ensures.shorter, c.in_ok-next.ensures.shorter);
+      reads = λ f ps. c.loop-items.invariant.reads f ps
+          ∙ c.in_ok-found.ensures.reads (slot_section f before) ps
+          ∙ slot_closes f before ps (item_view c.in_ok-found.found) (placed_views c.in_ok-found.end.now)
+          ∙ ap (items_verdict (slot_section f after) ps) c.in-Some.ensures.first.are
+          ∙ ap (λ us. run limited_room (state_before_item (slot_section f us) ps) (placed_views c.in-Some.after.now)) (sym pushed);
+      within = omega (arith, c.loop-items.invariant.within, c.in-Some.ensures.shorter, c.in_ok-found.ensures.shorter);
     }
 
-pub returns-clause-reads : goal.returns-clause-reads
-returns-clause-reads g c f ps =
-    let pushed = ap item_views c.in_ok-push-2.ensures.items ∙ map_pushed item_view c.loop-after.items.items c.loop-after.last in
-    c.loop-after.invariant.reads f ps ∙ ap (λ is. items_verdict (slot_section f is) ps (placed_views c.loop-after.rest.now)) (sym pushed)
+pub returns-in-None-clause-reads : goal.returns-in-None-clause-reads
+returns-in-None-clause-reads g c f ps =
+    let before = item_views c.loop-items.items.items in
+    let pushed = ap item_views c.in_ok-push.ensures.items ∙ map_pushed item_view c.loop-items.items.items c.in_ok-found.found in
+    c.loop-items.invariant.reads f ps
+    ∙ c.in_ok-found.ensures.reads (slot_section f before) ps
+    ∙ slot_closes f before ps (item_view c.in_ok-found.found) (placed_views c.in_ok-found.end.now)
+    ∙ ap (λ us. items_verdict (slot_section f us) ps (placed_views c.in_ok-found.end.now)) (sym pushed)

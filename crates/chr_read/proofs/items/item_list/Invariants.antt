@@ -1,16 +1,16 @@
-use Rattle.std.proofs.Common.{◌≡◌, ◌<◌, [], ◌∷◌, ◌++◌, length}
+use Rattle.std.proofs.Common.{◌≡◌, ◌≤◌, [], length}
 use Rattle.chr_semantics.specs.Syntax.{Program}
 use Rattle.chr_tokens.specs.TokenView.{placed_views}
-use Rattle.chr_read.specs.SyntaxView.{item_view, item_views}
+use Rattle.chr_read.specs.SyntaxView.{item_views}
 use Rattle.chr_read.specs.Automaton.{limited_room, run, state_before_item}
-use Rattle.chr_read.specs.Reads.{Slot, slot_section, items_verdict}
+use Rattle.chr_read.specs.Reads.{Slot, slot_section}
 use Rattle.chr_read.proofs.items.item_list.Given as goal
 
-abbrev pub invariant-loop-after : goal.invariant-loop-after
-invariant-loop-after g l = record {
-  reads : (f : Slot) (ps : Program) → run limited_room (state_before_item (slot_section f []) ps) (placed_views l.fn.text) ≡ items_verdict (slot_section f (item_views l.items.items ++ item_view l.last ∷ [])) ps (placed_views l.rest);
-  shorter : length l.rest < length l.fn.text;
+abbrev pub invariant-loop-items : goal.invariant-loop-items
+invariant-loop-items g l = record {
+  reads : (f : Slot) (ps : Program) → run limited_room (state_before_item (slot_section f []) ps) (placed_views l.fn.text) ≡ run limited_room (state_before_item (slot_section f (item_views l.items.items)) ps) (placed_views l.rest);
+  within : length l.rest ≤ length l.fn.text;
 }
 
-abbrev pub decreases-loop-after : goal.decreases-loop-after
-decreases-loop-after g l = length l.rest
+abbrev pub decreases-loop-items : goal.decreases-loop-items
+decreases-loop-items g l = length l.rest
