@@ -20,8 +20,8 @@ class Case:
 
     def __init__(self, name, given="", words=(), stdout="", stderr="", status=DONE, **more):
         self.name, self.given, self.words = name, as_bytes(given), list(words)
-        # Whether it is a further case of a list.
-        self.is_further = False
+        # Whether it stands in a table, or is a further case of a list.
+        self.is_one_of_many = False
         self.stdout, self.status = as_bytes(stdout), status
         # Bytes, or a pattern of them.
         self.stderr = stderr if isinstance(stderr, re.Pattern) else as_bytes(stderr)
