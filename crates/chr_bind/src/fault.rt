@@ -2,10 +2,11 @@
 ghost use Rattle.std.specs.Prelude.{◌≡◌};
 ghost use Rattle.chr_semantics.specs.Text.{fault_text};
 
-use std::fmt;
+use thiserror::Error;
 
 /// Why a term has no value.
-#[derive(Clone, Copy, PartialEq, Eq, Debug, Drop)]
+#[derive(Clone, Copy, PartialEq, Eq, Debug, Drop, Error)]
+#[error("{}", self.word())]
 pub enum Fault {
     /// It has a variable.
     Unbound,
@@ -32,16 +33,3 @@ impl Fault {
         }
     }
 }
-
-impl fmt::Display for Fault {
-    ghost use Rattle.std.specs.Prelude.{Some};
-    ghost use Rattle.chr_bind.specs.Values.{fault_view};
-
-    ghost output = { λ fault. Some (fault_text (fault_view fault)) };
-
-    fn fmt<W: fmt::Write>(&self, f: &mut fmt::Formatter<W>) -> fmt::Result {
-        f.write_str(self.word())
-    }
-}
-
-impl std::error::Error for Fault {}

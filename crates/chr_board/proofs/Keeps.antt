@@ -6,7 +6,7 @@ use Rattle.std.specs.Prelude.{◌⊎◌, option_map, unwrap_or, is_some}
 use Rattle.std.specs.List.{list_any, position, position_or_len}
 use Rattle.chr_semantics.specs.Desk.{Phase, Serial, count_of, drained, given_up, handed_over, is_out, is_posted, is_waiting, out, posted, waiting, with_phase}
 use Rattle.chr_semantics.specs.declared.limits.TheConstants.{MAX_OFFERED_TASKS}
-use Rattle.chr_board.specs.IsDesk.{IsDesk, is_among, is_owed, seat, tasks_at}
+use Rattle.chr_board.specs.IsDesk.{IsDesk, are_once, is_among, is_owed, seat, tasks_at}
 use Rattle.chr_board.proofs.Phases.{count_of-append, count_of-few, count_of-some, count_of-step, count_of-with_phase, get-append, get-front, get-with_phase, in_phase, length-with_phase, one, seat-with_phase, waiting_not_posted}
 
 pub nothing_offered : (post_room answer_room : ℕ) → IsDesk [] 0 0 [] [] post_room answer_room
@@ -16,6 +16,7 @@ nothing_offered post_room answer_room = record {
   waits_from = λ k s e. absurd (true≢false (ap is_some (sym e)));
   owed_are = refl;
   posts_are = λ k s e. absurd (true≢false (ap is_some (sym e)));
+  posts_once = refl;
   seats_are = refl;
   post_room = omega arith;
   answer_room = omega arith;
@@ -65,6 +66,22 @@ among_last (p ∷ ps) at k e = ap (λ b. (p == k) || b) (among_last ps at k e) �
 among_other : (posts : List ℕ) (at k : ℕ) → (at == k) ≡ false → is_among (posts ++ at ∷ []) k ≡ is_among posts k
 among_other [] at k e = ap (λ b. b || false) e
 among_other (p ∷ ps) at k e = ap (λ b. (p == k) || b) (among_other ps at k e)
+
+-- one more that is not among them
+not_or : (a b : Bool) → (a || b) ≡ false → (a ≡ false) × (b ≡ false)
+not_or true b e = absurd (true≢false e)
+not_or false b e = (refl, e)
+
+not_and : (a b : Bool) → (not a && b) ≡ true → (a ≡ false) × (b ≡ true)
+not_and true b e = absurd (true≢false (sym e))
+not_and false b e = (refl, e)
+
+once_more : (posts : List ℕ) (at : ℕ) → are_once posts ≡ true → is_among posts at ≡ false → are_once (posts ++ at ∷ []) ≡ true
+once_more [] at once new = refl
+once_more (p ∷ ps) at once new =
+    let apart = not_or (p == at) (is_among ps at) new in
+    let both = not_and (is_among ps p) (are_once ps) once in
+    ap₂ (λ a b. not a && b) (among_other ps at p (equal_sym p at false apart.0) ∙ both.0) (once_more ps at both.1 apart.1)
 
 -- ---- tasks that are offered
 
@@ -179,6 +196,7 @@ module _ (ss : List Serial) (next owed : ℕ) (posts : List ℕ) (seats : List (
         waits_from = λ k r e. waits k r (k == next) refl e;
         owed_are = omega (arith, h.owed_are, same, count_of-with_phase is_owed out ss next s found);
         posts_are = λ k r e. are k r (k == next) refl e;
+        posts_once = h.posts_once;
         seats_are = h.seats_are ∙ sym (same_seats out ss next posts);
         post_room = h.post_room;
         answer_room = h.answer_room;
@@ -255,6 +273,7 @@ module _ (ss : List Serial) (next owed : ℕ) (posts : List ℕ) (seats : List (
         waits_from = closes given_up at s found is refl;
         owed_are = omega (arith, h.owed_are, less);
         posts_are = are;
+        posts_once = h.posts_once;
         seats_are = h.seats_are ∙ sym (same_seats given_up ss at posts);
         post_room = omega (arith, h.post_room);
         answer_room = omega (arith, h.answer_room);
@@ -282,6 +301,7 @@ module _ (ss : List Serial) (next owed : ℕ) (posts : List ℕ) (seats : List (
         waits_from = closes posted at s found is refl;
         owed_are = omega (arith, h.owed_are, less);
         posts_are = are;
+        posts_once = once_more posts at h.posts_once (sym (h.posts_are at s found) ∙ out_not_posted s is);
         seats_are = seats_more;
         post_room = omega (arith, h.post_room, some, length-snoc posts at);
         answer_room = omega (arith, h.answer_room, some, length-snoc posts at);
@@ -314,6 +334,7 @@ module _ (ss : List Serial) (next owed : ℕ) (posts : List ℕ) (seats : List (
     waits_from = λ k r e. waits k r (slice_get ss k) refl e;
     owed_are = h.owed_are ∙ sym (owed-handed ss);
     posts_are = λ k r e. none k r (slice_get ss k) refl e;
+    posts_once = refl;
     seats_are = refl;
     post_room = omega (arith, h.post_room);
     answer_room = omega (arith, h.answer_room);
@@ -341,6 +362,7 @@ module _ (ss : List Serial) (next owed : ℕ) (posts : List ℕ) (seats : List (
     waits_from = λ k r e. waits k r (get-append ss (tasks_at place 0 n) k r e);
     owed_are = omega (arith, h.owed_are, count_of-append is_owed ss (tasks_at place 0 n), owed-tasks_at place 0 n);
     posts_are = λ k r e. are k r (get-append ss (tasks_at place 0 n) k r e);
+    posts_once = h.posts_once;
     seats_are = h.seats_are ∙ seats_front seats posts h.seats_are;
     post_room = post_room;
     answer_room = answer_room;

@@ -1,4 +1,5 @@
 pub mod Begun
+pub mod Drained
 pub mod DeskView
 pub mod Errors
 pub mod IsDesk

@@ -4,7 +4,7 @@ use Rattle.chr_semantics.specs.Desk as semantics
 use Rattle.chr_semantics.specs.Desk.{Serial, is_waiting, is_out, is_given_up, is_posted, is_drained}
 use Rattle.chr_shelf.specs.declared.answer.Answer.{Answer}
 use Rattle.chr_shelf.specs.declared.run.Run.{Ghosts}
-use Rattle.chr_shelf.specs.Seat.{place_of}
+use Rattle.chr_shelf.specs.Seat.{index_of, place_of, ticket_of}
 use Rattle.chr_board.specs.declared.row.Phase.{Phase}
 use Rattle.chr_board.specs.declared.row.Phase.TheVariants.{Waiting, Out, GivenUp, Posted, Drained}
 use Rattle.chr_board.specs.declared.row.Row.{Row}
@@ -53,4 +53,4 @@ newest_place ss = option_map (λ s. s.place) (slice_get ss (length ss - 1))
 module _ {J A : Type 0} {G : Ghosts J} where
   -- the place and the index of the task that an answer is of
   abbrev pub seat_of : Answer J A G → ℕ × ℕ
-  seat_of a = (place_of a.ticket, a.index)
+  seat_of a = (place_of (ticket_of a), index_of a)

@@ -1,6 +1,8 @@
 //! A desk that threads share.
-ghost use Rattle.chr_shelf.specs.Seat.{place_of};
-ghost use Rattle.std.specs.Prelude.{◌≡◌};
+ghost use Rattle.std.specs.Prelude.{◌≡◌, IfOk, OnErr};
+ghost use Rattle.chr_shelf.specs.Seat.{index_of, place_of, ticket_of};
+ghost use Rattle.chr_board.specs.RowView.{slip_view};
+ghost use Rattle.chr_board.specs.Drained.{HasMore};
 
 use crate::Memory;
 use crate::desk::Desk;
@@ -54,8 +56,8 @@ impl<J: Run, A: Allocator + Copy> Board<J, A> {
 
     /// `Desk::post`.
     pub fn post(&self, rt: &impl Wait, slip: Slip, answer: Answer<J, A>)
-        requires place { place_of answer.ticket ≡ slip.place }
-        requires index { answer.index ≡ slip.index }
+        requires place { place_of (ticket_of answer) ≡ (slip_view slip).place }
+        requires index { index_of answer ≡ (slip_view slip).index }
     {
         self.desk.lock(rt).post(slip, answer);
     }
@@ -65,8 +67,11 @@ impl<J: Run, A: Allocator + Copy> Board<J, A> {
         self.desk.lock(rt).give_up(slip);
     }
 
-    /// `Desk::drain`. The tasks of the answers may be searched again.
-    pub fn drain(&self, rt: &impl Wait, into: &mut Vec<Answer<J, A>, A>) -> Result<usize, Memory> {
+    /// `Desk::drain`. The tasks of the answers may be searched again. After a refusal the list is as before.
+    pub fn drain(&self, rt: &impl Wait, into: &mut Vec<Answer<J, A>, A>) -> Result<usize, Memory>
+        ensures ok { IfOk result (λ count. HasMore count into.old.items into.new.items) }
+        ensures err { OnErr result (into.new.items ≡ into.old.items) }
+    {
         let before = into.len();
         let count = self.desk.lock(rt).drain(into)?;
         for answer in into.iter().skip(before) {

@@ -2,7 +2,7 @@
 ghost use Rattle.std.proofs.Props.{props};
 ghost use Rattle.std.specs.Prelude.{◌≡◌, ◌≤◌, ◌+◌, ◌++◌, IfErr, IfNone, IfOk, IfSome, None, OnErr, OnOk, Some, length, map, true, vec_capacity, vec_len};
 ghost use Rattle.chr_semantics.specs.Desk.{after_close, after_drain, answers, holds_slip, next_serial, offer_refusal, offered, open_desk, taken, totals, with_post, without_answer};
-ghost use Rattle.chr_shelf.specs.Seat.{place_of};
+ghost use Rattle.chr_shelf.specs.Seat.{index_of, place_of, ticket_of};
 ghost use Rattle.chr_board.specs.RowView.{newest_place, rows_view, seat_of, slip_view, totals_view};
 ghost use Rattle.chr_board.specs.Errors.{refusal_of};
 ghost use Rattle.chr_board.specs.IsDesk.{IsDesk};
@@ -166,8 +166,8 @@ impl<J: Run, A: Allocator + Copy> Desk<J, A> {
 
     /// Takes the answer to a task that was handed out. Nothing changes where the slip is not one of this desk.
     pub fn post(&mut self, slip: Slip, answer: Answer<J, A>)
-        requires place { place_of answer.ticket ≡ slip.place }
-        requires index { answer.index ≡ slip.index }
+        requires place { place_of (ticket_of answer) ≡ (slip_view slip).place }
+        requires index { index_of answer ≡ (slip_view slip).index }
         ensures { desk_view self.new ≡ with_post (desk_view self.old) (slip_view slip) answer }
     {
         let held = self.holds(&slip);

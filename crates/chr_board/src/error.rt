@@ -1,9 +1,9 @@
 //! Why tasks are not taken in.
-use std::error::Error;
-use std::fmt;
+use thiserror::Error;
 
 /// Why tasks are not taken in, the first of these. It is displayed as its name.
-#[derive(Clone, Copy, PartialEq, Eq, Debug, Drop)]
+#[derive(Clone, Copy, PartialEq, Eq, Debug, Drop, Error)]
+#[error("{}", self.word())]
 pub enum BoardError {
     /// The board is closed.
     Closed,
@@ -28,16 +28,3 @@ impl BoardError {
         }
     }
 }
-
-impl fmt::Display for BoardError {
-    ghost use Rattle.std.specs.Prelude.{Some};
-    ghost use Rattle.chr_board.specs.Errors.{board_error_text};
-
-    ghost output = { λ error. Some (board_error_text error) };
-
-    fn fmt<W: fmt::Write>(&self, f: &mut fmt::Formatter<W>) -> fmt::Result {
-        f.write_str(self.word())
-    }
-}
-
-impl Error for BoardError {}

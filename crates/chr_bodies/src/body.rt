@@ -35,10 +35,10 @@ pub fn build_goal<A: Allocator + Copy>(
             *sym,
             build_terms(alloc, rule, matching, next, args.as_slice())?,
         )),
-        Goal::BuiltIn(op, left, right) => {
+        Goal::Told(op, left, right) => {
             let left = build_term(alloc, rule, matching, next, left)?;
             let right = build_term(alloc, rule, matching, next, right)?;
-            Ok(Goal::BuiltIn(*op, left, right))
+            Ok(Goal::Told(*op, left, right))
         }
         Goal::Fail => Ok(Goal::Fail),
     }

@@ -18,6 +18,13 @@ need_plain x done e = cc
 need_plain x failed e = cc
 need_plain x (faulted f) e = cc
 
+-- a run that has not ended goes on
+pub need_some : (x : Option Task) (w : Status) → need_by x w ≢ ended → w ≡ running
+need_some x running h = refl
+need_some x done h = absurd (h refl)
+need_some x failed h = absurd (h refl)
+need_some x (faulted f) h = absurd (h refl)
+
 pub need_ended : (x : Option Task) (w : Status) → need_by x w ≡ ended → w ≢ running
 need_ended None running e = cc
 need_ended (Some u) running e = cc

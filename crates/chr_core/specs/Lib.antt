@@ -7,6 +7,7 @@ pub mod ErrorText
 pub mod ErrorView
 pub mod IsAt
 pub mod KeptView
+pub mod Outcomes
 pub mod Replaying
 pub mod Rooms
 pub mod RoundView

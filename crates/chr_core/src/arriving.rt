@@ -7,7 +7,7 @@ ghost use Rattle.chr_semantics.specs.declared.limits.TheConstants.{KEPT_ROUNDS};
 ghost use Rattle.chr_rounds.specs.Kept.{IsPlaced, at_of, newest, passes};
 ghost use Rattle.chr_rounds.specs.Rounds.{ats, flag_at};
 ghost use Rattle.chr_find.specs.SnapshotView.{task_view};
-ghost use Rattle.chr_shelf.specs.Seat.{place_of, shot_of, shots_in, task_of};
+ghost use Rattle.chr_shelf.specs.Seat.{index_of, place_of, shot_of, shots_in, task_of, ticket_of};
 ghost use Rattle.chr_spots.specs.PlaceView.{number_at};
 
 use crate::Memory;
@@ -104,11 +104,11 @@ impl<'p, J: Run, A: Allocator + Copy> Core<'p, J, A> {
     fn keep(&mut self, round: u32, answer: &Answer<J, A>)
         requires events { vec_len self.old.events < vec_capacity self.old.events }
         requires room { HasRoom self.old.answers (task_of answer.now) }
-        requires kept { took (progress_of self.old) round answer.now.index ≡ kept round }
+        requires kept { took (progress_of self.old) round (index_of answer.now) ≡ kept round }
         requires there { IsPlaced J.rules (start_of self.old) (ats (core_in self.old).rounds) (answered round answer.now) }
         requires right { (answered round answer.now).ids ≡ answer_in J.rules
             (after J.rules (start_of self.old) (at_in (core_in self.old).rounds round)) (task_of answer.now) }
-        ensures events { events_of self.new ≡ events_of self.old ++ arrive round answer.now.index ∷ [] }
+        ensures events { events_of self.new ≡ events_of self.old ++ arrive round (index_of answer.now) ∷ [] }
         ensures places { places_of self.new ≡ places_of self.old }
         ensures run { IsSameRun self.old self.new }
     {
@@ -132,9 +132,9 @@ impl<'p, J: Run, A: Allocator + Copy> Core<'p, J, A> {
         round: u32,
         answer: Answer<J, A>,
     ) -> Result<(), (Answer<J, A>, Memory)>
-        requires shown { slice_get (shots_in self.old.tickets.items) round ≡ Some (shot_of answer.ticket) }
-        requires kept { took (progress_of self.old) round answer.index ≡ kept round }
-        ensures events { OnOk result (events_of self.new ≡ events_of self.old ++ arrive round answer.index ∷ []) }
+        requires shown { slice_get (shots_in self.old.tickets.items) round ≡ Some (shot_of (ticket_of answer)) }
+        requires kept { took (progress_of self.old) round (index_of answer) ≡ kept round }
+        ensures events { OnOk result (events_of self.new ≡ events_of self.old ++ arrive round (index_of answer) ∷ []) }
         ensures places { places_of self.new ≡ places_of self.old }
         ensures run { IsSameRun self.old self.new }
         ensures back { IfErr result (λ refused. refused.0 ≡ answer) }
@@ -173,10 +173,10 @@ impl<'p, J: Run, A: Allocator + Copy> Core<'p, J, A> {
 
     /// Takes an answer of a round, whose ticket shows the snapshot of the round.
     fn take(&mut self, round: u32, answer: Answer<J, A>) -> Result<Took, (Answer<J, A>, Memory)>
-        requires shown { slice_get (shots_in self.old.tickets.items) round ≡ Some (shot_of answer.ticket) }
-        ensures took { IfOk result (λ found. took_view found ≡ took (progress_of self.old) round answer.index) }
+        requires shown { slice_get (shots_in self.old.tickets.items) round ≡ Some (shot_of (ticket_of answer)) }
+        ensures took { IfOk result (λ found. took_view found ≡ took (progress_of self.old) round (index_of answer)) }
         ensures events { IfOk result
-            (λ took. events_of self.new ≡ arrived took answer.index (events_of self.old)) }
+            (λ took. events_of self.new ≡ arrived took (index_of answer) (events_of self.old)) }
         ensures places { places_of self.new ≡ places_of self.old }
         ensures run { IsSameRun self.old self.new }
         ensures back { IfErr result (λ refused. refused.0 ≡ answer) }
@@ -207,11 +207,11 @@ impl<'p, J: Run, A: Allocator + Copy> Core<'p, J, A> {
     ) -> Result<Took, (Answer<J, A>, Memory)>
         requires name { shelf.now ≡ J.shelf }
         ensures took { IfOk result (λ took. took_view took
-            ≡ took_at (progress_of self.old) (places_of self.old) (place_of answer.ticket) answer.index) }
+            ≡ took_at (progress_of self.old) (places_of self.old) (place_of (ticket_of answer)) (index_of answer)) }
         ensures events { IfOk result
-            (λ took. events_of self.new ≡ arrived took answer.index (events_of self.old)) }
+            (λ took. events_of self.new ≡ arrived took (index_of answer) (events_of self.old)) }
         ensures allowed { IfOk result
-            (λ took. AllowsArrival J.rules (start_of self.old) (progress_of self.old) answer.index took) }
+            (λ took. AllowsArrival J.rules (start_of self.old) (progress_of self.old) (index_of answer) took) }
         ensures places { places_of self.new ≡ places_of self.old }
         ensures run { IsSameRun self.old self.new }
         ensures back { IfErr result (λ refused. refused.0 ≡ answer) }

@@ -4,11 +4,11 @@ ghost use Rattle.chr_core.specs.declared.error.CoreError.TheVariants.{Memory as 
 ghost use Rattle.chr_core.specs.declared.error.ReplayError.TheVariants.{Memory as ReplayOutOfMemory};
 
 use std::alloc::AllocError;
-use std::error::Error;
-use std::fmt;
+use thiserror::Error;
 
 /// Why nothing was published, the first of these. It is displayed as its name.
-#[derive(Clone, Copy, PartialEq, Eq, Debug, Drop)]
+#[derive(Clone, Copy, PartialEq, Eq, Debug, Drop, Error)]
+#[error("{}", self.word())]
 pub enum CoreError {
     /// 4,096 rounds stand.
     ShelfFull,
@@ -31,19 +31,6 @@ impl CoreError {
     }
 }
 
-impl fmt::Display for CoreError {
-    ghost use Rattle.std.specs.Prelude.{Some};
-    ghost use Rattle.chr_core.specs.ErrorText.{core_error_text};
-
-    ghost output = { λ error. Some (core_error_text error) };
-
-    fn fmt<W: fmt::Write>(&self, f: &mut fmt::Formatter<W>) -> fmt::Result {
-        f.write_str(self.word())
-    }
-}
-
-impl Error for CoreError {}
-
 impl From<AllocError> for CoreError {
     ghost from_gives = { λ _ e. e ≡ OutOfMemory };
 
@@ -54,17 +41,22 @@ impl From<AllocError> for CoreError {
 
 /// Why a schedule is not replayed: the first event that is refused, by its place, counted from 0; or want of memory. It is displayed as its
 /// place, where it has one, and its name.
-#[derive(Clone, Copy, PartialEq, Eq, Debug, Drop)]
+#[derive(Clone, Copy, PartialEq, Eq, Debug, Drop, Error)]
 pub enum ReplayError {
     /// No round has that number yet.
+    #[error("schedule event {0}: {word}", word = self.word())]
     UnknownRound(u64),
     /// The round has no task with that index.
+    #[error("schedule event {0}: {word}", word = self.word())]
     UnknownTask(u64),
     /// Memory was refused.
+    #[error("{}", self.word())]
     Memory,
     /// It would be the 4,097th round.
+    #[error("schedule event {0}: {word}", word = self.word())]
     TooManyRounds(u64),
     /// It would be the 1,000,001st Step.
+    #[error("schedule event {0}: {word}", word = self.word())]
     TooManySteps(u64),
 }
 
@@ -98,22 +90,6 @@ impl ReplayError {
         }
     }
 }
-
-impl fmt::Display for ReplayError {
-    ghost use Rattle.std.specs.Prelude.{Some};
-    ghost use Rattle.chr_core.specs.ErrorText.{replay_error_text};
-
-    ghost output = { λ error. Some (replay_error_text error) };
-
-    fn fmt<W: fmt::Write>(&self, f: &mut fmt::Formatter<W>) -> fmt::Result {
-        match self.place() {
-            Some(place) => write!(f, "schedule event {place}: {}", self.word()),
-            None => f.write_str(self.word()),
-        }
-    }
-}
-
-impl Error for ReplayError {}
 
 impl From<AllocError> for ReplayError {
     ghost from_gives = { λ _ e. e ≡ ReplayOutOfMemory };

@@ -16,7 +16,7 @@ mod touching;
 
 pub use arriving::Took;
 pub use chr_machine::{Machine, Need, Outcome, Stepped};
-pub use chr_schedule::Event;
+pub use chr_schedule::{Event, ScheduleError, ScheduleErrorKind, print_schedule, read_schedule};
 pub use chr_term::Memory;
 pub use error::{CoreError, ReplayError};
 pub use replaying::replay;

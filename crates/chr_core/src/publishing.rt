@@ -1,5 +1,5 @@
 //! Rounds.
-ghost use Rattle.std.specs.Prelude.{◌≡◌, ◌<◌, ◌≤◌, ◌++◌, ◌∷◌, [], IfErr, IfOk, OnErr, OnOk, length, vec_capacity, vec_len};
+ghost use Rattle.std.specs.Prelude.{◌≡◌, ◌<◌, ◌++◌, ◌∷◌, [], IfErr, IfOk, OnErr, OnOk, length, nat_le, vec_capacity, vec_len};
 ghost use Rattle.chr_semantics.specs.Schedule.{publish, state_of};
 ghost use Rattle.chr_semantics.specs.Snapshot.{snapshot_of};
 ghost use Rattle.chr_semantics.specs.Tasks.{tasks};
@@ -21,7 +21,7 @@ use std::sync::Wait;
 impl<'p, J: Run, A: Allocator + Copy> Core<'p, J, A> {
     ghost use Rattle.chr_core.specs.CoreView.{IsAsBefore, IsSameRun, events_of, machine_in, places_of, progress_of, start_of};
     ghost use Rattle.chr_core.specs.declared.error.CoreError.TheVariants.{Memory as OutOfMemory};
-    ghost use Rattle.chr_core.specs.ErrorView.{IsFull};
+    ghost use Rattle.chr_core.specs.ErrorView.{is_full};
     ghost use Rattle.chr_core.specs.Rooms.{HasRoundRoom};
     ghost use Rattle.chr_core.specs.RoundView.{round_of, round_view};
 
@@ -57,8 +57,9 @@ impl<'p, J: Run, A: Allocator + Copy> Core<'p, J, A> {
         self.events.push_reserved(Event::Publish);
     }
 
-    /// Makes the next round: puts a snapshot of the state on the shelf. It answers the place of that and the number of its tasks. After a
-    /// refusal all is as before, but that room may have been made.
+    /// Makes the next round: puts a snapshot of the state on the shelf. It answers the place of that and the number of its tasks. It answers
+    /// ShelfFull exactly where the rounds are as many as there can be, before it wants memory. After a refusal all is as before, but that
+    /// room may have been made.
     pub fn publish(&mut self, rt: &impl Wait, shelf: &Shelf<A>) -> Result<(usize, u32), CoreError>
         requires name { shelf.now ≡ J.shelf }
         ensures events { OnOk result (events_of self.new ≡ events_of self.old ++ publish ∷ []) }
@@ -68,7 +69,7 @@ impl<'p, J: Run, A: Allocator + Copy> Core<'p, J, A> {
         ensures few { OnOk result (length (progress_of self.old).rounds < MAX_ROUNDS) }
         ensures run { IsSameRun self.old self.new }
         ensures err { OnErr result (IsAsBefore self.old self.new) }
-        ensures full { IfErr result (λ error. IsFull error → MAX_ROUNDS ≤ length (progress_of self.old).rounds) }
+        ensures why { IfErr result (λ error. is_full error ≡ nat_le MAX_ROUNDS (length (progress_of self.old).rounds)) }
     {
         if self.rounds.len() >= MAX_ROUNDS {
             return Err(CoreError::ShelfFull);

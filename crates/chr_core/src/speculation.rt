@@ -2,7 +2,6 @@
 ghost use Rattle.std.specs.Prelude.{◌≡◌, [], IfOk};
 ghost use Rattle.chr_semantics.specs.Bounds.{IsQueryBounded};
 ghost use Rattle.chr_semantics.specs.Calls.{rise_by_calls};
-ghost use Rattle.chr_semantics.specs.Outcome.{outcome_after};
 ghost use Rattle.chr_semantics.specs.Schedule.{counts, state_of};
 ghost use Rattle.chr_semantics.specs.State.{start};
 ghost use Rattle.chr_semantics.specs.Text.{trace};
@@ -15,9 +14,9 @@ ghost use Rattle.chr_shelf.specs.Seat.{places_in, shots_in};
 ghost use Rattle.chr_spots.specs.PlaceView.{number_at};
 ghost use Rattle.chr_machine.specs.MachineView.{machine_view};
 ghost use Rattle.chr_machine.specs.Model.{state_in};
-ghost use Rattle.chr_machine.specs.OutcomeView.{outcome_view};
 ghost use Rattle.chr_core.specs.Cores.{cores};
 ghost use Rattle.chr_core.specs.IsAt.{IsAt};
+ghost use Rattle.chr_core.specs.Outcomes.{IsOutcomeOf};
 ghost use Rattle.chr_core.specs.RoundView.{parts, rounds_view};
 ghost use Rattle.chr_core.specs.Shown.{AreNumbered, AreShown};
 
@@ -128,8 +127,8 @@ impl<'p, J: Run, A: Allocator + Copy> Core<'p, J, A> {
 
     /// What the run has come to, and its events.
     pub fn finish(self) -> (Outcome<A>, Vec<Event, A>)
-        ensures outcome { outcome_view result.0
-            ≡ outcome_after (names_in self.entry) J.rules (query_of self.entry) (progress_of self.entry).steps }
+        ensures outcome { IsOutcomeOf (names_in self.entry) J.rules (query_of self.entry)
+            (progress_of self.entry).steps result.0 }
         ensures events { events_view result.1.items ≡ events_of self.entry }
     {
         (self.machine.finish(), self.events)

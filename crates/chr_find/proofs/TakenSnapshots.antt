@@ -18,10 +18,11 @@ use Rattle.chr_store.specs.StoreView.{store_view}
 use Rattle.chr_store.specs.declared.history.History.{History}
 use Rattle.chr_store.specs.declared.store.Store.{Store}
 use Rattle.chr_store.proofs.SlotRows.{Ascends-rows}
+use Rattle.chr_find.specs.Firings.{fits}
 use Rattle.chr_find.specs.ScopeView.{IsScope, entries_kept, keeps_row, keeps_rule, rows_kept, rows_under}
 use Rattle.chr_find.specs.Shown.{Rises}
 use Rattle.chr_find.specs.SnapshotView.{IsTaken}
-use Rattle.chr_find.specs.TableView.{atom_at}
+use Rattle.chr_find.specs.TableView.{atom_at, fired_at}
 use Rattle.chr_find.specs.Taking.{IsStateOf, IsTakenOf}
 use Rattle.chr_find.specs.declared.scope.Scope.{Scope}
 use Rattle.chr_find.specs.declared.scope.Scope.TheVariants.{Nothing, Rule, Whole}
@@ -51,6 +52,10 @@ module _ {A : Type 0} (st : Store A) (m : Subst) (h : History A) where
     pub taken_free : (i : ℕ) → (store_view st).next_id ≤ i → atom_at t i ≡ None
     taken_free i le = is.atoms i ∙ none_past 1 ((store_view st).next_id) i (rows_kept scope m stored) (kept_ascends scope m 1 ((store_view st).next_id) stored ascending) le
 
+    -- it has the firings that are kept, and no others
+    pub taken_firings : (l : Entries) → l ≡ entries_kept scope stored (entries_view h).list → (r : ℕ) (ids : List ℕ) → fits ids ≡ true → fired_before l r ids ≡ fired_at t r ids
+    taken_firings l entries r ids short = ap (λ (l : Entries). fired_before l r ids) entries ∙ sym (is.fired r ids short)
+
     -- it shows each snapshot of what is kept
     pub taken_is : (n : ℕ) (ts : List Task) (g : Option Atom) (q : snapshots.Snapshot) → q.rows ≡ rows_kept scope m stored → q.history ≡ entries_kept scope stored (entries_view h).list → q.next_id ≡ n → q.tasks ≡ ts → q.guest ≡ g → IsTaken t n ts g q
     taken_is n ts g q same entries next tasks guest = record {
@@ -58,7 +63,7 @@ module _ {A : Type 0} (st : Store A) (m : Subst) (h : History A) where
         rises = subst Rises (sym same) (rises 1 ((store_view st).next_id) (rows_kept scope m stored) (kept_ascends scope m 1 ((store_view st).next_id) stored ascending));
         same = λ i. ap (λ (l : List semantics.Row). atom_of l i) same ∙ sym (is.atoms i);
       };
-      history = λ r ids short alive. ap (λ (l : Entries). fired_before l r ids) entries ∙ sym (is.fired r ids short);
+      history = λ r ids short alive. taken_firings q.history entries r ids short;
       next = next;
       tasks = tasks;
       guest = guest;

@@ -41,3 +41,8 @@ pub record IsTaken {A : Type 0} (t : Table A) (n : ℕ) (ts : List tasks.Task) (
 -- what the snapshot shows
 abbrev pub IsSnapshot : {A : Type 0} → Snapshot A → semantics.Snapshot → Type 0
 IsSnapshot s q = IsTaken s.table s.next.0 (tasks_view s.tasks.items) (option_map row_atom s.guest) q
+
+-- and it keeps no firings but these, as far as rules have heads
+pub record IsCopy {A : Type 0} (s : Snapshot A) (q : semantics.Snapshot) : Type 0 where
+  pub shown : IsSnapshot s q
+  pub firings : (r : ℕ) (ids : List ℕ) → fits ids ≡ true → fired_before q.history r ids ≡ fired_at s.table r ids

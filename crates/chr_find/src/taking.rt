@@ -228,7 +228,7 @@ fn scope_of<'a, A: Allocator>(program: &'a Program<A>, store: &Store<A>, task: T
 }
 
 impl<A: Allocator + Copy> Snapshot<A> {
-    ghost use Rattle.chr_find.specs.SnapshotView.{IsSnapshot};
+    ghost use Rattle.chr_find.specs.SnapshotView.{IsCopy};
 
     /// Of the constraints of a store with bindings applied, and of the entries of a history whose constraints all live. The guest is handed
     /// in as it stands on the stack.
@@ -241,7 +241,7 @@ impl<A: Allocator + Copy> Snapshot<A> {
         guest: Option<(Sym, &[Term<A>])>,
     ) -> Result<Snapshot<A>, Memory>
         ensures { IfOk result (λ taken. (s : State) → IsStateOf store.now bindings.now.subst history.now s →
-            IsSnapshot taken (snapshot_for s (tasks_view tasks.items) (guest_view guest.entry))) }
+            IsCopy taken (snapshot_for s (tasks_view tasks.items) (guest_view guest.entry))) }
     {
         let table = taken(alloc, store, bindings, history, Scope::whole(store))?;
         let guest = resolved_guest(alloc, bindings, guest)?;
@@ -263,7 +263,7 @@ impl<A: Allocator + Copy> Snapshot<A> {
         task: Task,
     ) -> Result<Snapshot<A>, Memory>
         ensures { IfOk result (λ taken. (s : State) → IsStateOf store.now bindings.now.subst history.now s →
-            IsSnapshot taken (snapshot_for_task (rules_of program.now) s (task.goal.0, task.occurrence))) }
+            IsCopy taken (snapshot_for_task (rules_of program.now) s (task.goal.0, task.occurrence))) }
     {
         let mut tasks = Vec::new(alloc);
         tasks.push(task)?;

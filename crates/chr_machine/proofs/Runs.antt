@@ -9,7 +9,7 @@ use Rattle.chr_semantics.specs.Trace.{line}
 use Rattle.chr_semantics.specs.Text.{line_texts, trace}
 use Rattle.std.specs.declared.alloc.AllocError.{AllocError}
 use Rattle.chr_semantics.specs.declared.limits.TheConstants.{MAX_TRANSITIONS}
-use Rattle.chr_machine.specs.MachineView.{Further, Moves, Runs}
+use Rattle.chr_machine.specs.MachineView.{Further, IsDue, Moves, Runs}
 use Rattle.chr_machine.specs.Model.{Model, state_in}
 use Rattle.chr_machine.specs.declared.state.Stepped.TheVariants.{Moved, Ended, Spent}
 
@@ -95,15 +95,15 @@ module _ (n k : ℕ) (a m b : Model) (r : Further k a m) (same : b ≡ m) where
   runs_ended within ended =
       let stands : b.status ≢ running = λ h. ended (sym (ap (λ (x : Model). x.status) same) ∙ h) in
       let all : k ≡ steps a.rules (state_in a) n = steps-all a.rules (state_in a) (state_in m) k n within r.made r.state_is ended in
-      record { further = at_end; stops = (omega (arith, made_is, within), made_is ∙ all, stands); fewer = tt }
+      record { further = at_end; stops = (omega (arith, made_is, within), made_is ∙ all, stands); fewer = tt; due = tt }
 
   pub runs_spent : k < n → m.status ≡ running → MAX_TRANSITIONS ≤ m.steps → Runs (Ok Spent) n a b
   runs_spent less runs all =
       let steps_same = ap (λ (x : Model). x.steps) same in
-      record { further = at_end; stops = (omega (arith, made_is, less), ap (λ (x : Model). x.status) same ∙ runs, omega (arith, steps_same, all)); fewer = tt }
+      record { further = at_end; stops = (omega (arith, made_is, less), ap (λ (x : Model). x.status) same ∙ runs, omega (arith, steps_same, all)); fewer = tt; due = tt }
 
   pub runs_moved : k ≡ n → m.status ≡ running → Runs (Ok Moved) n a b
-  runs_moved all runs = record { further = at_end; stops = (made_is ∙ all, ap (λ (x : Model). x.status) same ∙ runs); fewer = tt }
+  runs_moved all runs = record { further = at_end; stops = (made_is ∙ all, ap (λ (x : Model). x.status) same ∙ runs); fewer = tt; due = tt }
 
-  pub runs_refused : k < n → (e : AllocError) → Runs (Err e) n a b
-  runs_refused less e = record { further = at_end; stops = tt; fewer = omega (arith, made_is, less) }
+  pub runs_refused : k < n → IsDue m → (e : AllocError) → Runs (Err e) n a b
+  runs_refused less due e = record { further = at_end; stops = tt; fewer = omega (arith, made_is, less); due = subst IsDue (sym same) due }

@@ -47,6 +47,16 @@ Steps Moved m n = Moves m n
 Steps Ended m n = (m.status ≢ running) × (n ≡ m)
 Steps Spent m n = (m.status ≡ running) × (MAX_TRANSITIONS ≤ m.steps) × (n ≡ m)
 
+-- a transition is due: the run goes on, and the limit does not stand
+pub record IsDue (m : Model) : Type 0 where
+  pub running_is : m.status ≡ running
+  pub few : m.steps < MAX_TRANSITIONS
+
+-- a step that is refused memory: it was due, and nothing has changed
+pub record IsRefused (m n : Model) : Type 0 where
+  pub due : IsDue m
+  pub same : n ≡ m
+
 -- k transitions further, each made from a running state, with their lines
 pub record Further (k : ℕ) (m n : Model) : Type 0 where
   pub made : step_count m.rules (state_in m) k ≡ k
@@ -65,3 +75,4 @@ pub record Runs (r : Result Stepped AllocError) (n : ℕ) (old new : Model) : Ty
   pub further : Further (new.steps - old.steps) old new
   pub stops : IfOk r (λ stepped. Stops stepped n (new.steps - old.steps) old new)
   pub fewer : OnErr r (new.steps - old.steps < n)
+  pub due : OnErr r (IsDue new)

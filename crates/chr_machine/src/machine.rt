@@ -16,7 +16,7 @@ ghost use Rattle.chr_trace.specs.Texts.{texts};
 ghost use Rattle.chr_resume.specs.ResumingView.{program_in};
 ghost use Rattle.chr_machine.specs.Model.{model_of, state_in};
 ghost use Rattle.chr_machine.specs.NeedView.{Answers, need, need_view, plain, search_of};
-ghost use Rattle.chr_machine.specs.OutcomeView.{ended_in, outcome_view};
+ghost use Rattle.chr_machine.specs.OutcomeView.{outcome_view};
 ghost use Rattle.chr_machine.specs.Proper.{propers};
 ghost use Rattle.chr_machine.specs.Step.{IsCounted, IsProper, IsReady};
 
@@ -43,7 +43,7 @@ pub struct Machine<'p, A: Allocator = Global> {
 }
 
 impl<'p, A: Allocator + Copy> Machine<'p, A> {
-    ghost use Rattle.chr_machine.specs.MachineView.{Runs, Starts, Steps, machine_view};
+    ghost use Rattle.chr_machine.specs.MachineView.{IsRefused, Runs, Starts, Steps, machine_view};
 
     /// The machine before the first transition of the query, which was read for this program.
     pub fn start(
@@ -61,11 +61,11 @@ impl<'p, A: Allocator + Copy> Machine<'p, A> {
     }
 
     /// Makes one transition and appends its line. It answers Ended where the run is not running any more, else Spent where 1,000,000
-    /// transitions were made; these and Memory leave the machine as before.
+    /// transitions were made, and only else can it want memory; these and Memory leave the machine as before.
     pub fn step(&mut self) -> Result<Stepped, Memory>
         ensures ok { IfOk result
             (λ stepped. Steps stepped (machine_view self.old) (machine_view self.new)) }
-        ensures err { OnErr result (machine_view self.new ≡ machine_view self.old) }
+        ensures err { OnErr result (IsRefused (machine_view self.old) (machine_view self.new)) }
     {
         self.execution.step(Answer::Missing)
     }
@@ -76,7 +76,7 @@ impl<'p, A: Allocator + Copy> Machine<'p, A> {
         requires { need (machine_view self.old) ≡ plain }
         ensures ok { IfOk result
             (λ stepped. Steps stepped (machine_view self.old) (machine_view self.new)) }
-        ensures err { OnErr result (machine_view self.new ≡ machine_view self.old) }
+        ensures err { OnErr result (IsRefused (machine_view self.old) (machine_view self.new)) }
     {
         self.step()
     }
@@ -87,7 +87,7 @@ impl<'p, A: Allocator + Copy> Machine<'p, A> {
         requires { Answers (machine_view self.old) (option_map (λ ids. numbers ids.items) found.ids) }
         ensures ok { IfOk result
             (λ stepped. Steps stepped (machine_view self.old) (machine_view self.new)) }
-        ensures err { OnErr result (machine_view self.new ≡ machine_view self.old) }
+        ensures err { OnErr result (IsRefused (machine_view self.old) (machine_view self.new)) }
     {
         match &found.ids {
             None => self.step_answered(None),
@@ -100,7 +100,7 @@ impl<'p, A: Allocator + Copy> Machine<'p, A> {
         requires { Answers (machine_view self.old) (option_map (λ list. numbers list.now) ids) }
         ensures ok { IfOk result
             (λ stepped. Steps stepped (machine_view self.old) (machine_view self.new)) }
-        ensures err { OnErr result (machine_view self.new ≡ machine_view self.old) }
+        ensures err { OnErr result (IsRefused (machine_view self.old) (machine_view self.new)) }
     {
         self.execution.step(Answer::of(ids))
     }
@@ -164,9 +164,10 @@ impl<'p, A: Allocator + Copy> Machine<'p, A> {
 
     /// What the run has come to, with its trace.
     pub fn finish(self) -> Outcome<A>
-        ensures state { ended_in result ≡ state_in (machine_view self.entry) }
         ensures outcome { let m = machine_view self.entry in
             outcome_view result ≡ outcome_of (state_in m) m.steps m.lines m.var_names }
+        ensures store { store_view result.store ≡ (machine_view self.entry).base.store }
+        ensures history { entries_view result.history ≡ (machine_view self.entry).base.entries }
     {
         self.execution.finish()
     }

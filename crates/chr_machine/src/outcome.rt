@@ -3,6 +3,8 @@ ghost use Rattle.std.specs.Prelude.{◌≡◌, ◌++◌, OnErr, OnOk};
 ghost use Rattle.chr_semantics.specs.Outcome.{outcome_of};
 ghost use Rattle.chr_semantics.specs.Text.{lines_text, outcome};
 ghost use Rattle.chr_rules.specs.ProgramView.{names_of, rules_of};
+ghost use Rattle.chr_store.specs.HistoryView.{entries_view};
+ghost use Rattle.chr_store.specs.StoreView.{store_view};
 ghost use Rattle.chr_trace.specs.Texts.{texts};
 ghost use Rattle.chr_machine.specs.Model.{model_of, state_in};
 ghost use Rattle.chr_machine.specs.OutcomeView.{ended_in, outcome_view};
@@ -73,9 +75,10 @@ impl<A: Allocator + Copy> Outcome<A> {
 impl<'p, A: Allocator + Copy> Execution<'p, A> {
     /// What the run has come to.
     pub fn finish(self) -> Outcome<A>
-        ensures state { ended_in result ≡ state_in (model_of self.entry) }
         ensures outcome { let m = model_of self.entry in
             outcome_view result ≡ outcome_of (state_in m) m.steps m.lines m.var_names }
+        ensures store { store_view result.store ≡ (model_of self.entry).base.store }
+        ensures history { entries_view result.history ≡ (model_of self.entry).base.entries }
     {
         let (store, bindings, history) = self.base.into_parts();
         Outcome {

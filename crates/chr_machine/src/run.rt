@@ -8,7 +8,7 @@ ghost use Rattle.chr_rules.specs.RuleView.{goal_view, query_view};
 ghost use Rattle.chr_trace.specs.State.{elem_view, stack_view, status_view};
 ghost use Rattle.chr_resume.specs.ResumingView.{base_in, program_in};
 ghost use Rattle.chr_machine.specs.Answering.{AnswersStep};
-ghost use Rattle.chr_machine.specs.MachineView.{Runs, Starts, Steps};
+ghost use Rattle.chr_machine.specs.MachineView.{IsRefused, Runs, Starts, Steps};
 ghost use Rattle.chr_machine.specs.Model.{model_of, state_in, topped};
 ghost use Rattle.chr_machine.specs.Step.{IsCounted, IsProper, IsReady, IsSameBelow, Kept, Made};
 
@@ -94,21 +94,21 @@ impl<'p, A: Allocator + Copy> Execution<'p, A> {
             Elem::Active(id, number, sym, args) => self.step_active(id, number, sym, args, answer),
             Elem::Goal(goal) => match goal {
                 Goal::Chr(sym, args) => self.activate(sym, args),
-                Goal::BuiltIn(op, left, right) => self.solve(Goal::BuiltIn(op, left, right)),
+                Goal::Told(op, left, right) => self.solve(Goal::Told(op, left, right)),
                 Goal::Fail => self.solve(Goal::Fail),
             },
         }
     }
 
     /// Makes one transition, or answers that the run has ended or that the limit stands. Where it needs a search, it makes one, unless the
-    /// answer is known. Memory leaves everything as before.
+    /// answer is known. Memory, which only a transition that is due can want, leaves everything as before.
     pub fn step(&mut self, answer: Answer) -> Result<Stepped, Memory>
         requires ready { IsReady self.old }
         requires counted { IsCounted (model_of self.old) }
         requires proper { IsProper (rules_of (program_in self.old.base)) (state_in (model_of self.old)) }
         requires answer { AnswersStep (model_of self.old) answer }
         ensures ok { IfOk result (λ stepped. Steps stepped (model_of self.old) (model_of self.new)) }
-        ensures err { OnErr result (model_of self.new ≡ model_of self.old) }
+        ensures err { OnErr result (IsRefused (model_of self.old) (model_of self.new)) }
         ensures ready { IsReady self.new }
         ensures counted { IsCounted (model_of self.new) }
         ensures proper { IsProper (rules_of (program_in self.new.base)) (state_in (model_of self.new)) }

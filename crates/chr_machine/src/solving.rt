@@ -304,7 +304,7 @@ impl<'p, A: Allocator + Copy> Execution<'p, A> {
     {
         match goal {
             Goal::Chr(_, _) => unreachable!(),
-            Goal::BuiltIn(op, left, right) => self.attempt(goal, *op, left, right),
+            Goal::Told(op, left, right) => self.attempt(goal, *op, left, right),
             Goal::Fail => self.fail(goal),
         }
     }

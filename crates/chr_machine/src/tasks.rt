@@ -39,7 +39,7 @@ fn told<A: Allocator>(elem: &Elem<A>) -> Option<(Sym, &[Term<A>])>
     match elem {
         Elem::Goal(goal) => match goal {
             Goal::Chr(sym, args) => Some((*sym, args.as_slice())),
-            Goal::BuiltIn(_, _, _) => None,
+            Goal::Told(_, _, _) => None,
             Goal::Fail => None,
         },
         Elem::Known(_, _, _) | Elem::Active(_, _, _, _) => None,

@@ -3,8 +3,8 @@ use Rattle.std.proofs.Common.{◌≡◌, ◌≢◌, ◌∙◌, ◌+◌, ◌++◌
 use Rattle.std.specs.Prelude.{IfOk, OnOk, length, nat_le}
 use Rattle.chr_semantics.specs.Policy.{is_place, is_place_for}
 use Rattle.chr_semantics.specs.Program.{Query}
-use Rattle.chr_semantics.specs.Schedule.{Event, Progress, is_served, move}
-use Rattle.chr_semantics.specs.State.{Status, done, failed, faulted, running, start}
+use Rattle.chr_semantics.specs.Schedule.{Event, Progress, is_served, move, progress}
+use Rattle.chr_semantics.specs.State.{State, Status, done, failed, faulted, running, start}
 use Rattle.chr_semantics.specs.Step.{after}
 use Rattle.chr_semantics.specs.Tasks.{Task, needed_task, tasks}
 use Rattle.chr_shelf.specs.declared.run.Run.{Ghosts}
@@ -17,10 +17,11 @@ use Rattle.chr_machine.specs.declared.state.Stepped.TheVariants.{Ended, Moved, S
 use Rattle.chr_core.specs.CoreView.{events_of, machine_in, progress_of, query_of, start_of, stepped_events}
 use Rattle.chr_core.specs.declared.speculation.Core.{Core}
 use Rattle.chr_core.proofs.Needs.{need_plain, need_search}
-use Rattle.chr_policy.specs.CoordinatorView.{IsAtRest, events_by, machine_by, query_by}
+use Rattle.chr_policy.specs.CoordinatorView.{IsAtRest, IsFullAt, events_by, machine_by, query_by}
 use Rattle.chr_policy.specs.Standing.{IsReady, Rests}
 use Rattle.chr_policy.specs.declared.coordinator.Coordinator.{Coordinator}
-use Rattle.chr_policy.proofs.Standings.{rests_moved, rests_searched}
+use Rattle.chr_policy.proofs.Stages.{rounds_more}
+use Rattle.chr_policy.proofs.Standings.{at_rounds, rests_moved, rests_searched}
 
 module _ {J A : Type 0} {G : Ghosts J} (c : Core J A G) where
   pub steps_are : (machine_in c).steps ≡ (progress_of c).steps
@@ -61,11 +62,19 @@ module _ {J A : Type 0} {G : Ghosts J} (c d : Core J A G) (workers skipped : ℕ
   below : (progress_of c).steps < MAX_TRANSITIONS
   below = let s = steps_are c in omega (arith, s, few)
 
-  rested : (goes : (machine_in c).status ≡ running) → Rests G.rules (start_of c) workers skipped (events_of c ++ move ∷ []) → Rests G.rules (start_of d) workers skipped (events_of d)
-  rested goes r =
+  -- what holds of the schedule with one Step more holds of the next one
+  moved_on : (P : State → List Event → Type 0) → (machine_in c).status ≡ running → P (start_of c) (events_of c ++ move ∷ []) → P (start_of d) (events_of d)
+  moved_on P goes h =
       let moved = (moves_of stepped (machine_in c) (machine_in d) goes few made).1 in
       let its : events_of c ++ move ∷ [] ≡ events_of d = sym (events ∙ ap (λ (w : Stepped). stepped_events w (events_of c)) moved) in
-      subst (λ (es : List Event). Rests G.rules (start_of d) workers skipped es) its (subst (λ (r : Query). Rests G.rules (start r) workers skipped (events_of c ++ move ∷ [])) (sym same) r)
+      subst (P (start_of d)) its (subst (λ (r : Query). P (start r) (events_of c ++ move ∷ [])) (sym same) h)
+
+  rested : (machine_in c).status ≡ running → Rests G.rules (start_of c) workers skipped (events_of c ++ move ∷ []) → Rests G.rules (start_of d) workers skipped (events_of d)
+  rested goes r = moved_on (λ q es. Rests G.rules q workers skipped es) goes r
+
+  -- a progress whose rounds are there after the Step
+  has_rounds : (at : Progress) → (machine_in c).status ≡ running → length at.rounds ≤ length (progress G.rules (start_of c) (events_of c ++ move ∷ [])).rounds → length at.rounds ≤ length (progress_of d).rounds
+  has_rounds at goes h = moved_on (λ q es. length at.rounds ≤ length (progress G.rules q es).rounds) goes h
 
   more_steps : (goes : (machine_in c).status ≡ running) → (machine_in d).steps ≡ (machine_in c).steps + 1
   more_steps goes = (moves_of stepped (machine_in c) (machine_in d) goes few made).0.steps_are
@@ -78,6 +87,9 @@ module _ {J A : Type 0} {G : Ghosts J} (c d : Core J A G) (workers skipped : ℕ
     pub searched_steps : (machine_in d).steps ≡ (machine_in c).steps + 1
     searched_steps = more_steps goes
 
+    pub searched_rounds : (at : Progress) → IsReady G.rules (start_of c) workers skipped at (events_of c) → length at.rounds ≤ length (progress_of d).rounds
+    searched_rounds at ready = has_rounds at goes (at_rounds G.rules (start_of c) (events_of c) at ready.published ready.missed ready.keeps)
+
     pub searched_rests : (at : Progress) → IsReady G.rules (start_of c) workers skipped at (events_of c) → Rests G.rules (start_of d) workers skipped (events_of d)
     searched_rests at ready = rested goes (rests_searched G.rules (start_of c) (events_of c) workers skipped at t ready (needed_is c t needs) below)
 
@@ -89,30 +101,35 @@ module _ {J A : Type 0} {G : Ghosts J} (c d : Core J A G) (workers skipped : ℕ
     pub plain_steps : (machine_in d).steps ≡ (machine_in c).steps + 1
     plain_steps = more_steps parts.1
 
+    pub plain_rounds : length (progress_of c).rounds ≤ length (progress_of d).rounds
+    plain_rounds = has_rounds (progress_of c) parts.1 (rounds_more G.rules (start_of c) (events_of c) move)
+
     pub plain_rests : Rests G.rules (start_of c) workers skipped (events_of c) → Rests G.rules (start_of d) workers skipped (events_of d)
     plain_rests rests = rested parts.1 (rests_moved G.rules (start_of c) (events_of c) workers skipped rests (needed_are c ∙ parts.0) below)
 
 -- so a coordinator is at rest again
 module _ {J A : Type 0} {G : Ghosts J} {E : Type 0} (c : Core J A G) (k : Coordinator J A G) (few : (machine_in c).steps < MAX_TRANSITIONS) (o : Result Stepped E)
     (same : query_by k ≡ query_of c) where
-  pub at_rest_searched : (t : Task) → need (machine_in c) ≡ search_of t → (at : Progress) → IsReady G.rules (start_of c) k.workers k.skipped at (events_of c) → k.skipped ≤ (machine_in c).steps + 1
+  pub at_rest_searched : (t : Task) → need (machine_in c) ≡ search_of t → (at : Progress) → IsReady G.rules (start_of c) k.workers k.skipped at (events_of c) → k.skipped ≤ (machine_in c).steps + 1 → IsFullAt at k
       → IfOk o (λ w. Steps w (machine_in c) (machine_by k)) → IfOk o (λ w. events_by k ≡ stepped_events w (events_of c)) → OnOk o (IsAtRest k)
-  at_rest_searched t needs at ready more made events = by o made events
+  at_rest_searched t needs at ready more full made events = by o made events
     where
       by : (o : Result Stepped E) → IfOk o (λ w. Steps w (machine_in c) (machine_by k)) → IfOk o (λ w. events_by k ≡ stepped_events w (events_of c)) → OnOk o (IsAtRest k)
       by (Err e) made events = tt
       by (Ok w) made events = record {
         rests = searched_rests c k.core k.workers k.skipped few w made events same t needs at ready;
         few = (let s = searched_steps c k.core k.workers k.skipped few w made events same t needs in omega (arith, s, more));
+        full = λ is. (let all = full is in let h = searched_rounds c k.core k.workers k.skipped few w made events same t needs at ready in omega (arith, all, h));
       }
 
-  pub at_rest_plain : need (machine_in c) ≡ plain → Rests G.rules (start_of c) k.workers k.skipped (events_of c) → k.skipped ≤ (machine_in c).steps
+  pub at_rest_plain : need (machine_in c) ≡ plain → Rests G.rules (start_of c) k.workers k.skipped (events_of c) → k.skipped ≤ (machine_in c).steps → IsFullAt (progress_of c) k
       → IfOk o (λ w. Steps w (machine_in c) (machine_by k)) → IfOk o (λ w. events_by k ≡ stepped_events w (events_of c)) → OnOk o (IsAtRest k)
-  at_rest_plain needs rests more made events = by o made events
+  at_rest_plain needs rests more full made events = by o made events
     where
       by : (o : Result Stepped E) → IfOk o (λ w. Steps w (machine_in c) (machine_by k)) → IfOk o (λ w. events_by k ≡ stepped_events w (events_of c)) → OnOk o (IsAtRest k)
       by (Err e) made events = tt
       by (Ok w) made events = record {
         rests = plain_rests c k.core k.workers k.skipped few w made events same needs rests;
         few = (let s = plain_steps c k.core k.workers k.skipped few w made events same needs in omega (arith, s, more));
+        full = λ is. (let all = full is in let h = plain_rounds c k.core k.workers k.skipped few w made events same needs in omega (arith, all, h));
       }

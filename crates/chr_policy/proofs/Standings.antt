@@ -13,7 +13,7 @@ use Rattle.chr_core.specs.CoreView.{AllowsArrival, IsThere, arrived}
 use Rattle.chr_core.specs.declared.arriving.Took.{Took}
 use Rattle.chr_core.specs.declared.arriving.Took.TheVariants.{Double, Kept, Late, Stranger}
 use Rattle.chr_policy.specs.Standing.{IsReady, Keeps, Rests, stage_of}
-use Rattle.chr_policy.proofs.Stages.{allowed_more, alone_more, follow_more, keeps_all, missed_more, now_is, stage_more}
+use Rattle.chr_policy.proofs.Stages.{allowed_more, alone_more, follow_more, keeps_all, missed_more, now_is, rounds_more, stage_more, stepped_rounds}
 
 -- before the first event
 pub rests_at_start : (p : Program) (q : State) (workers : ℕ) → Rests p q workers 0 []
@@ -21,8 +21,9 @@ rests_at_start p q workers = record {
   missed = 0;
   keeps = record { allowed = refl; follow = refl; stepped_is = refl; published_is = refl; missed_are = refl };
   none_arrived = refl;
-  alone = λ _. refl;
+  alone = λ _. (refl, refl);
   few = λ _. omega arith;
+  all = λ _ few. refl;
 }
 
 module _ (p : Program) (q : State) (es : List Event) where
@@ -78,6 +79,14 @@ module _ (p : Program) (q : State) (es : List Event) where
   moved_none : (stage_of p q (es ++ move ∷ [])).arrived ≡ false
   moved_none = ap (λ (g : Stage). g.arrived) (stage_more p q es move)
 
+  -- the rounds at the last Step are there after the next one
+  pub at_rounds : (at : Progress) (b : Bool) (missed : ℕ) → Keeps p q es at b missed → length at.rounds ≤ length (progress p q (es ++ move ∷ [])).rounds
+  at_rounds at b missed k =
+      let same = ap (λ (g : Progress). length g.rounds) k.stepped_is in
+      let now = stepped_rounds p q es in
+      let later = rounds_more p q es move in
+      omega (arith, same, now, later)
+
   -- a Step that needs a search
   pub rests_searched : (workers skipped : ℕ) (at : Progress) (t : Task) → IsReady p q workers skipped at es → needed_task p (after p q (progress p q es).steps) ≡ Some t → (progress p q es).steps < MAX_TRANSITIONS
       → Rests p q workers skipped (es ++ move ∷ [])
@@ -87,8 +96,9 @@ module _ (p : Program) (q : State) (es : List Event) where
         (ap (λ (g : Progress). not (stage_of p q es).arrived || is_some (needed_task p (after p q g.steps))) (now_is p q es)
         ∙ (ap (λ (o : Option Task). not (stage_of p q es).arrived || is_some o) needed ∙ last (not (stage_of p q es).arrived)));
     none_arrived = moved_none;
-    alone = λ none. alone_more es (r.alone none);
+    alone = λ none. (alone_more es (r.alone none).0, (r.alone none).1);
     few = r.few;
+    all = λ some fewer. r.all some (let h = at_rounds at r.published r.missed r.keeps in omega (arith, h, fewer));
   }
     where
       last : (b : Bool) → (b || true) ≡ true
@@ -102,16 +112,22 @@ module _ (p : Program) (q : State) (es : List Event) where
     missed = r.missed + cond (not false && is_place p q (progress p q es)) 1 0;
     keeps = keeps_moved (progress p q es) false r.missed r.keeps few (ap (λ (b : Bool). not b || is_some (needed_task p (after p q (stage_of p q es).now.steps))) r.none_arrived);
     none_arrived = moved_none;
-    alone = λ none. alone_more es (r.alone none);
-    few = λ some. (let h = r.few some in let none : ◌≡◌ {A = ℕ} (cond (is_place_for p q (progress p q es) (needed_task p (after p q (progress p q es).steps))) 1 0) 0 = ap (λ (o : Option Task). cond (is_place_for p q (progress p q es) o) 1 0) needed in omega (arith, h, none));
+    alone = λ none. (alone_more es (r.alone none).0, (r.alone none).1);
+    few = λ some. (let h = r.few some in omega (arith, h, no_place));
+    all = λ some fewer. (let more = rounds_more p q es move in let h = r.all some (omega (arith, more, fewer)) in omega (arith, h, no_place));
   }
+    where
+      no_place : ◌≡◌ {A = ℕ} (cond (is_place_for p q (progress p q es) (needed_task p (after p q (progress p q es).steps))) 1 0) 0
+      no_place = ap (λ (o : Option Task). cond (is_place_for p q (progress p q es) o) 1 0) needed
 
   -- the policy of a run that rests
-  pub policy_of : (workers skipped : ℕ) → Rests p q workers skipped es → IsPolicy p q workers skipped es
-  policy_of workers skipped r = record {
+  pub policy_of : (workers skipped : ℕ) → Rests p q workers skipped es → skipped ≤ (progress p q es).steps → IsPolicy p q workers skipped es
+  policy_of workers skipped r few = record {
     alone = r.alone;
-    keeps = keeps_all p q es r.keeps.follow r.none_arrived;
+    keeps = keeps_all p q es r.keeps.follow r.keeps.published_is r.none_arrived;
     missed = λ some. (let h = r.few some in let m = r.keeps.missed_are in omega (arith, h, m));
+    all_missed = λ some fewer. r.all some fewer ∙ sym r.keeps.missed_are;
+    few = few;
   }
 
   -- with workers: where a call was refused, it is counted
@@ -120,14 +136,23 @@ module _ (p : Program) (q : State) (es : List Event) where
     one_at_most true = omega arith
     one_at_most false = omega arith
 
-    pub ready_counted : IsReady p q workers (skipped + 1) (progress p q es) es
-    ready_counted = record {
+    counted : (length (progress p q es).rounds < MAX_ROUNDS → is_place p q (progress p q es) ≡ true) → IsReady p q workers (skipped + 1) (progress p q es) es
+    counted place = record {
       missed = r.missed;
       published = false;
       keeps = r.keeps;
-      alone = r.alone;
+      alone = λ k. absurd (omega (arith, some, k));
       few = λ k. (let h = r.few k in let one = one_at_most (is_place p q (progress p q es)) in omega (arith, h, one));
+      all = λ k fewer. (let h = r.all k fewer in let one : ◌≡◌ {A = ℕ} (cond (is_place p q (progress p q es)) 1 0) 1 = ap (λ (b : Bool). cond b 1 0) (place fewer) in omega (arith, h, one));
     }
+
+    -- at a place
+    pub ready_counted : is_place p q (progress p q es) ≡ true → IsReady p q workers (skipped + 1) (progress p q es) es
+    ready_counted place = counted (λ fewer. place)
+
+    -- after the last round
+    pub ready_full : MAX_ROUNDS ≤ length (progress p q es).rounds → IsReady p q workers (skipped + 1) (progress p q es) es
+    ready_full full = counted (λ fewer. absurd (omega (arith, full, fewer)))
 
     -- where there is no place, nothing is missed
     pub ready_passed : is_place p q (progress p q es) ≡ false → IsReady p q workers skipped (progress p q es) es
@@ -136,8 +161,12 @@ module _ (p : Program) (q : State) (es : List Event) where
       published = false;
       keeps = r.keeps;
       alone = r.alone;
-      few = λ k. (let h = r.few k in let zero : ◌≡◌ {A = ℕ} (cond (is_place p q (progress p q es)) 1 0) 0 = ap (λ (b : Bool). cond b 1 0) none in omega (arith, h, zero));
+      few = λ k. (let h = r.few k in omega (arith, h, zero));
+      all = λ k fewer. (let h = r.all k fewer in omega (arith, h, zero));
     }
+      where
+        zero : ◌≡◌ {A = ℕ} (cond (is_place p q (progress p q es)) 1 0) 0
+        zero = ap (λ (b : Bool). cond b 1 0) none
 
     -- and where there is one, a Publish fills it
     pub ready_published : is_place p q (progress p q es) ≡ true → length (progress p q es).rounds < MAX_ROUNDS → IsReady p q workers skipped (progress p q es) (es ++ publish ∷ [])
@@ -147,16 +176,17 @@ module _ (p : Program) (q : State) (es : List Event) where
       keeps = keeps_published r.missed r.keeps r.none_arrived place few;
       alone = λ k. absurd (omega (arith, some, k));
       few = λ k. (let h = r.few k in omega (arith, h));
+      all = λ k fewer. (let h = r.all k fewer in omega (arith, h));
     }
 
   -- what keeps the policy goes on to be ready
   pub ready_kept : (workers skipped : ℕ) (at : Progress) (fs : List Event) → 0 < workers → IsReady p q workers skipped at es
       → ((at : Progress) (b : Bool) (missed : ℕ) → Keeps p q es at b missed → Keeps p q fs at b missed) → IsReady p q workers skipped at fs
-  ready_kept workers skipped at fs some r kept = record { missed = r.missed; published = r.published; keeps = kept at r.published r.missed r.keeps; alone = λ k. absurd (omega (arith, some, k)); few = r.few }
+  ready_kept workers skipped at fs some r kept = record { missed = r.missed; published = r.published; keeps = kept at r.published r.missed r.keeps; alone = λ k. absurd (omega (arith, some, k)); few = r.few; all = r.all }
 
   -- with no worker nothing comes before a Step
   pub ready_alone : (skipped : ℕ) → Rests p q 0 skipped es → IsReady p q 0 skipped (progress p q es) es
-  ready_alone skipped r = record { missed = r.missed; published = false; keeps = r.keeps; alone = r.alone; few = λ some. absurd (some refl) }
+  ready_alone skipped r = record { missed = r.missed; published = false; keeps = r.keeps; alone = r.alone; few = λ some. absurd (some refl); all = λ some fewer. absurd (some refl) }
 
 -- after answers were taken, whose query is the same
 pub ready_later : (p : Program) (r s : Query) (workers skipped : ℕ) (at : Progress) (es fs : List Event) → 0 < workers → s ≡ r → IsReady p (start r) workers skipped at es

@@ -1,10 +1,11 @@
 -- Where a run stands by the events so far.
-use Rattle.std.specs.Prelude.{◌≡◌, ◌≤◌, ℕ, ◌+◌, Bool, true, false, cond, not, ◌&&◌, List, [], ◌∷◌, Option, Some, None, is_some}
+use Rattle.std.specs.Prelude.{◌≡◌, ◌≤◌, ◌<◌, ℕ, ◌+◌, Bool, true, false, cond, not, ◌&&◌, List, [], ◌∷◌, Option, Some, None, is_some, length}
 use Rattle.std.specs.List.{fold}
 use Rattle.chr_semantics.specs.Policy.{Stage, first_stage, has_steps_alone, is_place, may_follow, missed_places, with_event}
 use Rattle.chr_semantics.specs.Program.{Program}
 use Rattle.chr_semantics.specs.Schedule.{Event, Progress, first_refusal, no_progress, progress}
 use Rattle.chr_semantics.specs.State.{State}
+use Rattle.chr_semantics.specs.declared.limits.TheConstants.{MAX_ROUNDS}
 
 -- how far the policy has come
 abbrev pub stage_from : Program → State → Stage → List Event → Stage
@@ -27,18 +28,21 @@ pub record Keeps (p : Program) (q : State) (es : List Event) (stepped : Progress
   pub published_is : (stage_of p q es).published ≡ published
   pub missed_are : missed_places p q first_stage es ≡ missed
 
--- A run with so many workers, of which so many calls were refused, right after a Step, or at the start.
+-- A run with so many workers, of which so many calls were refused, right after a Step, or at the start. Below the last round the refused
+-- calls are the missed places; with no worker there are none.
 pub record Rests (p : Program) (q : State) (workers skipped : ℕ) (es : List Event) : Type 0 where
   pub missed : ℕ
   pub keeps : Keeps p q es (progress p q es) false missed
   pub none_arrived : (stage_of p q es).arrived ≡ false
-  pub alone : workers ≡ 0 → has_steps_alone es ≡ true
+  pub alone : workers ≡ 0 → (has_steps_alone es ≡ true) × (skipped ≡ 0)
   pub few : (workers ≡ 0 → ⊥) → missed ≤ skipped
+  pub all : (workers ≡ 0 → ⊥) → length (progress p q es).rounds < MAX_ROUNDS → skipped ≡ missed
 
 -- The same right before the next Step, after what comes between: where that misses a place too, it is counted.
 pub record IsReady (p : Program) (q : State) (workers skipped : ℕ) (stepped : Progress) (es : List Event) : Type 0 where
   pub missed : ℕ
   pub published : Bool
   pub keeps : Keeps p q es stepped published missed
-  pub alone : workers ≡ 0 → has_steps_alone es ≡ true
+  pub alone : workers ≡ 0 → (has_steps_alone es ≡ true) × (skipped ≡ 0)
   pub few : (workers ≡ 0 → ⊥) → missed + cond (not published && is_place p q stepped) 1 0 ≤ skipped
+  pub all : (workers ≡ 0 → ⊥) → length stepped.rounds < MAX_ROUNDS → skipped ≡ missed + cond (not published && is_place p q stepped) 1 0

@@ -46,7 +46,7 @@ pub struct Coordinator<'p, J: Run, A: Allocator = Global> {
 }
 
 impl<'p, J: Run, A: Allocator + Copy> Coordinator<'p, J, A> {
-    ghost use Rattle.chr_policy.specs.CoordinatorView.{IsAtRest, IsMade, IsSame, events_by, machine_by, names_by, query_by};
+    ghost use Rattle.chr_policy.specs.CoordinatorView.{IsAtRest, IsFullAt, IsMade, IsSame, events_by, machine_by, names_by, query_by, skipped_by, workers_by};
     ghost use Rattle.chr_policy.specs.Standing.{IsReady};
 
     /// The coordinator of a query that was read for this program, at its start.
@@ -62,7 +62,7 @@ impl<'p, J: Run, A: Allocator + Copy> Coordinator<'p, J, A> {
         ensures events { IfOk result (λ made. events_by made ≡ []) }
         ensures query { IfOk result (λ made. query_by made ≡ query_view query) }
         ensures names { IfOk result (λ made. names_by made ≡ names_of program.now) }
-        ensures workers { IfOk result (λ made. made.workers ≡ workers) }
+        ensures workers { IfOk result (λ made. workers_by made ≡ workers) }
     {
         let core = Core::new(alloc, program, query)?;
         Ok(Coordinator {
@@ -93,10 +93,11 @@ impl<'p, J: Run, A: Allocator + Copy> Coordinator<'p, J, A> {
         requires rests { IsAtRest self.old }
         requires task { need (machine_by self.old) ≡ search_of (task_view task) }
         requires few { (machine_by self.old).steps < MAX_TRANSITIONS }
-        requires workers { 0 < self.old.workers }
-        ensures ready { IsReady J.rules (start (query_by self.old)) self.old.workers self.new.skipped
+        requires workers { 0 < workers_by self.old }
+        ensures ready { IsReady J.rules (start (query_by self.old)) (workers_by self.old) (skipped_by self.new)
             (progress J.rules (start (query_by self.old)) (events_by self.old)) (events_by self.new) }
-        ensures few { self.new.skipped ≤ (machine_by self.old).steps + 1 }
+        ensures few { skipped_by self.new ≤ (machine_by self.old).steps + 1 }
+        ensures full { IsFullAt (progress J.rules (start (query_by self.old)) (events_by self.old)) self.new }
         ensures same { IsSame self.old self.new }
     {
         if self.is_full {
@@ -128,9 +129,10 @@ impl<'p, J: Run, A: Allocator + Copy> Coordinator<'p, J, A> {
         requires rests { IsAtRest self.old }
         requires task { need (machine_by self.old) ≡ search_of (task_view task) }
         requires few { (machine_by self.old).steps < MAX_TRANSITIONS }
-        ensures ready { OnOk result (IsReady J.rules (start (query_by self.old)) self.old.workers self.new.skipped
+        ensures ready { OnOk result (IsReady J.rules (start (query_by self.old)) (workers_by self.old) (skipped_by self.new)
             (progress J.rules (start (query_by self.old)) (events_by self.old)) (events_by self.new)) }
-        ensures few { self.new.skipped ≤ (machine_by self.old).steps + 1 }
+        ensures few { skipped_by self.new ≤ (machine_by self.old).steps + 1 }
+        ensures full { IsFullAt (progress J.rules (start (query_by self.old)) (events_by self.old)) self.new }
         ensures same { IsSame self.old self.new }
     {
         let number = self.core.machine().steps() + 1;
@@ -158,7 +160,7 @@ impl<'p, J: Run, A: Allocator + Copy> Coordinator<'p, J, A> {
         ensures machine { IfOk result (λ stepped. Steps stepped (machine_by self.old) (machine_by self.new)) }
         ensures rests { OnOk result (IsAtRest self.new) }
         ensures query { query_by self.new ≡ query_by self.old }
-        ensures workers { self.new.workers ≡ self.old.workers }
+        ensures workers { workers_by self.new ≡ workers_by self.old }
         ensures err { OnErr result (machine_by self.new ≡ machine_by self.old) }
     {
         match self.core.machine().top() {

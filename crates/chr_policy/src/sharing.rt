@@ -1,11 +1,12 @@
 //! What a run hands to its workers, and takes from them.
-ghost use Rattle.std.specs.Prelude.{◌≡◌, ◌<◌, ◌++◌, ◌∷◌, [], ℕ, Bool, IfErr, OnErr, OnOk, length};
+ghost use Rattle.std.specs.Prelude.{◌≡◌, ◌<◌, ◌++◌, ◌∷◌, [], ℕ, Bool, IfErr, OnErr, OnOk, length, nat_le};
 ghost use Rattle.chr_semantics.specs.Policy.{is_place};
 ghost use Rattle.chr_semantics.specs.Schedule.{Progress, publish};
 ghost use Rattle.chr_semantics.specs.declared.limits.TheConstants.{MAX_ROUNDS};
 ghost use Rattle.chr_find.specs.SnapshotView.{task_view};
 ghost use Rattle.chr_machine.specs.NeedView.{need, search_of};
 ghost use Rattle.chr_core.specs.CoreView.{IsAsBefore, IsSameRun, events_of, machine_in, progress_of, start_of};
+ghost use Rattle.chr_core.specs.ErrorView.{is_full};
 ghost use Rattle.chr_policy.specs.Standing.{Keeps};
 
 use crate::Memory;
@@ -41,6 +42,7 @@ pub(crate) fn show<J: Run, A: Allocator + Copy>(
     ensures few { OnOk result (length (progress_of core.old).rounds < MAX_ROUNDS) }
     ensures run { IsSameRun core.old core.new }
     ensures err { OnErr result (IsAsBefore core.old core.new) }
+    ensures why { IfErr result (λ error. is_full error ≡ nat_le MAX_ROUNDS (length (progress_of core.old).rounds)) }
 {
     let (place, tasks) = core.publish(rt, shelf)?;
     let _offered = board.offer(rt, place, tasks).is_ok();

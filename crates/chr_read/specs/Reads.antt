@@ -11,7 +11,8 @@ use Rattle.chr_read.specs.declared.halt.Halt.TheVariants.{Memory, Expected, TooD
 use Rattle.chr_read.specs.declared.syntax.Expr.{Expr}
 use Rattle.chr_read.specs.declared.syntax.Item.{Item}
 use Rattle.chr_read.specs.declared.syntax.Head.{Head}
-use Rattle.chr_read.specs.SyntaxView.{head_view, head_views, item_view, item_views, view, views}
+use Rattle.chr_read.specs.declared.syntax.Operator.{Operator}
+use Rattle.chr_read.specs.SyntaxView.{chain, head_view, head_views, item_view, item_views, operand_views, view, views}
 use Rattle.chr_read.specs.Automaton.{Prefix, Frame, Container, Section, RuleStart, Verdict, asked, behind, body, elements_step, item_step, items_step, depth, elements, expected, no_prefix, state_after_primary, guarded, hashed, have, heads, limited_room, listed, marked, named, of_list, step_verdict, paren, run, signed, tail, too_deep, want, state_before_item, section_with_head}
 
 -- the sign, or one of the kind, does not come first
@@ -92,6 +93,15 @@ ReadsProduct room ts r = (s : Option (syntax.Expr × Additive)) (k : List Frame)
 
 abbrev pub ReadsSum : {A : Type 0} → ℕ → List Placed → Reading (Expr A) → Type 0
 ReadsSum room ts r = (k : List Frame) → Leaves room k → Goes (run limited_room (want no_prefix k) ts) r (λ x. run limited_room (have None (view x.0) k) (placed_views x.1.now))
+
+-- after the first product of a sum, and after the first primary of a product
+abbrev pub ReadsProducts : {A V : Type 0} → (V → List (Operator × Expr A)) → ℕ → List Placed → Reading V → Type 0
+ReadsProducts operands room ts r = (e : syntax.Expr) (k : List Frame) → Leaves room k
+    → Goes (run limited_room (have None e k) ts) r (λ x. run limited_room (have None (chain e (operand_views (operands x.0))) k) (placed_views x.1.now))
+
+abbrev pub ReadsPrimaries : {A V : Type 0} → (V → List (Operator × Expr A)) → ℕ → List Placed → Reading V → Type 0
+ReadsPrimaries operands room ts r = (s : Option (syntax.Expr × Additive)) (e : syntax.Expr) (k : List Frame) → Leaves room k
+    → Goes (run limited_room (have s e k) ts) r (λ x. run limited_room (have s (chain e (operand_views (operands x.0))) k) (placed_views x.1.now))
 
 -- what a list ends with: `[]`, where it has no end of its own
 abbrev pub end_view : {A : Type 0} → Option (Expr A) → syntax.Expr

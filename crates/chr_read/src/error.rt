@@ -2,11 +2,11 @@
 
 use chr_tokens::Unread;
 use std::alloc::AllocError;
-use std::error::Error;
-use std::fmt;
+use thiserror::Error;
 
 /// What is wrong with a text. It is displayed as its name.
-#[derive(Clone, Copy, PartialEq, Eq, Debug, Drop)]
+#[derive(Clone, Copy, PartialEq, Eq, Debug, Drop, Error)]
+#[error("{}", self.word())]
 pub enum ReadErrorKind {
     /// It is not UTF-8.
     NotUtf8,
@@ -47,21 +47,9 @@ impl ReadErrorKind {
     }
 }
 
-impl fmt::Display for ReadErrorKind {
-    ghost use Rattle.std.specs.Prelude.{Some};
-    ghost use Rattle.chr_read.specs.ErrorText.{read_error_kind_text};
-
-    ghost output = { λ kind. Some (read_error_kind_text kind) };
-
-    fn fmt<W: fmt::Write>(&self, f: &mut fmt::Formatter<W>) -> fmt::Result {
-        f.write_str(self.word())
-    }
-}
-
-impl Error for ReadErrorKind {}
-
 /// A text is not read: what is wrong first, and where. It is displayed as `LINE:COLUMN: KIND`.
-#[derive(Clone, Copy, PartialEq, Eq, Debug, Drop)]
+#[derive(Clone, Copy, PartialEq, Eq, Debug, Drop, Error)]
+#[error("{line}:{column}: {kind}")]
 pub struct ReadError {
     /// What is wrong.
     pub kind: ReadErrorKind,
@@ -111,16 +99,3 @@ impl From<AllocError> for ReadError {
         ReadError::without_place(ReadErrorKind::Memory)
     }
 }
-
-impl fmt::Display for ReadError {
-    ghost use Rattle.std.specs.Prelude.{Some};
-    ghost use Rattle.chr_read.specs.ErrorText.{read_error_text};
-
-    ghost output = { λ error. Some (read_error_text error) };
-
-    fn fmt<W: fmt::Write>(&self, f: &mut fmt::Formatter<W>) -> fmt::Result {
-        write!(f, "{}:{}: {}", self.line, self.column, self.kind)
-    }
-}
-
-impl Error for ReadError {}

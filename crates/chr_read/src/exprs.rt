@@ -4,7 +4,7 @@ ghost use Rattle.std.specs.Str.{encode_utf8_all};
 ghost use Rattle.chr_semantics.specs.Syntax.{call, exprs_of, list as syntax_list, nil};
 ghost use Rattle.chr_semantics.specs.Tokens.{comma};
 ghost use Rattle.chr_tokens.specs.TokenView.{placed_views};
-ghost use Rattle.chr_read.specs.Reads.{Lacks, NoAdditive, NoMultiplicative, ReadsElements, ReadsInParens, ReadsList, ReadsListEnd, ReadsNamed, ReadsPrimary, ReadsProduct, ReadsSigned, ReadsSum, end_view};
+ghost use Rattle.chr_read.specs.Reads.{Lacks, NoAdditive, NoMultiplicative, ReadsElements, ReadsInParens, ReadsList, ReadsListEnd, ReadsNamed, ReadsPrimaries, ReadsPrimary, ReadsProduct, ReadsProducts, ReadsSigned, ReadsSum, end_view};
 ghost use Rattle.chr_read.specs.SyntaxView.{chain, operand_views, view, views};
 
 use crate::halt::Halt;
@@ -30,14 +30,34 @@ pub(crate) fn sum<'a, A: Allocator + Copy>(
     ensures no_sum { IfOk result (λ x. NoAdditive (placed_views x.1.now)) }
     ensures no_product { IfOk result (λ x. NoMultiplicative (placed_views x.1.now)) }
 {
-    let (first, mut rest) = product(alloc, text, room)?;
+    let (first, end) = product(alloc, text, room)?;
+    let (operands, rest) = further_products(alloc, end, room)?;
+    Ok((chain_of(alloc, first, operands)?, rest))
+}
+
+/// The products after the first one, each with its `+` or `-`.
+#[cycle(expr)]
+#[tactic(auto, using(crate::proofs::Steps::steps))]
+fn further_products<'a, A: Allocator + Copy>(
+    alloc: A,
+    text: &'a [Placed<'a>],
+    room: usize,
+) -> Result<(Vec<(Operator, Expr<A>), A>, &'a [Placed<'a>]), Halt<'a>>
+    requires room { room ≤ MAX_OPEN_BRACKETS }
+    requires no_product { NoMultiplicative (placed_views text.now) }
+    ensures reads { ReadsProducts (λ v. v.items) room (placed_views text.now) result }
+    ensures within { IfOk result (λ x. length x.1.now ≤ length text.now) }
+    ensures no_sum { IfOk result (λ x. NoAdditive (placed_views x.1.now)) }
+    ensures no_product { IfOk result (λ x. NoMultiplicative (placed_views x.1.now)) }
+{
     let mut operands = Vec::new(alloc);
+    let (_, mut rest) = text.split_at(0);
     while let Some((operator, after)) = additive(rest) {
         let (operand, others) = product(alloc, after, room)?;
         operands.push((Operator::Additive(operator), operand))?;
         rest = others;
     }
-    Ok((chain_of(alloc, first, operands)?, rest))
+    Ok((operands, rest))
 }
 
 /// Primaries with `*`, `//` or `mod` between them.
@@ -53,14 +73,32 @@ fn product<'a, A: Allocator + Copy>(
     ensures shorter { IfOk result (λ x. length x.1.now < length text.now) }
     ensures no_product { IfOk result (λ x. NoMultiplicative (placed_views x.1.now)) }
 {
-    let (first, mut rest) = primary(alloc, text, room)?;
+    let (first, end) = primary(alloc, text, room)?;
+    let (operands, rest) = further_primaries(alloc, end, room)?;
+    Ok((chain_of(alloc, first, operands)?, rest))
+}
+
+/// The primaries after the first one, each with its `*`, `//` or `mod`.
+#[cycle(expr)]
+#[tactic(auto, using(crate::proofs::Steps::steps))]
+fn further_primaries<'a, A: Allocator + Copy>(
+    alloc: A,
+    text: &'a [Placed<'a>],
+    room: usize,
+) -> Result<(Vec<(Operator, Expr<A>), A>, &'a [Placed<'a>]), Halt<'a>>
+    requires { room ≤ MAX_OPEN_BRACKETS }
+    ensures reads { ReadsPrimaries (λ v. v.items) room (placed_views text.now) result }
+    ensures within { IfOk result (λ x. length x.1.now ≤ length text.now) }
+    ensures no_product { IfOk result (λ x. NoMultiplicative (placed_views x.1.now)) }
+{
     let mut operands = Vec::new(alloc);
+    let (_, mut rest) = text.split_at(0);
     while let Some((operator, after)) = multiplicative(rest) {
         let (operand, others) = primary(alloc, after, room)?;
         operands.push((Operator::Multiplicative(operator), operand))?;
         rest = others;
     }
-    Ok((chain_of(alloc, first, operands)?, rest))
+    Ok((operands, rest))
 }
 
 /// A chain of operators, or its only operand.

@@ -11,7 +11,7 @@ use Rattle.chr_bind.specs.declared.guard.Test.{Test}
 use Rattle.chr_rules.specs.declared.goal.Op.{Op}
 use Rattle.chr_rules.specs.declared.goal.Op.TheVariants.{Unify, Is, Less, Greater, AtMost, AtLeast, Equals, Differs}
 use Rattle.chr_rules.specs.declared.goal.Goal.{Goal}
-use Rattle.chr_rules.specs.declared.goal.Goal.TheVariants.{Chr, BuiltIn, Fail}
+use Rattle.chr_rules.specs.declared.goal.Goal.TheVariants.{Chr, Told, Fail}
 use Rattle.chr_rules.specs.declared.rule.Rule.{Rule}
 use Rattle.chr_rules.specs.declared.goal.Query.{Query}
 
@@ -27,7 +27,7 @@ builtin_view Differs t u = compare differs t u
 
 abbrev pub goal_view : {A : Type 0} → Goal A → semantics.Goal
 goal_view (Chr f ts) = constraint (atom_view f ts.items)
-goal_view (BuiltIn op t u) = builtin_view op (view t) (view u)
+goal_view (Told op t u) = builtin_view op (view t) (view u)
 goal_view Fail = fail
 
 -- the flag of a head, false where it is missing

@@ -3,11 +3,11 @@ ghost use Rattle.std.specs.Prelude.{◌≡◌};
 ghost use Rattle.chr_rules.specs.declared.error.RuleErrorKind.TheVariants.{Memory as OutOfMemory};
 
 use std::alloc::{AllocError, AllocFailed};
-use std::error::Error;
-use std::fmt;
+use thiserror::Error;
 
 /// What is wrong with a declaration, a rule or a query. Of several the first in this list is answered. It is displayed as its name.
-#[derive(Clone, Copy, PartialEq, Eq, Debug, Drop)]
+#[derive(Clone, Copy, PartialEq, Eq, Debug, Drop, Error)]
+#[error("{}", self.word())]
 pub enum RuleErrorKind {
     /// A head or a goal is a name that is neither built in nor declared.
     Undeclared,
@@ -63,19 +63,6 @@ impl RuleErrorKind {
     }
 }
 
-impl fmt::Display for RuleErrorKind {
-    ghost use Rattle.std.specs.Prelude.{Some};
-    ghost use Rattle.chr_rules.specs.ErrorText.{rule_error_kind_text};
-
-    ghost output = { λ kind. Some (rule_error_kind_text kind) };
-
-    fn fmt<W: fmt::Write>(&self, f: &mut fmt::Formatter<W>) -> fmt::Result {
-        f.write_str(self.word())
-    }
-}
-
-impl Error for RuleErrorKind {}
-
 impl From<AllocError> for RuleErrorKind {
     ghost from_gives = { λ _ e. e ≡ OutOfMemory };
 
@@ -93,7 +80,8 @@ impl<T: Drop> From<AllocFailed<T>> for RuleErrorKind {
 }
 
 /// A program or a query is not accepted: what is wrong first, and where. It is displayed as `line LINE rule K: KIND`.
-#[derive(Clone, Copy, PartialEq, Eq, Debug, Drop)]
+#[derive(Clone, Copy, PartialEq, Eq, Debug, Drop, Error)]
+#[error("line {line} rule {rule}: {kind}")]
 pub struct RuleError {
     /// What is wrong.
     pub kind: RuleErrorKind,
@@ -126,16 +114,3 @@ impl<T: Drop> From<AllocFailed<T>> for RuleError {
         }
     }
 }
-
-impl fmt::Display for RuleError {
-    ghost use Rattle.std.specs.Prelude.{Some};
-    ghost use Rattle.chr_rules.specs.ErrorText.{rule_error_text};
-
-    ghost output = { λ error. Some (rule_error_text error) };
-
-    fn fmt<W: fmt::Write>(&self, f: &mut fmt::Formatter<W>) -> fmt::Result {
-        write!(f, "line {} rule {}: {}", self.line, self.rule, self.kind)
-    }
-}
-
-impl Error for RuleError {}

@@ -35,7 +35,7 @@ pub enum Goal<A: Allocator = Global> {
     /// A CHR constraint.
     Chr(Sym, Vec<Term<A>, A>),
     /// A built-in with its two sides.
-    BuiltIn(Op, Term<A>, Term<A>),
+    Told(Op, Term<A>, Term<A>),
     /// `fail`
     Fail,
 }
@@ -98,10 +98,10 @@ fn copy_goal<A: Allocator + Copy>(alloc: A, goal: &Goal<A>) -> Result<Goal<A>, M
 {
     match goal {
         Goal::Chr(sym, args) => Ok(Goal::Chr(*sym, copy_all(alloc, args.as_slice())?)),
-        Goal::BuiltIn(op, left, right) => {
+        Goal::Told(op, left, right) => {
             let left = copy(alloc, left)?;
             let right = copy(alloc, right)?;
-            Ok(Goal::BuiltIn(*op, left, right))
+            Ok(Goal::Told(*op, left, right))
         }
         Goal::Fail => Ok(Goal::Fail),
     }
@@ -120,7 +120,7 @@ pub fn print_goal<A: Allocator, N: Allocator, V: Allocator, O: Allocator>(
 {
     match goal {
         Goal::Chr(sym, args) => print_atom(names, vars, *sym, args.as_slice(), out),
-        Goal::BuiltIn(op, left, right) => print_sides(names, vars, left, *op, right, out),
+        Goal::Told(op, left, right) => print_sides(names, vars, left, *op, right, out),
         Goal::Fail => out.extend_from_slice(b"fail"),
     }
 }

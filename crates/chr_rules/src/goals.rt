@@ -142,7 +142,7 @@ fn relation_goal<A: Allocator>(relation: Relation, left: Term<A>, right: Term<A>
         Relation::Differs => Op::Differs,
         Relation::Is => Op::Is,
     };
-    Some(Goal::BuiltIn(op, left, right))
+    Some(Goal::Told(op, left, right))
 }
 
 /// The tests of a guard, from the left.

@@ -1,5 +1,5 @@
 -- A run that has ended stays as it is, so that a budget above its transitions gives the same text.
-use Rattle.std.proofs.Common.{◌≡◌, ◌≢◌, ◌⊎◌, inl, inr, ◌∙◌, ℕ, zero, suc, ◌+◌, ◌-◌, ◌≤◌, ◌++◌, [], ◌∷◌, List, drop, take, refl, ap, sym, arith, append-nil, append_assoc, None}
+use Rattle.std.proofs.Common.{◌≡◌, ◌≢◌, ◌⊎◌, inl, inr, ◌∙◌, ℕ, zero, suc, ◌+◌, ◌-◌, ◌<◌, ◌≤◌, ◌++◌, [], ◌∷◌, List, length, length-append, drop, take, refl, ap, sym, arith, append-nil, append_assoc, None}
 use Rattle.std.proofs.lemmas.Grind.{flat_map-append}
 use Rattle.std.proofs.lemmas.List.{take-append-drop}
 use Rattle.chr_semantics.specs.Names.{Names, VarNames}
@@ -91,9 +91,31 @@ covers_performed p s k n m is within (inr ended) = covers_ended p s k n within (
 pub lines_text-append : (ls ms : List (List ℕ)) → lines_text (ls ++ ms) ≡ lines_text ls ++ lines_text ms
 lines_text-append ls ms = flat_map-append (λ (l : List ℕ). l ++ 10 ∷ []) ls ms
 
+-- some lines are no empty text
+lines_some : (ls : List (List ℕ)) → 0 < length ls → 0 < length (lines_text ls)
+lines_some [] h = absurd (omega (arith, h))
+lines_some (l ∷ ls) h =
+    let whole = length-append (l ++ 10 ∷ []) (lines_text ls) in
+    let line = length-append l (10 ∷ []) in
+    omega (arith, whole, line)
+
+end_some : (names : Names) (vars : VarNames) (p : Program) (s : State) (ls : List (List ℕ)) → 0 < length (lines_text (ls ++ outcome names vars p s))
+end_some names vars p s ls =
+    let sum = length-append ls (outcome names vars p s) in
+    let one : 0 < length (outcome names vars p s) = omega arith in
+    lines_some (ls ++ outcome names vars p s) (omega (arith, sum, one))
+
+-- nor is what a run ends with, or its whole text
+pub rest_some : (m : Model) (sent : ℕ) → 0 < length (rest_text m sent)
+rest_some m sent = end_some m.names m.var_names m.rules (state_in m) (drop sent m.lines)
+
+pub text_some : (names : Names) (p : Program) (q : Query) (n : ℕ) → 0 < length (text names p q n)
+text_some names p q n = end_some names q.var_names p (after p (start q) n) (trace names q.var_names p (start q) 1 n)
+
 -- the text of a run is what was made of it, and a rest
 pub record Begins (names : Names) (p : Program) (q : Query) (n : ℕ) (m : Model) : Type 0 where
   pub rest : List ℕ
+  pub some : 0 < length rest
   pub whole : text names p q n ≡ lines_text m.lines ++ rest
 
 pub begins : (names : Names) (p : Program) (q : Query) (k n : ℕ) (m : Model) → HasRun names p q k m → k ≤ n → Begins names p q n m
@@ -105,6 +127,7 @@ begins names p q k n m ran within =
     let lines : trace names q.var_names p s 1 n ≡ m.lines ++ later = ap (trace names q.var_names p s 1) split ∙ (trace-add names q.var_names p s 1 k (n - k) ∙ ap (λ ls. ls ++ later) (sym ran.lines)) in
     record {
       rest = lines_text (later ++ end);
+      some = end_some names q.var_names p (after p s n) later;
       whole = ap (λ ls. lines_text (ls ++ end)) lines ∙ (ap lines_text (append_assoc m.lines later end) ∙ lines_text-append m.lines (later ++ end));
     }
 

@@ -1,10 +1,12 @@
 -- A run that went on so far, by the policy, is what its contract says.
 use Rattle.std.proofs.Common.{◌≡◌, ◌≢◌, ◌⊎◌, inl, inr, ◌∙◌, ◌+◌, ◌-◌, ◌≤◌, ℕ, zero, suc, Bool, List, cond, true, false, nat_lt, None, Some, ap, arith, refl, subst, sym}
+use Rattle.chr_semantics.specs.Calls.{rise_by_calls}
 use Rattle.chr_semantics.specs.Names.{Names}
-use Rattle.chr_semantics.specs.Outcome.{budget_too_large, outcome_after, outcome_of, run_refusal, too_many_workers}
+use Rattle.chr_semantics.specs.Outcome.{budget_too_large, outcome_of, run_refusal, too_many_workers}
 use Rattle.chr_semantics.specs.Program.{Program, Query}
 use Rattle.chr_semantics.specs.Policy.{IsPolicy, IsTied}
 use Rattle.chr_semantics.specs.Schedule.{Counts, Event, counts, progress}
+use Rattle.chr_semantics.specs.Stamps.{stamp}
 use Rattle.chr_semantics.specs.State.{State, Status, done, failed, faulted, running, start}
 use Rattle.chr_semantics.specs.Step.{after, is_running, steps}
 use Rattle.chr_semantics.proofs.Counts.{count-add}
@@ -13,6 +15,7 @@ use Rattle.chr_shelf.specs.declared.run.Run.{Ghosts}
 use Rattle.chr_machine.specs.MachineView.{Starts}
 use Rattle.chr_core.specs.CoreView.{counts_view}
 use Rattle.chr_core.specs.IsAt.{begun}
+use Rattle.chr_core.specs.Outcomes.{IsOutcomeOf}
 use Rattle.chr_policy.specs.CoordinatorView.{IsAtRest, IsMade, events_by, machine_by, names_by, query_by}
 use Rattle.chr_policy.specs.declared.coordinator.Coordinator.{Coordinator}
 use Rattle.chr_policy.specs.declared.coordinator.Made.{Made}
@@ -74,6 +77,10 @@ module _ {J A : Type 0} {G : Ghosts J} (c : Coordinator J A G) where
   pub has_come : HasRun (names_by c) G.rules (query_by c) (machine_by c).steps (machine_by c)
   has_come = has_run (names_by c) G.rules (query_by c) (machine_by c).steps (begun (names_by c) G.rules (query_by c)) (machine_by c) (started (names_by c) G.rules (query_by c)) c.core.at.run
 
+  -- and each of them was made
+  steps_are_made : (let s = start (query_by c) in let k = (progress G.rules s (events_by c)).steps in k ≡ steps G.rules s k)
+  steps_are_made = let same = steps_are c.core in let made = c.core.at.run.made in sym same ∙ sym made ∙ ap (steps G.rules (start (query_by c))) same
+
   module _ (n : ℕ) (through : IsThrough n (machine_by c)) where
     abbrev pub p : Program
     p = G.rules
@@ -99,17 +106,25 @@ module _ {J A : Type 0} {G : Ghosts J} (c : Coordinator J A G) where
     no_more : steps p s n ≡ steps p s k
     no_more = same_steps p s k n few all
 
+    -- its Steps are these transitions
+    all_made : k ≡ steps p s n
+    all_made = steps_are_made ∙ sym no_more
+
     -- what it has made is what the contract of a run says
     is_run_here : {B : Type 0} (made : Made B) (r : Run B) → run_refusal n c.workers ≡ None → IsAtRest c → IsMade c made → IsOf made r → IsRun (names_by c) p (query_by c) n c.workers r
     is_run_here made r allowed rests is of =
         let es = sym (of.schedule_is ∙ is.schedule_is) in
         let counted = sym (of.counts_are ∙ is.counts_are) in
         let skipped = sym (of.skipped_are ∙ is.skipped_are) in
-        let tied : IsTied p s n (counts p s (events_by c)) (events_by c) = record { none_refused = rests.rests.keeps.allowed; same_state = sym covered.state; counts_are = refl } in
-        let policy : IsPolicy p s c.workers c.skipped (events_by c) = policy_of p s (events_by c) c.workers c.skipped rests.rests in
+        let outcome : IsOutcomeOf (names_by c) p (query_by c) k r.outcome = subst (IsOutcomeOf (names_by c) p (query_by c) k) (sym of.outcome_is) is.outcome in
+        let tied : IsTied p s n (counts p s (events_by c)) (events_by c) = record { none_refused = rests.rests.keeps.allowed; same_state = sym covered.state; none_idle = all_made; counts_are = refl } in
+        let policy : IsPolicy p s c.workers c.skipped (events_by c) = policy_of p s (events_by c) c.workers c.skipped rests.rests (let few = rests.few in let same = steps_are c.core in omega (arith, few, same)) in
         record {
           allowed = allowed;
-          outcome_is = of.outcome_is ∙ (is.outcome_is ∙ sym (λ i. outcome_of (covered.state i) (no_more i) (covered.lines (names_by c) (query_by c).var_names i) (query_by c).var_names));
+          outcome = record {
+            outcome_is = outcome.outcome_is ∙ sym (λ i. outcome_of (covered.state i) (no_more i) (covered.lines (names_by c) (query_by c).var_names i) (query_by c).var_names);
+            stamps_are = λ x. outcome.stamps_are x ∙ ap (λ m. stamp p (rise_by_calls p) s m x) (sym no_more);
+          };
           tied = subst (λ (fs : List Event). IsTied p s n (counts_view r.counts) fs) es (subst (λ (k : Counts). IsTied p s n k (events_by c)) counted tied);
           policy = subst (λ (fs : List Event). IsPolicy p s c.workers r.skipped fs) es (subst (λ (k : ℕ). IsPolicy p s c.workers k (events_by c)) skipped policy);
         }

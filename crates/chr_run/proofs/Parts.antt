@@ -1,9 +1,10 @@
 -- Bytes that go out in parts.
-use Rattle.std.proofs.Common.{◌≡◌, ◌<◌, ◌+◌, ◌∙◌, ℕ, ◌++◌, List, [], Option, Some, None, refl, ap, sym, map, drop, get_or, length, add-one, append-nil, append_assoc, drop-cons}
+use Rattle.std.proofs.Common.{◌≡◌, ◌<◌, ◌+◌, ◌∙◌, ℕ, ◌++◌, List, [], Option, Some, None, refl, ap, sym, map, drop, get_or, length, add-one, append-nil, append_assoc, arith, drop-cons, length-append}
+use Rattle.std.specs.Prelude.{Err, Ok, OnErr, Result}
 use Rattle.std.specs.Borrow.{Bor}
 use Rattle.std.specs.List.{concat}
 use Rattle.std.specs.Io.KnownBytes.{Appends, Keeps}
-use Rattle.chr_run.specs.Output.{IsOut, AppendsPart}
+use Rattle.chr_run.specs.Output.{AppendsLess, AppendsPart, IsOut}
 
 pub appends-none : (old : Option (List ℕ)) → Appends old old []
 appends-none None = tt
@@ -48,6 +49,11 @@ pub keeps_same : (old : Option (List ℕ)) → Keeps old old
 keeps_same None = tt
 keeps_same (Some xs) = refl
 
+-- what an error says, where it holds anyway
+pub on_err : {T E X : Type 0} (r : Result T E) → X → OnErr r X
+on_err (Ok t) x = tt
+on_err (Err e) x = x
+
 -- nothing is a first part of all
 pub part_none : (old : Option (List ℕ)) (bytes : List ℕ) → AppendsPart old old bytes
 part_none old bytes = record { rest = bytes; is_out = out-none old bytes }
@@ -65,6 +71,30 @@ part_front old new bytes front back e p = part-more old old new bytes bytes fron
 -- the front, and a first part of the back
 pub part_back : (old mid new : Option (List ℕ)) (front back : List ℕ) → Appends old mid front → AppendsPart mid new back → AppendsPart old new (front ++ back)
 part_back old mid new front back h p = part-more old mid new (front ++ back) back back [] (record { out = front; whole = refl; appends = h }) (sym (append-nil back)) p
+
+-- nothing is a first part of some bytes, and not all
+pub less_none : (old : Option (List ℕ)) (bytes : List ℕ) → 0 < length bytes → AppendsLess old old bytes
+less_none old bytes some = record { rest = bytes; is_out = out-none old bytes; left = some }
+
+-- what is not all is a first part
+pub as_part : (old new : Option (List ℕ)) (bytes : List ℕ) → AppendsLess old new bytes → AppendsPart old new bytes
+as_part old new bytes p = record { rest = p.rest; is_out = p.is_out }
+
+-- a first part of the front is not all, where something stands behind it
+pub less_front : (old new : Option (List ℕ)) (bytes front back : List ℕ) → bytes ≡ front ++ back → 0 < length back → AppendsPart old new front → AppendsLess old new bytes
+less_front old new bytes front back e some p = record {
+  rest = p.rest ++ back;
+  is_out = record { out = p.is_out.out; whole = e ∙ (ap (λ xs. xs ++ back) p.is_out.whole ∙ append_assoc p.is_out.out p.rest back); appends = p.is_out.appends };
+  left = (let sum = length-append p.rest back in omega (arith, sum, some));
+}
+
+-- the front, and of the back a first part that is not all
+pub less_back : (old mid new : Option (List ℕ)) (front back : List ℕ) → Appends old mid front → AppendsLess mid new back → AppendsLess old new (front ++ back)
+less_back old mid new front back h p = record {
+  rest = p.rest;
+  is_out = out-more old mid new (front ++ back) back p.is_out.out p.rest (record { out = front; whole = refl; appends = h }) p.is_out.whole p.is_out.appends;
+  left = p.left;
+}
 
 -- all is a first part too
 pub part_all : (old new : Option (List ℕ)) (bytes : List ℕ) → Appends old new bytes → AppendsPart old new bytes

@@ -13,7 +13,7 @@ use Rattle.chr_trace.specs.declared.state.Status.{Status}
 use Rattle.chr_core.specs.declared.error.ReplayError.{ReplayError}
 use Rattle.chr_core.specs.declared.error.ReplayError.TheVariants.{Memory, TooManyRounds, TooManySteps, UnknownRound, UnknownTask}
 use Rattle.chr_core.specs.declared.speculation.Counts.{Counts}
-use Rattle.chr_run.specs.Output.{AppendsPart}
+use Rattle.chr_run.specs.Output.{AppendsLess}
 use Rattle.chr_run.specs.Replays.{IsReplayed, IsTextReplay, IsUnread, IsUnsent, replayed_text}
 use Rattle.chr_run.proofs.Parts.{keeps_same}
 use Rattle.chr_run.specs.declared.error.TextError.{TextError}
@@ -21,7 +21,7 @@ use Rattle.chr_run.specs.declared.error.TextError.TheVariants as error
 
 -- the text of an outcome
 abbrev pub whole : Names → Rules → Outcome → List ℕ
-whole names p w = lines_text (w.lines ++ outcome names w.var_names p (record { stack = w.stack; store = w.store; subst = w.subst; history = w.history; next_id = 0; next_var = 0; status = w.status }))
+whole names p w = lines_text (w.lines ++ outcome names w.var_names p w.state)
 
 pub text_is : (names : Names) (p : Rules) (q : Goals) (n : ℕ) (w : Outcome) → w ≡ outcome_after names p q n → whole names p w ≡ text names p q n
 text_is names p q n w e = ap (whole names p) e
@@ -29,7 +29,7 @@ text_is names p q n w e = ap (whole names p) e
 -- where a text did not go out whole
 pub unsent : (names : Names) (p : Rules) (q : Goals) (es : List Event) (bytes : List ℕ) (old new : Option (List ℕ)) (e : TextError)
     → first_refusal p (start q) no_progress 0 es ≡ None → bytes ≡ replayed_text names p q es → IsUnsent bytes old new e → IsReplayed names p q es old new (Err e)
-unsent names p q es bytes old new error.Write allowed same h = (allowed, subst (AppendsPart old new) same h)
+unsent names p q es bytes old new error.Write allowed same h = (allowed, subst (AppendsLess old new) same h)
 unsent names p q es bytes old new (error.Replay Memory) allowed same h = (tt, h)
 unsent names p q es bytes old new (error.Replay (UnknownRound k)) allowed same h = absurd h
 unsent names p q es bytes old new (error.Replay (UnknownTask k)) allowed same h = absurd h

@@ -7,12 +7,12 @@ use Rattle.chr_semantics.specs.Text.{lines_text, text}
 use Rattle.chr_shelf.specs.declared.run.Run.{Ghosts}
 use Rattle.chr_policy.specs.CoordinatorView.{machine_by, names_by, query_by}
 use Rattle.chr_policy.specs.declared.coordinator.Coordinator.{Coordinator}
-use Rattle.chr_run.specs.Output.{AppendsPart}
+use Rattle.chr_run.specs.Output.{AppendsLess}
 use Rattle.chr_run.specs.Sending.{whole_text}
 use Rattle.chr_run.specs.Turns.{IsPart, IsThrough}
 use Rattle.chr_run.proofs.Ends.{begins, is_whole}
 use Rattle.chr_run.proofs.Headlines.{has_come}
-use Rattle.chr_run.proofs.Parts.{part_front}
+use Rattle.chr_run.proofs.Parts.{less_front}
 
 module _ {J A : Type 0} {G : Ghosts J} (c : Coordinator J A G) (n : ℕ) (names : Names) (q : Query) (names_are : names_by c ≡ names) (query_is : query_by c ≡ q) (old new : Option (List ℕ)) where
   begun_with : (X : List ℕ → Type 0) → X (text (names_by c) G.rules (query_by c) n) → X (text names G.rules q n)
@@ -23,13 +23,13 @@ module _ {J A : Type 0} {G : Ghosts J} (c : Coordinator J A G) (n : ℕ) (names 
       let whole = is_whole (names_by c) G.rules (query_by c) (machine_by c).steps n (machine_by c) (has_come c) t.within t.all in
       begun_with (Appends old new) (subst (Appends old new) (sym whole.text_is) out)
 
-  part_here : IsPart n (machine_by c) old new → AppendsPart old new (text (names_by c) G.rules (query_by c) n)
+  part_here : IsPart n (machine_by c) old new → AppendsLess old new (text (names_by c) G.rules (query_by c) n)
   part_here (inl h) =
       let b = begins (names_by c) G.rules (query_by c) (machine_by c).steps n (machine_by c) (has_come c) h.0 in
-      part_front old new (text (names_by c) G.rules (query_by c) n) (lines_text (machine_by c).lines) b.rest b.whole h.1
+      less_front old new (text (names_by c) G.rules (query_by c) n) (lines_text (machine_by c).lines) b.rest b.whole b.some h.1
   part_here (inr h) =
       let whole = is_whole (names_by c) G.rules (query_by c) (machine_by c).steps n (machine_by c) (has_come c) h.0.within h.0.all in
-      subst (AppendsPart old new) (sym whole.text_is) h.1
+      subst (AppendsLess old new) (sym whole.text_is) h.1
 
-  pub sent_part : IsPart n (machine_by c) old new → AppendsPart old new (text names G.rules q n)
-  sent_part h = begun_with (AppendsPart old new) (part_here h)
+  pub sent_part : IsPart n (machine_by c) old new → AppendsLess old new (text names G.rules q n)
+  sent_part h = begun_with (AppendsLess old new) (part_here h)

@@ -1,7 +1,7 @@
 -- What is out of a run.
 use Rattle.std.proofs.Common.{◌≡◌, ◌≢◌, ◌⊎◌, inl, inr, ◌∙◌, ◌+◌, ◌-◌, ◌≤◌, ◌++◌, [], ℕ, List, Option, ap, append-nil, append_assoc, arith, drop, length, length-append, length-drop, map, refl, subst, sym, take}
 use Rattle.std.proofs.lemmas.Grind.{flat_map-append}
-use Rattle.std.proofs.lemmas.List.{drop-map, length-map, take-append-drop, take-append-le, take_all}
+use Rattle.std.proofs.lemmas.List.{drop-map, take-append-drop, take-append-le, take_all}
 use Rattle.std.specs.Io.KnownBytes.{Appends}
 use Rattle.chr_semantics.specs.Text.{lines_text}
 use Rattle.chr_machine.specs.Model.{Model}
@@ -10,12 +10,12 @@ use Rattle.chr_trace.specs.Texts.{texts}
 use Rattle.chr_shelf.specs.declared.run.Run.{Ghosts}
 use Rattle.chr_policy.specs.CoordinatorView.{IsAtRest, machine_by}
 use Rattle.chr_policy.specs.declared.coordinator.Coordinator.{Coordinator}
-use Rattle.chr_run.specs.Output.{AppendsPart, IsOut}
+use Rattle.chr_run.specs.Output.{AppendsLess, AppendsPart, IsOut}
 use Rattle.chr_run.specs.Sending.{AreOut, IsCut, rest_text, whole_text}
 use Rattle.chr_run.specs.Turns.{IsOfRun, IsThrough, SendsTurns}
 use Rattle.chr_run.specs.declared.error.TextError.{TextError}
 use Rattle.chr_run.proofs.Ends.{lines_text-append, sent_and_rest}
-use Rattle.chr_run.proofs.Parts.{appends-both, appends-none, out-more, part-more}
+use Rattle.chr_run.proofs.Parts.{appends-both, appends-none, less_back, out-more, part-more}
 
 -- nothing is out yet
 pub sent_none : (old : Option (List ℕ)) (lines : List (List ℕ)) → AreOut old old lines 0
@@ -52,28 +52,24 @@ module _ (old mid new : Option (List ℕ)) (lines : List (List ℕ)) (sent : ℕ
       record { few = longer; appends = subst (λ (ls : List (List ℕ)). Appends old mid (lines_text ls)) same h.appends }
 
 -- the lines of the machine, as they are lent
-module _ {A : Type 0} (lent : List (Vec ℕ A)) (lines : List (List ℕ)) (is : texts lent ≡ lines) where
-  pub rest_is : (sent : ℕ) → lines_text (texts (take (length lent - sent) (drop sent lent))) ≡ lines_text (drop sent lines)
-  rest_is sent =
-      let counted = length-drop sent lent in
-      ap (λ (ls : List (Vec ℕ A)). lines_text (texts ls)) (take_all (length lent - sent) (drop sent lent) (omega (arith, counted)))
-      ∙ ap lines_text (sym (drop-map (λ (l : Vec ℕ A). l.items) sent lent) ∙ ap (drop sent) is)
-
-  pub count_is : length lines ≡ length lent
-  count_is = ap length (sym is) ∙ length-map lent (λ (l : Vec ℕ A). l.items)
+pub rest_is : {A : Type 0} (lent : List (Vec ℕ A)) (lines : List (List ℕ)) → texts lent ≡ lines → (sent : ℕ) → lines_text (texts (take (length lent - sent) (drop sent lent))) ≡ lines_text (drop sent lines)
+rest_is {A = A} lent lines is sent =
+    let counted = length-drop sent lent in
+    ap (λ (ls : List (Vec ℕ A)). lines_text (texts ls)) (take_all (length lent - sent) (drop sent lent) (omega (arith, counted)))
+    ∙ ap lines_text (sym (drop-map (λ (l : Vec ℕ A). l.items) sent lent) ∙ ap (drop sent) is)
 
 -- the end goes out after the first lines
 module _ (old mid new : Option (List ℕ)) (m : Model) (sent : ℕ) (h : AreOut old mid m.lines sent) where
   pub all_end : Appends mid new (rest_text m sent) → Appends old new (whole_text m)
   all_end k = subst (Appends old new) (sym (sent_and_rest m sent)) (appends-both old mid new (lines_text (take sent m.lines)) (rest_text m sent) h.appends k)
 
-  pub cut_end : AppendsPart mid new (rest_text m sent) → AppendsPart old new (whole_text m)
-  cut_end p = part-more old mid new (whole_text m) (rest_text m sent) (rest_text m sent) [] (record { out = lines_text (take sent m.lines); whole = sent_and_rest m sent; appends = h.appends }) (sym (append-nil _)) p
+  pub cut_end : AppendsLess mid new (rest_text m sent) → AppendsLess old new (whole_text m)
+  cut_end p = subst (AppendsLess old new) (sym (sent_and_rest m sent)) (less_back old mid new (lines_text (take sent m.lines)) (rest_text m sent) h.appends p)
 
 -- a run that is through goes out to its end, or a first part of it
 pub ends : {J A : Type 0} {G : Ghosts J} (n : ℕ) (old k : Coordinator J A G) (before mid after : Option (List ℕ)) (sent : ℕ) (r : Result (Unit {0}) TextError)
     → IsOfRun old k → IsThrough n (machine_by k) → IsAtRest k → AreOut before mid (machine_by k).lines sent
-    → OnOk r (Appends mid after (rest_text (machine_by k) sent)) → OnErr r (AppendsPart mid after (rest_text (machine_by k) sent)) → IfErr r IsCut → SendsTurns n old k before after r
+    → OnOk r (Appends mid after (rest_text (machine_by k) sent)) → OnErr r (AppendsLess mid after (rest_text (machine_by k) sent)) → IfErr r IsCut → SendsTurns n old k before after r
 ends n old k before mid after sent (Ok u) same through rests out text part cut = record {
   turns = record { same = same; through = through; rests = rests };
   text = all_end before mid after (machine_by k) sent out text;

@@ -7,7 +7,7 @@ use Rattle.chr_trace.specs.declared.state.Status.{Status}
 use Rattle.chr_core.specs.CoreView.{counts_view}
 use Rattle.chr_core.specs.declared.speculation.Counts.{Counts}
 use Rattle.chr_words.specs.Words.{Asks, Values, run, help, refused, asks_of, number_of}
-use Rattle.chr_run.specs.Output.{AppendsPart}
+use Rattle.chr_run.specs.Output.{AppendsLess, AppendsPart}
 use Rattle.chr_run.specs.Replays.{IsTextReplay}
 use Rattle.chr_run.specs.Reports.{Asked, Follows, budget_of, counts_text, is_silent, refusal_text, status_code, unread_text, workers_of}
 use Rattle.chr_run.specs.Texts.{IsTextRun}
@@ -73,10 +73,10 @@ module _ (written : List ℕ → List ℕ → Type 0) where
     pub is_known : IfSome known (λ whole. bytes ≡ whole)
     pub runs : RunsTexts bytes query a e
 
--- the text goes out, or as much of it as the output takes
+-- the text goes out, or as much of it as the output takes, where that is not all
 abbrev pub Shows : List ℕ → Effect → Type 0
 Shows text e = ((e.code ≡ 0) × Appends e.output_before e.output_after text × Keeps e.error_before e.error_after)
-    ⊎ ((e.code ≡ 2) × AppendsPart e.output_before e.output_after text × AppendsPart e.error_before e.error_after (refusal_text error.Write))
+    ⊎ ((e.code ≡ 2) × AppendsLess e.output_before e.output_after text × AppendsPart e.error_before e.error_after (refusal_text error.Write))
 
 -- the run that is asked for, by its program, its query and what else is said of it, or why there is none
 abbrev pub RunsWords : (List ℕ → List ℕ → Type 0) → Option (List ℕ) → Option (List ℕ) → Asked → (List ℕ → Option (List ℕ)) → Option (List ℕ) → Effect → Type 0

@@ -1,5 +1,5 @@
 -- What goes out to a writer.
-use Rattle.std.specs.Prelude.{◌≡◌, ℕ, List, ◌++◌, Option}
+use Rattle.std.specs.Prelude.{◌≡◌, ◌<◌, ℕ, List, ◌++◌, Option, length}
 use Rattle.std.specs.Io.KnownBytes.{Appends}
 
 -- the known bytes grow by what stands before the rest
@@ -12,3 +12,9 @@ pub record IsOut (old new : Option (List ℕ)) (bytes rest : List ℕ) : Type 0 
 pub record AppendsPart (old new : Option (List ℕ)) (bytes : List ℕ) : Type 0 where
   pub rest : List ℕ
   pub is_out : IsOut old new bytes rest
+
+-- the same, and something is left
+pub record AppendsLess (old new : Option (List ℕ)) (bytes : List ℕ) : Type 0 where
+  pub rest : List ℕ
+  pub is_out : IsOut old new bytes rest
+  pub left : 0 < length rest

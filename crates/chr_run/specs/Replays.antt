@@ -17,7 +17,7 @@ use Rattle.chr_core.specs.CoreView.{counts_view}
 use Rattle.chr_core.specs.Replaying.{IsRefusal}
 use Rattle.chr_core.specs.declared.error.ReplayError.TheVariants.{Memory}
 use Rattle.chr_core.specs.declared.speculation.Counts.{Counts}
-use Rattle.chr_run.specs.Output.{AppendsPart}
+use Rattle.chr_run.specs.Output.{AppendsLess}
 use Rattle.chr_run.specs.Texts.{IsTextError}
 use Rattle.chr_run.specs.declared.error.TextError.{TextError}
 use Rattle.chr_run.specs.declared.error.TextError.TheVariants.{Replay, Schedule, Write}
@@ -33,16 +33,16 @@ pub record ReplaysWhole (names : Names) (p : Rules) (q : Goals) (es : List Event
   pub status_is : status_view made.0 ≡ (after p (start q) (progress p (start q) es).steps).status
   pub counts_are : counts_view made.1 ≡ counts p (start q) es
 
--- why bytes did not go out whole: the writer failed after a first part of them, or memory was refused before
+-- why bytes did not go out whole: the writer failed after a first part of them, with some left, or memory was refused before
 abbrev pub IsUnsent : List ℕ → Option (List ℕ) → Option (List ℕ) → TextError → Type 0
-IsUnsent bytes old new Write = AppendsPart old new bytes
+IsUnsent bytes old new Write = AppendsLess old new bytes
 IsUnsent bytes old new (Replay Memory) = Keeps old new
 IsUnsent bytes old new _ = ⊥
 
 -- What the replay of a schedule of a query's run answers. The first event that is refused decides.
 abbrev pub IsReplayed : Names → Rules → Goals → List Event → Option (List ℕ) → Option (List ℕ) → Result (Status × Counts) TextError → Type 0
 IsReplayed names p q es old new (Ok made) = ReplaysWhole names p q es old new made
-IsReplayed names p q es old new (Err Write) = (first_refusal p (start q) no_progress 0 es ≡ None) × AppendsPart old new (replayed_text names p q es)
+IsReplayed names p q es old new (Err Write) = (first_refusal p (start q) no_progress 0 es ≡ None) × AppendsLess old new (replayed_text names p q es)
 IsReplayed names p q es old new (Err (Replay e)) = IsRefusal (first_refusal p (start q) no_progress 0 es) e × Keeps old new
 IsReplayed names p q es old new (Err e) = ⊥
 

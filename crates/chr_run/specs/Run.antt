@@ -6,7 +6,7 @@ use Rattle.chr_semantics.specs.Outcome.{run_refusal}
 use Rattle.chr_semantics.specs.Program.{Program, Query}
 use Rattle.chr_semantics.specs.Text.{text}
 use Rattle.chr_run.specs.Headline.{IsRun, PastLimits}
-use Rattle.chr_run.specs.Output.{AppendsPart}
+use Rattle.chr_run.specs.Output.{AppendsLess}
 use Rattle.chr_run.specs.Sending.{IsCut}
 use Rattle.chr_run.specs.declared.error.RunError.TheVariants.{BudgetTooLarge, TooManyWorkers}
 use Rattle.chr_run.specs.declared.error.TextError.{TextError}
@@ -14,11 +14,11 @@ use Rattle.chr_run.specs.declared.error.TextError.TheVariants as error
 use Rattle.chr_run.specs.declared.result.Run.{Run}
 
 module _ {A : Type 0} (names : Names) (p : Program) (q : Query) (n workers : ℕ) (old new : Option (List ℕ)) where
-  -- What an answer of a run of n transitions says of the bytes that the writer tells: all of its text is out, or a first part of it after
-  -- Write and want of memory.
+  -- What an answer of a run of n transitions says of the bytes that the writer tells: all of its text is out, or a first part of it, and not
+  -- all, after Write and want of memory.
   abbrev pub Sends : Result (Run A) TextError → Type 0
   Sends (Ok run) = Appends old new (text names p q n) × IsRun names p q n workers run
-  Sends (Err e) = IsCut e × AppendsPart old new (text names p q n)
+  Sends (Err e) = IsCut e × AppendsLess old new (text names p q n)
 
   -- the same of a run that the limits may refuse: then nothing goes out; a program and a query that are there are never refused as texts
   abbrev pub IsInto : Result (Run A) TextError → Type 0

@@ -5,9 +5,9 @@ use Rattle.chr_semantics.specs.State.{running}
 use Rattle.chr_semantics.specs.Text.{lines_text}
 use Rattle.chr_shelf.specs.declared.run.Run.{Ghosts}
 use Rattle.chr_machine.specs.Model.{Model}
-use Rattle.chr_policy.specs.CoordinatorView.{IsAtRest, machine_by, names_by, query_by}
+use Rattle.chr_policy.specs.CoordinatorView.{IsAtRest, machine_by, names_by, query_by, workers_by}
 use Rattle.chr_policy.specs.declared.coordinator.Coordinator.{Coordinator}
-use Rattle.chr_run.specs.Output.{AppendsPart}
+use Rattle.chr_run.specs.Output.{AppendsLess, AppendsPart}
 use Rattle.chr_run.specs.Sending.{IsCut, whole_text}
 use Rattle.chr_run.specs.declared.error.TextError.{TextError}
 
@@ -16,16 +16,16 @@ pub record IsThrough (n : ℕ) (m : Model) : Type 0 where
   pub within : m.steps ≤ n
   pub all : (m.steps ≡ n) ⊎ (m.status ≢ running)
 
--- A first part of the text of n transitions is out: of the lines of some of them, or of all lines.
+-- A first part of the text of n transitions is out, and not all of it: of the lines of some of them, or of all lines with the end.
 abbrev pub IsPart : ℕ → Model → Option (List ℕ) → Option (List ℕ) → Type 0
-IsPart n m old new = ((m.steps ≤ n) × AppendsPart old new (lines_text m.lines)) ⊎ (IsThrough n m × AppendsPart old new (whole_text m))
+IsPart n m old new = ((m.steps ≤ n) × AppendsPart old new (lines_text m.lines)) ⊎ (IsThrough n m × AppendsLess old new (whole_text m))
 
 module _ {J A : Type 0} {G : Ghosts J} where
   -- it is the same run
   pub record IsOfRun (old new : Coordinator J A G) : Type 0 where
     pub names_are : names_by new ≡ names_by old
     pub query_is : query_by new ≡ query_by old
-    pub workers_are : new.workers ≡ old.workers
+    pub workers_are : workers_by new ≡ workers_by old
 
   -- where nothing is refused, the run is through with n transitions
   pub record Turns {X E : Type 0} (n : ℕ) (old new : Coordinator J A G) (r : Result X E) : Type 0 where

@@ -3,11 +3,11 @@ use chr_core::ReplayError;
 use chr_read::ReadError;
 use chr_rules::RuleError;
 use chr_schedule::ScheduleError;
-use std::error::Error;
-use std::fmt;
+use thiserror::Error;
 
 /// Why a run was refused. It is displayed as its name.
-#[derive(Clone, Copy, PartialEq, Eq, Debug, Drop)]
+#[derive(Clone, Copy, PartialEq, Eq, Debug, Drop, Error)]
+#[error("{}", self.word())]
 pub enum RunError {
     /// The budget is above 1,000,000.
     BudgetTooLarge,
@@ -33,58 +33,31 @@ impl RunError {
     }
 }
 
-impl fmt::Display for RunError {
-    ghost use Rattle.std.specs.Prelude.{Some};
-    ghost use Rattle.chr_run.specs.ErrorText.{run_error_text};
-
-    ghost output = { λ error. Some (run_error_text error) };
-
-    fn fmt<W: fmt::Write>(&self, f: &mut fmt::Formatter<W>) -> fmt::Result {
-        f.write_str(self.word())
-    }
-}
-
-impl Error for RunError {}
-
 /// Why the text of a run, or of a replay, did not go out whole. It is displayed as `chr` says it.
-#[derive(Clone, Copy, PartialEq, Eq, Debug, Drop)]
+#[derive(Clone, Copy, PartialEq, Eq, Debug, Drop, Error)]
 pub enum TextError {
     /// The run is refused.
+    #[error(transparent)]
     Run(RunError),
     /// The text of the program is not read.
+    #[error("program {0}")]
     Program(ReadError),
     /// There is a mistake in the program.
+    #[error("program {0}")]
     Rules(RuleError),
     /// The text of the query is not read.
+    #[error("query {0}")]
     Query(ReadError),
     /// There is a mistake in the query.
+    #[error("query line {}: {}", .0.line, .0.kind)]
     Goals(RuleError),
     /// The text of the schedule is not read.
+    #[error("schedule {0}")]
     Schedule(ScheduleError),
     /// The schedule is not replayed.
+    #[error(transparent)]
     Replay(ReplayError),
     /// The writer failed, or took no byte of some that were left.
+    #[error("cannot write")]
     Write,
 }
-
-impl fmt::Display for TextError {
-    ghost use Rattle.std.specs.Prelude.{Some};
-    ghost use Rattle.chr_run.specs.ErrorText.{text_error_text};
-
-    ghost output = { λ error. Some (text_error_text error) };
-
-    fn fmt<W: fmt::Write>(&self, f: &mut fmt::Formatter<W>) -> fmt::Result {
-        match self {
-            TextError::Run(error) => write!(f, "{error}"),
-            TextError::Program(error) => write!(f, "program {error}"),
-            TextError::Rules(error) => write!(f, "program {error}"),
-            TextError::Query(error) => write!(f, "query {error}"),
-            TextError::Goals(error) => write!(f, "query line {}: {}", error.line, error.kind),
-            TextError::Schedule(error) => write!(f, "schedule {error}"),
-            TextError::Replay(error) => write!(f, "{error}"),
-            TextError::Write => f.write_str("cannot write"),
-        }
-    }
-}
-
-impl Error for TextError {}

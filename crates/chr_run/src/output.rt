@@ -1,7 +1,7 @@
 //! Writing bytes out.
 ghost use Rattle.std.specs.Prelude.{◌≡◌, ◌++◌, List, ℕ, OnErr, OnOk};
 ghost use Rattle.std.specs.Io.KnownBytes.{Appends};
-ghost use Rattle.chr_run.specs.Output.{AppendsPart};
+ghost use Rattle.chr_run.specs.Output.{AppendsLess};
 
 use std::io::Write;
 
@@ -9,10 +9,10 @@ use std::io::Write;
 #[derive(Clone, Copy, PartialEq, Eq, Debug, Drop)]
 pub struct Unwritten;
 
-/// Writes all the bytes, or a first part of them and then the error.
+/// Writes all the bytes, or a first part of them and then the error, where some are left.
 pub fn write_bytes<W: Write>(writer: &mut W, bytes: &[u8]) -> Result<(), Unwritten>
     ensures ok { OnOk result (Appends (W.contents writer.old) (W.contents writer.new) bytes.now) }
-    ensures err { OnErr result (AppendsPart (W.contents writer.old) (W.contents writer.new) bytes.now) }
+    ensures err { OnErr result (AppendsLess (W.contents writer.old) (W.contents writer.new) bytes.now) }
 {
     let mut rest = bytes;
     while !rest.is_empty() {

@@ -1,11 +1,10 @@
 //! The text of a run, which goes out while the run goes on.
-ghost use Rattle.std.specs.Prelude.{◌≡◌, ◌≤◌, IfErr, IfOk, OnErr, OnOk, length};
+ghost use Rattle.std.specs.Prelude.{◌≡◌, ◌≤◌, IfErr, IfOk, OnErr, OnOk, drop, length};
 ghost use Rattle.std.specs.Io.KnownBytes.{Appends};
 ghost use Rattle.chr_semantics.specs.Text.{lines_text};
 ghost use Rattle.chr_semantics.specs.declared.limits.TheConstants.{MAX_TRANSITIONS};
-ghost use Rattle.chr_trace.specs.Texts.{texts};
 ghost use Rattle.chr_machine.specs.MachineView.{machine_view};
-ghost use Rattle.chr_run.specs.Output.{AppendsPart};
+ghost use Rattle.chr_run.specs.Output.{AppendsLess, AppendsPart};
 ghost use Rattle.chr_policy.specs.CoordinatorView.{IsAtRest, machine_by};
 ghost use Rattle.chr_run.specs.Sending.{AreOut, IsCut, rest_text};
 ghost use Rattle.chr_run.specs.Turns.{SendsTurns, Turns};
@@ -25,6 +24,7 @@ use std::sync::Wait;
 fn send_bytes<W: Write>(bytes: &[u8], writer: &mut W) -> Result<(), TextError>
     ensures ok { OnOk result (Appends (W.contents writer.old) (W.contents writer.new) bytes.now) }
     ensures part { OnErr result (AppendsPart (W.contents writer.old) (W.contents writer.new) bytes.now) }
+    ensures less { OnErr result (AppendsLess (W.contents writer.old) (W.contents writer.new) bytes.now) }
     ensures err { IfErr result IsCut }
 {
     match write_bytes(writer, bytes) {
@@ -33,23 +33,42 @@ fn send_bytes<W: Write>(bytes: &[u8], writer: &mut W) -> Result<(), TextError>
     }
 }
 
-/// Writes lines out, each with its line feed, or a first part of them. The buffer is used for it.
-fn send_lines<A: Allocator, W: Write>(
-    lines: &[Vec<u8, A>],
+/// Writes the lines from the `sent`-th on into the buffer, in place of what it has.
+fn write_further<A: Allocator + Copy>(
+    machine: &Machine<'_, A>,
+    sent: usize,
     buffer: &mut Vec<u8, A>,
-    writer: &mut W,
 ) -> Result<(), TextError>
-    ensures ok { OnOk result
-        (Appends (W.contents writer.old) (W.contents writer.new) (lines_text (texts lines.now))) }
-    ensures part { OnErr result
-        (AppendsPart (W.contents writer.old) (W.contents writer.new) (lines_text (texts lines.now))) }
+    requires { sent ≤ length (machine_view machine.now).lines }
+    ensures ok { OnOk result (buffer.new.items ≡ lines_text (drop sent (machine_view machine.now).lines)) }
     ensures err { IfErr result IsCut }
 {
+    let lines = machine.lines();
     buffer.clear();
-    match write_lines(lines, buffer) {
-        Ok(()) => send_bytes(buffer.as_slice(), writer),
+    match write_lines(&lines[sent..], buffer) {
+        Ok(()) => Ok(()),
         Err(_) => Err(TextError::Run(RunError::Memory)),
     }
+}
+
+/// Sends out the lines from the `sent`-th on, or a first part of them. The answer is how many lines there are. The buffer is used for it.
+fn send_further<A: Allocator + Copy, W: Write>(
+    machine: &Machine<'_, A>,
+    sent: usize,
+    buffer: &mut Vec<u8, A>,
+    writer: &mut W,
+) -> Result<usize, TextError>
+    requires { sent ≤ length (machine_view machine.now).lines }
+    ensures count { IfOk result (λ count. count ≡ length (machine_view machine.now).lines) }
+    ensures ok { OnOk result (Appends (W.contents writer.old) (W.contents writer.new)
+        (lines_text (drop sent (machine_view machine.now).lines))) }
+    ensures part { OnErr result (AppendsPart (W.contents writer.old) (W.contents writer.new)
+        (lines_text (drop sent (machine_view machine.now).lines))) }
+    ensures err { IfErr result IsCut }
+{
+    write_further(machine, sent, buffer)?;
+    send_bytes(buffer.as_slice(), writer)?;
+    Ok(machine.lines().len())
 }
 
 /// Makes the first n transitions, or as many as there are. Each line is out before the next transition; the answer is how many are out.
@@ -78,11 +97,7 @@ fn perform<J: Name, A: Allocator + Copy, G: Gate, W: Write>(
     let mut sent = 0;
     let mut made = 0;
     while made < n {
-        let lines = coordinator.machine().lines();
-        match send_lines(&lines[sent..], buffer, writer) {
-            Err(error) => return Err(error),
-            Ok(()) => sent = lines.len(),
-        }
+        sent = send_further(coordinator.machine(), sent, buffer, writer)?;
         match coordinator.turn(rt, shelf, board, gate) {
             Err(_) => return Err(TextError::Run(RunError::Memory)),
             Ok(Stepped::Moved) => made += 1,
@@ -93,21 +108,17 @@ fn perform<J: Name, A: Allocator + Copy, G: Gate, W: Write>(
     Ok(sent)
 }
 
-/// Writes out the lines from the `sent`-th on, and the text after the trace, or a first part of both.
-fn finish<A: Allocator + Copy, W: Write>(
+/// Writes the lines from the `sent`-th on and the text after the trace into the buffer, in place of what it has.
+fn write_rest<A: Allocator + Copy>(
     machine: &Machine<'_, A>,
     sent: usize,
     buffer: &mut Vec<u8, A>,
-    writer: &mut W,
 ) -> Result<(), TextError>
     requires { sent ≤ length (machine_view machine.now).lines }
-    ensures ok { OnOk result (Appends (W.contents writer.old) (W.contents writer.new)
-        (rest_text (machine_view machine.now) sent)) }
-    ensures part { OnErr result (AppendsPart (W.contents writer.old) (W.contents writer.new)
-        (rest_text (machine_view machine.now) sent)) }
+    ensures ok { OnOk result (buffer.new.items ≡ rest_text (machine_view machine.now) sent) }
     ensures err { IfErr result IsCut }
 {
-    let lines = machine.lines();
+    write_further(machine, sent, buffer)?;
     let ending = Ending {
         program: machine.program(),
         var_names: machine.var_names(),
@@ -117,14 +128,29 @@ fn finish<A: Allocator + Copy, W: Write>(
         bindings: machine.bindings(),
         history: machine.history().list(),
     };
-    buffer.clear();
-    let Ok(()) = write_lines(&lines[sent..], buffer) else {
-        return Err(TextError::Run(RunError::Memory));
-    };
     match ending.write(buffer) {
-        Ok(()) => send_bytes(buffer.as_slice(), writer),
+        Ok(()) => Ok(()),
         Err(_) => Err(TextError::Run(RunError::Memory)),
     }
+}
+
+/// Sends out the lines from the `sent`-th on, and the text after the trace, or a first part of both, which is not all. The buffer is used
+/// for it.
+fn finish<A: Allocator + Copy, W: Write>(
+    machine: &Machine<'_, A>,
+    sent: usize,
+    buffer: &mut Vec<u8, A>,
+    writer: &mut W,
+) -> Result<(), TextError>
+    requires { sent ≤ length (machine_view machine.now).lines }
+    ensures ok { OnOk result (Appends (W.contents writer.old) (W.contents writer.new)
+        (rest_text (machine_view machine.now) sent)) }
+    ensures less { OnErr result (AppendsLess (W.contents writer.old) (W.contents writer.new)
+        (rest_text (machine_view machine.now) sent)) }
+    ensures err { IfErr result IsCut }
+{
+    write_rest(machine, sent, buffer)?;
+    send_bytes(buffer.as_slice(), writer)
 }
 
 /// The run of n transitions of a coordinator that has made none, whose text goes out while it goes on. The buffer is used for it.

@@ -15,6 +15,7 @@ use std::sync::Wait;
 use std::test::Fail;
 use std::thread::Threads;
 
+mod displays;
 mod gates;
 mod inputs;
 mod marks;

@@ -3,11 +3,11 @@ ghost use Rattle.std.specs.Prelude.{◌≡◌};
 ghost use Rattle.chr_schedule.specs.declared.error.ScheduleErrorKind.TheVariants.{Memory as OutOfMemory};
 
 use std::alloc::AllocError;
-use std::error::Error;
-use std::fmt;
+use thiserror::Error;
 
 /// What is wrong with a line. It is displayed as its name.
-#[derive(Clone, Copy, PartialEq, Eq, Debug, Drop)]
+#[derive(Clone, Copy, PartialEq, Eq, Debug, Drop, Error)]
+#[error("{}", self.word())]
 pub enum ScheduleErrorKind {
     /// There is no such line, or its line feed is missing.
     BadLine,
@@ -36,19 +36,6 @@ impl ScheduleErrorKind {
     }
 }
 
-impl fmt::Display for ScheduleErrorKind {
-    ghost use Rattle.std.specs.Prelude.{Some};
-    ghost use Rattle.chr_schedule.specs.ErrorView.{kind_text};
-
-    ghost output = { λ kind. Some (kind_text kind) };
-
-    fn fmt<W: fmt::Write>(&self, f: &mut fmt::Formatter<W>) -> fmt::Result {
-        f.write_str(self.word())
-    }
-}
-
-impl Error for ScheduleErrorKind {}
-
 impl From<AllocError> for ScheduleErrorKind {
     ghost from_gives = { λ _ e. e ≡ OutOfMemory };
 
@@ -58,7 +45,8 @@ impl From<AllocError> for ScheduleErrorKind {
 }
 
 /// A text is no schedule: what is wrong first, and where. It is displayed as its line and the name of its kind.
-#[derive(Clone, Copy, PartialEq, Eq, Debug, Drop)]
+#[derive(Clone, Copy, PartialEq, Eq, Debug, Drop, Error)]
+#[error("line {line}: {kind}")]
 pub struct ScheduleError {
     /// What is wrong.
     pub kind: ScheduleErrorKind,
@@ -82,16 +70,3 @@ impl ScheduleError {
         ScheduleError { kind, line }
     }
 }
-
-impl fmt::Display for ScheduleError {
-    ghost use Rattle.std.specs.Prelude.{Some};
-    ghost use Rattle.chr_schedule.specs.ErrorView.{schedule_error_text};
-
-    ghost output = { λ error. Some (schedule_error_text error) };
-
-    fn fmt<W: fmt::Write>(&self, f: &mut fmt::Formatter<W>) -> fmt::Result {
-        write!(f, "line {}: {}", self.line, self.kind)
-    }
-}
-
-impl Error for ScheduleError {}

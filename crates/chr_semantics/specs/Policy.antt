@@ -1,10 +1,11 @@
 -- What a run with workers does with its events: where it publishes, and what follows what (this project's own).
-use Rattle.std.specs.Prelude.{◌≡◌, ◌≤◌, ℕ, ◌+◌, Bool, true, false, cond, not, ◌&&◌, ◌||◌, nat_le, List, [], ◌∷◌, Option, Some, None, is_some, length}
+use Rattle.std.specs.Prelude.{◌≡◌, ◌<◌, ◌≤◌, ℕ, ◌+◌, Bool, true, false, cond, not, ◌&&◌, ◌||◌, nat_le, List, [], ◌∷◌, Option, Some, None, is_some, length}
 use Rattle.chr_semantics.specs.Program.{Program}
 use Rattle.chr_semantics.specs.State.{State}
-use Rattle.chr_semantics.specs.Step.{after}
+use Rattle.chr_semantics.specs.Step.{after, steps}
 use Rattle.chr_semantics.specs.Tasks.{Task, needed_task, tasks}
-use Rattle.chr_semantics.specs.Schedule.{Counts, Event, publish, arrive, move, Progress, counts, first_refusal, no_progress, is_served, next, state_of}
+use Rattle.chr_semantics.specs.Schedule.{Counts, Event, publish, arrive, move, Progress, counts, first_refusal, no_progress, is_served, next, progress, state_of}
+use Rattle.chr_semantics.specs.declared.limits.TheConstants.{MAX_ROUNDS}
 
 -- the next Step needs a search that no kept answer serves, and there are two tasks or more
 abbrev pub is_place_for : Program → State → Progress → Option Task → Bool
@@ -37,9 +38,9 @@ may_follow p q g publish = not g.published && (not g.arrived && is_place p q g.s
 may_follow p q g (arrive r x) = true
 may_follow p q g move = not g.arrived || is_some (needed_task p (after p q g.now.steps))
 
--- each event may follow, and the schedule does not end with an Arrive
+-- each event may follow, and the schedule ends with a Step, if it has one
 abbrev pub keeps_policy : Program → State → Stage → List Event → Bool
-keeps_policy p q g [] = not g.arrived
+keeps_policy p q g [] = not (g.published || g.arrived)
 keeps_policy p q g (e ∷ es) = may_follow p q g e && keeps_policy p q (with_event p q g e) es
 
 -- the place before a Step has no Publish
@@ -58,15 +59,19 @@ has_steps_alone (publish ∷ es) = false
 has_steps_alone (arrive r x ∷ es) = false
 has_steps_alone (move ∷ es) = has_steps_alone es
 
--- the schedule of a run from the start q with so many workers, of which so many calls of tasks and publish were refused
+-- The schedule of a run from the start q with so many workers, of which so many calls of tasks and publish were refused: each missed a
+-- place. After the last round a run looks for no place, and each search counts as such a call.
 pub record IsPolicy (p : Program) (q : State) (workers skipped : ℕ) (es : List Event) : Type 0 where
-  pub alone : workers ≡ 0 → has_steps_alone es ≡ true
+  pub alone : workers ≡ 0 → (has_steps_alone es ≡ true) × (skipped ≡ 0)
   pub keeps : keeps_policy p q first_stage es ≡ true
   pub missed : (workers ≡ 0 → ⊥) → missed_places p q first_stage es ≤ skipped
+  pub all_missed : (workers ≡ 0 → ⊥) → length (progress p q es).rounds < MAX_ROUNDS → skipped ≡ missed_places p q first_stage es
+  pub few : skipped ≤ (progress p q es).steps
 
--- what ties a run of n transitions to its schedule: no event of it is refused, its Steps lead to where these transitions do, and the counts
--- are the schedule's
+-- What ties a run of n transitions to its schedule: no event of it is refused, its Steps are these transitions, none is idle, and the counts
+-- are the schedule's.
 pub record IsTied (p : Program) (q : State) (n : ℕ) (c : Counts) (es : List Event) : Type 0 where
   pub none_refused : first_refusal p q no_progress 0 es ≡ None
   pub same_state : state_of p q es ≡ after p q n
+  pub none_idle : (progress p q es).steps ≡ steps p q n
   pub counts_are : c ≡ counts p q es

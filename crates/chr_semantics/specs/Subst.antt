@@ -46,7 +46,8 @@ abbrev mutual
 abbrev pub Solves : (ℕ → Tree) → Subst → Type 0
 Solves f s = (x : ℕ) → instance f (value_at s x) ≡ f x
 
--- a substitution is solved where no variable that it binds occurs in what a variable stands for
+-- A substitution is solved where no variable that it binds occurs in what a variable stands for. A pair that an earlier one of its variable
+-- hides counts for nothing, as in `value_at`.
 abbrev pub IsSolved : Subst → Type 0
 IsSolved s = (x y : ℕ) → binds_var s y ≡ true → occurs y (value_at s x) ≡ false
 

@@ -25,6 +25,8 @@ pub fn places()
     ensures arrive_last { let e = speculating in
         keeps_policy e.program (start e.query) first_stage (published_after 6 (arrive 0 0 ∷ []) 0)
         ≡ false }
+    ensures publish_last { let e = speculating in
+        keeps_policy e.program (start e.query) first_stage (published_after 6 [] 0) ≡ false }
 {}
 
 /// The limits of a run, the budget first.

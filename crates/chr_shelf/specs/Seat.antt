@@ -23,7 +23,14 @@ module _ {J A : Type 0} {G : Ghosts J} where
   abbrev pub shots_in : List (Ticket J A G) → List (Snapshot A)
   shots_in ts = map shot_of ts
 
-  -- the task of an answer, and the identities that were found for it
+  -- the ticket of the snapshot where the task of an answer stands, and the index of the task there
+  abbrev pub ticket_of : Answer J A G → Ticket J A G
+  ticket_of a = a.ticket
+
+  abbrev pub index_of : Answer J A G → ℕ
+  index_of a = a.index
+
+  -- the task, and the identities that were found for it
   abbrev pub task_of : Answer J A G → tasks.Task
   task_of a = task_view a.task
 

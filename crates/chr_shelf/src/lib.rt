@@ -4,8 +4,10 @@
 mod answer;
 mod run;
 mod shelf;
+mod solving;
 
-pub use answer::{Answer, Unsolved, solve};
+pub use answer::Answer;
 pub use chr_term::Memory;
 pub use run::Run;
 pub use shelf::{Shelf, Ticket};
+pub use solving::{Unsolved, solve};

@@ -54,7 +54,7 @@ impl<'a, A: Allocator + Copy> Scribe<'a, A> {
     {
         match goal {
             Goal::Chr(sym, args) => self.write_atom(*sym, args.as_slice(), out),
-            Goal::BuiltIn(op, left, right) => {
+            Goal::Told(op, left, right) => {
                 self.write_term(left, out)?;
                 write_text(op.sign(), out)?;
                 self.write_term(right, out)

@@ -4,7 +4,7 @@ ghost use Rattle.std.specs.Prelude.{◌≡◌};
 ghost use Rattle.chr_rules.specs.ProgramView.{rules_of};
 ghost use Rattle.chr_rules.specs.RuleView.{query_view};
 ghost use Rattle.chr_semantics.specs.Bounds.{IsQueryBounded};
-ghost use Rattle.chr_shelf.specs.Seat.{place_of};
+ghost use Rattle.chr_shelf.specs.Seat.{index_of, place_of, ticket_of};
 ghost use Rattle.chr_board.specs.RowView.{slip_view};
 
 use super::*;
@@ -76,8 +76,8 @@ fn answer_to<J: Run, A: Allocator + Copy>(
 ) -> Answer<J, A>
     requires name { shelf.now ≡ J.shelf }
     requires rules { rules_of program.now ≡ J.rules }
-    ensures place { place_of result.ticket ≡ (slip_view slip.now).place }
-    ensures index { result.index ≡ (slip_view slip.now).index }
+    ensures place { place_of (ticket_of result) ≡ (slip_view slip.now).place }
+    ensures index { index_of result ≡ (slip_view slip.now).index }
 {
     let ticket = shelf.ticket::<J>(slip.place()).expect(rt, "a ticket");
     scene.turn.begin();

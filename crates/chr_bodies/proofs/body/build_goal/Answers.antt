@@ -5,8 +5,8 @@ use Rattle.chr_rules.specs.RuleView.{goal_view, rule_view}
 use Rattle.chr_bodies.proofs.Goals.{sides_instance}
 use Rattle.chr_bodies.proofs.body.build_goal.Goals as goal
 
-pub returns-in_ok-right-in-BuiltIn : goal.returns-in_ok-right-in-BuiltIn
-returns-in_ok-right-in-BuiltIn g c m a =
+pub returns-in_ok-right-in-Told : goal.returns-in_ok-right-in-Told
+returns-in_ok-right-in-Told g c m a =
     let f = in_body (rule_view c.args.rule.now) m c.args.next in
-    rw (c.in_ok-left-in-BuiltIn.ensures m a, c.in_ok-right-in-BuiltIn.ensures m a)
-    (sides_instance f c.in-BuiltIn.op (view c.in-BuiltIn.left) (view c.in-BuiltIn.right) ∙ ap (λ g. goal_instance f (goal_view g)) (sym c.in-BuiltIn.is))
+    rw (c.in_ok-left-in-Told.ensures m a, c.in_ok-right-in-Told.ensures m a)
+    (sides_instance f c.in-Told.op (view c.in-Told.left) (view c.in-Told.right) ∙ ap (λ g. goal_instance f (goal_view g)) (sym c.in-Told.is))

@@ -1,9 +1,12 @@
 use Rattle.std.proofs.Common.{ap, subst, sym, ◌∙◌, ◌≡◌}
 use Rattle.std.specs.Prelude.{Option}
+use Rattle.chr_semantics.specs.Calls.{rise_by_calls}
 use Rattle.chr_semantics.specs.Names.{Names}
-use Rattle.chr_semantics.specs.Outcome.{outcome_after}
+use Rattle.chr_semantics.specs.Outcome.{Outcome, outcome_after}
 use Rattle.chr_semantics.specs.Schedule.{Refusal, counts, first_refusal, no_progress, progress}
+use Rattle.chr_semantics.specs.Stamps.{stamp}
 use Rattle.chr_semantics.specs.State.{start}
+use Rattle.chr_semantics.specs.Step.{steps}
 use Rattle.chr_semantics.proofs.IdleLaw.{idle_law}
 use Rattle.chr_rounds.proofs.Replay.{replay_law}
 use Rattle.chr_rules.specs.ProgramView.{names_of, rules_of}
@@ -31,12 +34,19 @@ returns-clause-ok g c =
     let query = c.replay_all.ensures.query ∙ c.in_ok-core.ensures.query in
     let names = c.replay_all.ensures.names ∙ c.in_ok-core.ensures.names in
     let events = c.in_ok-replay_all.ensures.ok ∙ (λ k. Rattle.chr_semantics.specs.Schedule.performed p (start (c.in_ok-core.ensures.query k)) all) in
+    let same = replay_law.outcome (names_of c.args.program.now) p r all in
     record {
       accepted = (λ k. first_refusal (rules k) (start (sym c.in_ok-core.ensures.query k)) no_progress 0 all) ∙ c.in_ok-replay_all.ensures.none;
-      outcome = c.finish-outcome.ensures.outcome
-          ∙ (λ k. outcome_after (names k) p (query k) (progress p (start (query k)) (events k)).steps)
-          ∙ replay_law.outcome (names_of c.args.program.now) p r all
-          ∙ (λ k. outcome_after (names_of c.args.program.now) (sym rules k) r (progress (sym rules k) (start r) all).steps);
+      outcome = record {
+        outcome_is = c.finish-outcome.ensures.outcome.outcome_is
+            ∙ (λ k. outcome_after (names k) p (query k) (progress p (start (query k)) (events k)).steps)
+            ∙ same
+            ∙ (λ k. outcome_after (names_of c.args.program.now) (sym rules k) r (progress (sym rules k) (start r) all).steps);
+        stamps_are = λ x. c.finish-outcome.ensures.outcome.stamps_are x
+            ∙ (λ k. stamp p (rise_by_calls p) (start (query k)) (steps p (start (query k)) (progress p (start (query k)) (events k)).steps) x)
+            ∙ ap (λ (o : Outcome). stamp p (rise_by_calls p) (start r) o.steps x) same
+            ∙ (λ k. stamp (sym rules k) (rise_by_calls (sym rules k)) (start r) (steps (sym rules k) (start r) (progress (sym rules k) (start r) all).steps) x);
+      };
       counts_are = c.counts-counts.ensures
           ∙ (λ k. counts p (start (query k)) (events k))
           ∙ idle_law.counts_same p r all

@@ -123,52 +123,64 @@ pub product-returns-in_err-first-clause-reads : goal.product-returns-in_err-firs
 product-returns-in_err-first-clause-reads g t c s k h =
     halts _ _ _ c.from_residual.result c.in_err-first.field-0.0 c.from_residual.ensures.1 refl (c.in_err-first.ensures.reads (record { sum = s; product = None }) k h)
 
-pub product-returns-in_err-operand-clause-reads : goal.product-returns-in_err-operand-clause-reads
-product-returns-in_err-operand-clause-reads g t c s k h =
-    halts _ _ _ c.from_residual-in_err-operand.result c.in_err-operand.field-0.0 c.from_residual-in_err-operand.ensures.1
-    (c.loop-operator.invariant.reads s k h ∙ ap (run limited_room (have s _ k)) c.in-Some.ensures.first.are)
-    (c.in_err-operand.ensures.reads (record { sum = s; product = Some (_, multiplicative_view c.in-Some.operator) }) k h)
+pub product-returns-in_err-operands-clause-reads : goal.product-returns-in_err-operands-clause-reads
+product-returns-in_err-operands-clause-reads g t c s k h =
+    halts _ _ _ c.from_residual-in_err-operands.result c.in_err-operands.field-0.0 c.from_residual-in_err-operands.ensures.1
+    (c.in_ok-first.ensures.reads (record { sum = s; product = None }) k h) (c.in_err-operands.ensures.reads s (view c.in_ok-first.first) k h)
 
 pub product-returns-clause-reads : goal.product-returns-clause-reads
 product-returns-clause-reads g t c s k h =
-    c.loop-operator.invariant.reads s k h
-    ∙ ap (λ e. run limited_room (have s e k) (placed_views c.loop-operator.rest.now)) (sym c.in_ok-chain_of.ensures)
+    c.in_ok-first.ensures.reads (record { sum = s; product = None }) k h
+    ∙ c.in_ok-operands.ensures.reads s (view c.in_ok-first.first) k h
+    ∙ ap (λ e. run limited_room (have s e k) (placed_views c.in_ok-operands.rest.now)) (sym c.in_ok-chain_of.ensures)
+
+pub further_primaries-returns-in_err-operand-clause-reads : goal.further_primaries-returns-in_err-operand-clause-reads
+further_primaries-returns-in_err-operand-clause-reads g t c s e k h =
+    halts _ _ _ c.from_residual.result c.in_err-operand.field-0.0 c.from_residual.ensures.1
+    (c.loop-operator.invariant.reads s e k h ∙ ap (run limited_room (have s _ k)) c.in-Some.ensures.first.are)
+    (c.in_err-operand.ensures.reads (record { sum = s; product = Some (_, multiplicative_view c.in-Some.operator) }) k h)
+
+pub further_primaries-loop-operator-preserved : goal.further_primaries-loop-operator-preserved
+further_primaries-loop-operator-preserved g t c =
+    let operator = multiplicative_view c.in-Some.operator in
+    record {
+      reads = λ s e k h. c.loop-operator.invariant.reads s e k h
+          ∙ ap (run limited_room (have s _ k)) c.in-Some.ensures.first.are
+          ∙ c.in_ok-operand.ensures.reads (record { sum = s; product = Some (_, operator) }) k h
+          ∙ ap (λ e. run limited_room (have s e k) (placed_views c.in_ok-operand.others.now)) (chain_grown _ _ _ _ c.in_ok-push.ensures.items);
+      within = omega (arith, c.loop-operator.invariant.within, c.in-Some.ensures.shorter, c.in_ok-operand.ensures.shorter);
+    }
 
 pub sum-returns-in_err-first-clause-reads : goal.sum-returns-in_err-first-clause-reads
 sum-returns-in_err-first-clause-reads g t c k h =
     halts _ _ _ c.from_residual.result c.in_err-first.field-0.0 c.from_residual.ensures.1 refl (c.in_err-first.ensures.reads None k h)
 
-pub sum-returns-in_err-operand-clause-reads : goal.sum-returns-in_err-operand-clause-reads
-sum-returns-in_err-operand-clause-reads g t c k h =
-    halts _ _ _ c.from_residual-in_err-operand.result c.in_err-operand.field-0.0 c.from_residual-in_err-operand.ensures.1
-    (c.loop-operator.invariant.reads k h ∙ ap (run limited_room (have None _ k)) c.in-Some.ensures.first.are)
-    (c.in_err-operand.ensures.reads (Some (_, additive_view c.in-Some.operator)) k h)
+pub sum-returns-in_err-operands-clause-reads : goal.sum-returns-in_err-operands-clause-reads
+sum-returns-in_err-operands-clause-reads g t c k h =
+    halts _ _ _ c.from_residual-in_err-operands.result c.in_err-operands.field-0.0 c.from_residual-in_err-operands.ensures.1
+    (c.in_ok-first.ensures.reads None k h) (c.in_err-operands.ensures.reads (view c.in_ok-first.first) k h)
 
 pub sum-returns-clause-reads : goal.sum-returns-clause-reads
 sum-returns-clause-reads g t c k h =
-    c.loop-operator.invariant.reads k h
-    ∙ ap (λ e. run limited_room (have None e k) (placed_views c.loop-operator.rest.now)) (sym c.in_ok-chain_of.ensures)
+    c.in_ok-first.ensures.reads None k h
+    ∙ c.in_ok-operands.ensures.reads (view c.in_ok-first.first) k h
+    ∙ ap (λ e. run limited_room (have None e k) (placed_views c.in_ok-operands.rest.now)) (sym c.in_ok-chain_of.ensures)
 
-pub product-loop-operator-preserved : goal.product-loop-operator-preserved
-product-loop-operator-preserved g t c =
-    let operator = multiplicative_view c.in-Some.operator in
-    record {
-      reads = λ s k h. c.loop-operator.invariant.reads s k h
-          ∙ ap (run limited_room (have s _ k)) c.in-Some.ensures.first.are
-          ∙ c.in_ok-operand.ensures.reads (record { sum = s; product = Some (_, operator) }) k h
-          ∙ ap (λ e. run limited_room (have s e k) (placed_views c.in_ok-operand.others.now)) (chain_grown _ _ _ _ c.in_ok-push.ensures.items);
-      shorter = omega (arith, c.loop-operator.invariant.shorter, c.in-Some.ensures.shorter, c.in_ok-operand.ensures.shorter);
-    }
+pub further_products-returns-in_err-operand-clause-reads : goal.further_products-returns-in_err-operand-clause-reads
+further_products-returns-in_err-operand-clause-reads g t c e k h =
+    halts _ _ _ c.from_residual.result c.in_err-operand.field-0.0 c.from_residual.ensures.1
+    (c.loop-operator.invariant.reads e k h ∙ ap (run limited_room (have None _ k)) c.in-Some.ensures.first.are)
+    (c.in_err-operand.ensures.reads (Some (_, additive_view c.in-Some.operator)) k h)
 
-pub sum-loop-operator-preserved : goal.sum-loop-operator-preserved
-sum-loop-operator-preserved g t c =
+pub further_products-loop-operator-preserved : goal.further_products-loop-operator-preserved
+further_products-loop-operator-preserved g t c =
     let operator = additive_view c.in-Some.operator in
     record {
-      reads = λ k h. c.loop-operator.invariant.reads k h
+      reads = λ e k h. c.loop-operator.invariant.reads e k h
           ∙ ap (run limited_room (have None _ k)) c.in-Some.ensures.first.are
           ∙ c.in_ok-operand.ensures.reads (Some (_, operator)) k h
           ∙ sum_settles (Some (_, operator)) (view c.in_ok-operand.operand) k (placed_views c.in_ok-operand.others.now) c.in_ok-operand.ensures.no_product
           ∙ ap (λ e. run limited_room (have None e k) (placed_views c.in_ok-operand.others.now)) (chain_grown _ _ _ _ c.in_ok-push.ensures.items);
-      shorter = omega (arith, c.loop-operator.invariant.shorter, c.in-Some.ensures.shorter, c.in_ok-operand.ensures.shorter);
+      within = omega (arith, c.loop-operator.invariant.within, c.in-Some.ensures.shorter, c.in_ok-operand.ensures.shorter);
       no_product = c.in_ok-operand.ensures.no_product;
     }

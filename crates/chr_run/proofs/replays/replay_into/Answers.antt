@@ -17,7 +17,7 @@ returns-in-Err-send_outcome g c =
     let q = query_view c.args.query in
     let es = events_view c.args.events.now in
     let made = c.in-Ok.ensures.ok in
-    let same = text_is names p q (progress p (start q) es).steps (outcome_view c.in-Ok.outcome) made.outcome in
+    let same = text_is names p q (progress p (start q) es).steps (outcome_view c.in-Ok.outcome) made.outcome.outcome_is in
     unsent names p q es (whole names p (outcome_view c.in-Ok.outcome)) _ _ c.in-Err-send_outcome.error made.accepted same c.in-Err-send_outcome.ensures.err
 
 pub returns : goal.returns
@@ -27,10 +27,10 @@ returns g c =
     let q = query_view c.args.query in
     let es = events_view c.args.events.now in
     let made = c.in-Ok.ensures.ok in
-    let same = text_is names p q (progress p (start q) es).steps (outcome_view c.in-Ok.outcome) made.outcome in
+    let same = text_is names p q (progress p (start q) es).steps (outcome_view c.in-Ok.outcome) made.outcome.outcome_is in
     record {
       allowed = made.accepted;
       appends = subst (Appends (g.W.Write.contents c.args.writer.now) (g.W.Write.contents c.send_outcome.new.writer)) same c.in-Ok-send_outcome.ensures.ok;
-      status_is = ap (λ (w : Outcome). w.status) made.outcome;
+      status_is = ap (λ (w : Outcome). w.state.status) made.outcome.outcome_is;
       counts_are = made.counts_are;
     }

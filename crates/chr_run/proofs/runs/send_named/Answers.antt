@@ -5,9 +5,10 @@ use Rattle.chr_semantics.specs.Text.{text}
 use Rattle.chr_rules.specs.ProgramView.{names_of, rules_of}
 use Rattle.chr_rules.specs.RuleView.{query_view}
 use Rattle.chr_run.specs.Headline.{IsRun}
-use Rattle.chr_run.specs.Output.{AppendsPart}
+use Rattle.chr_run.specs.Output.{AppendsLess}
 use Rattle.chr_run.proofs.Headlines.{is_run, within_limit}
-use Rattle.chr_run.proofs.Parts.{part_none}
+use Rattle.chr_run.proofs.Ends.{text_some}
+use Rattle.chr_run.proofs.Parts.{less_none}
 use Rattle.chr_run.proofs.Sends.{sent_part, sent_whole}
 use Rattle.chr_run.proofs.runs.send_named.Goals as goal
 
@@ -15,7 +16,11 @@ pub send_beside-made-requires-clause-limit : goal.send_beside-made-requires-clau
 send_beside-made-requires-clause-limit g c = λ κs live. within_limit c.args.n c.args.workers c.requires.allowed
 
 pub returns-in_default : goal.returns-in_default
-returns-in_default g c = (tt, part_none (g.W.Write.contents c.args.writer.now) (text (names_of c.args.program.now) (rules_of c.args.program.now) (query_view c.args.query) c.args.n))
+returns-in_default g c =
+    let names = names_of c.args.program.now in
+    let p = rules_of c.args.program.now in
+    let q = query_view c.args.query in
+    (tt, less_none (g.W.Write.contents c.args.writer.now) (text names p q c.args.n) (text_some names p q c.args.n))
 
 pub returns-in-Err : goal.returns-in-Err
 returns-in-Err g c =
@@ -29,7 +34,7 @@ returns-in-Err g c =
     let cut = rw c.in-Err.is at went.cut in
     let part = rw c.in-Err.is at went.part in
     let out = sent_part {G = g.J.Run} c.send_beside-made.new.coordinator n names query (went.turns.same.names_are ∙ at.names) (went.turns.same.query_is ∙ at.query) old new part in
-    (cut, subst (λ (p : Program). AppendsPart old new (text names p query n)) (sym c.requires.rules) out)
+    (cut, subst (λ (p : Program). AppendsLess old new (text names p query n)) (sym c.requires.rules) out)
 
 pub returns : goal.returns
 returns g c =

@@ -2,7 +2,7 @@ use Rattle.std.proofs.Common.{subst}
 use Rattle.std.specs.Prelude.{OnErr, OnOk}
 use Rattle.std.specs.Io.KnownBytes.{Appends}
 use Rattle.chr_machine.specs.Model.{Model}
-use Rattle.chr_run.specs.Output.{AppendsPart}
+use Rattle.chr_run.specs.Output.{AppendsLess}
 use Rattle.chr_run.specs.Sending.{rest_text}
 use Rattle.chr_run.proofs.Sent.{ends}
 use Rattle.chr_run.proofs.sending.send_turns.Goals as goal
@@ -16,5 +16,5 @@ returns-in-Ok g c =
     let went = c.in-Ok.ensures in
     let same = c.machine.ensures.same in
     let text = subst (λ (m : Model). OnOk c.finish.result (Appends mid after (rest_text m sent))) same c.finish.ensures.ok in
-    let part = subst (λ (m : Model). OnErr c.finish.result (AppendsPart mid after (rest_text m sent))) same c.finish.ensures.part in
+    let part = subst (λ (m : Model). OnErr c.finish.result (AppendsLess mid after (rest_text m sent))) same c.finish.ensures.less in
     ends c.args.n c.args.coordinator.now c.perform.new.coordinator before mid after sent c.finish.result went.turns.same went.turns.through went.turns.rests went.sent text part c.finish.ensures.err

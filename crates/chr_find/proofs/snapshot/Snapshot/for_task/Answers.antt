@@ -8,7 +8,7 @@ use Rattle.chr_semantics.specs.Snapshot.{occurrence_of}
 use Rattle.chr_find.specs.ScopeView.{IsScope}
 use Rattle.chr_find.specs.SnapshotView.{tasks_view}
 use Rattle.chr_find.specs.declared.snapshot.Task.{Task}
-use Rattle.chr_find.proofs.TakenSnapshots.{entries_of_scope, rows_of_scope, taken_free, taken_is}
+use Rattle.chr_find.proofs.TakenSnapshots.{entries_of_scope, rows_of_scope, taken_firings, taken_free, taken_is}
 use Rattle.chr_find.proofs.snapshot.Snapshot.for_task.Goals as goal
 
 pub invariant_of-result : goal.invariant_of-result
@@ -29,5 +29,10 @@ returns g c = λ s of.
     let o : Option Occurrence = occurrence_of p s (c.args.task.goal.0, c.args.task.occurrence) in
     let scope : IsScope o c.scope_of.result =
     subst (λ (rows : List semantics.Row). IsScope (option_and_then (λ (a : Atom). occurrence p a.sym c.args.task.occurrence) (atom_of rows c.args.task.goal.0)) c.scope_of.result) (sym of.store) c.scope_of.ensures in
-    taken_is st m h c.scope_of.result c.in_ok-table.table c.in_ok-table.ensures c.next.result.0 _ _ _ (rows_of_scope st m h s of o c.scope_of.result scope) (entries_of_scope st m h s of o c.scope_of.result scope) (of.next ∙ sym c.next.ensures)
-    (sym (ap tasks_view (c.in_ok-push.ensures.items ∙ ap (λ (l : List Task). l ++ c.args.task ∷ []) c.new-tasks.ensures.items))) refl
+    let t = c.in_ok-table.table in
+    let entries = entries_of_scope st m h s of o c.scope_of.result scope in
+    record {
+      shown = taken_is st m h c.scope_of.result t c.in_ok-table.ensures c.next.result.0 _ _ _ (rows_of_scope st m h s of o c.scope_of.result scope) entries (of.next ∙ sym c.next.ensures)
+          (sym (ap tasks_view (c.in_ok-push.ensures.items ∙ ap (λ (l : List Task). l ++ c.args.task ∷ []) c.new-tasks.ensures.items))) refl;
+      firings = taken_firings st m h c.scope_of.result t c.in_ok-table.ensures _ entries;
+    }

@@ -3,7 +3,7 @@ use Rattle.std.specs.Prelude.{option_map}
 use Rattle.chr_semantics.specs.State.{resolved_atom}
 use Rattle.chr_semantics.specs.Subst.{Subst}
 use Rattle.chr_find.specs.SnapshotView.{guest_view}
-use Rattle.chr_find.proofs.TakenSnapshots.{taken_free, taken_is, whole_entries, whole_rows}
+use Rattle.chr_find.proofs.TakenSnapshots.{taken_firings, taken_free, taken_is, whole_entries, whole_rows}
 use Rattle.chr_find.proofs.snapshot.Snapshot.take.Goals as goal
 
 pub invariant_of-result : goal.invariant_of-result
@@ -20,5 +20,10 @@ returns g c = λ s of.
     let st = c.args.store.now in
     let m = c.args.bindings.now.subst in
     let h = c.args.history.now in
-    taken_is st m h c.whole.result c.in_ok-table.table c.in_ok-table.ensures c.next.result.0 _ _ _ (whole_rows st m h s of c.whole.result c.whole.ensures.rows) (whole_entries st m h s of c.whole.result c.whole.ensures.rules) (of.next ∙ sym c.next.ensures) refl
-    (ap (λ (u : Subst). option_map (resolved_atom u) (guest_view c.args.guest)) of.subst ∙ sym c.in_ok-guest.ensures)
+    let t = c.in_ok-table.table in
+    let entries = whole_entries st m h s of c.whole.result c.whole.ensures.rules in
+    record {
+      shown = taken_is st m h c.whole.result t c.in_ok-table.ensures c.next.result.0 _ _ _ (whole_rows st m h s of c.whole.result c.whole.ensures.rows) entries (of.next ∙ sym c.next.ensures) refl
+          (ap (λ (u : Subst). option_map (resolved_atom u) (guest_view c.args.guest)) of.subst ∙ sym c.in_ok-guest.ensures);
+      firings = taken_firings st m h c.whole.result t c.in_ok-table.ensures _ entries;
+    }

@@ -25,4 +25,4 @@ returns-in-Ok-Spent-clause-runs g c =
     runs_spent c.args.n c.loop-made.made (model_of c.args.self.now) (model_of c.loop-made.self) (model_of c.step.new.self) c.loop-made.invariant.further spent.2 (omega arith) spent.0 spent.1
 
 pub returns-in-Err-clause-runs : goal.returns-in-Err-clause-runs
-returns-in-Err-clause-runs g c = runs_refused c.args.n c.loop-made.made (model_of c.args.self.now) (model_of c.loop-made.self) (model_of c.step.new.self) c.loop-made.invariant.further c.in-Err.ensures.err (omega arith) c.in-Err.error
+returns-in-Err-clause-runs g c = runs_refused c.args.n c.loop-made.made (model_of c.args.self.now) (model_of c.loop-made.self) (model_of c.step.new.self) c.loop-made.invariant.further c.in-Err.ensures.err.same (omega arith) c.in-Err.ensures.err.due c.in-Err.error

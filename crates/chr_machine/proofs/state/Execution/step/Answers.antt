@@ -29,10 +29,13 @@ pub returns-in-Ok-clause-proper : goal.returns-in-Ok-clause-proper
 returns-in-Ok-clause-proper g c = proper_moved (model_of c.args.self.now) (model_of c.step_top.new.self) c.requires.proper (returns-in-Ok-clause-ok g c)
 
 pub returns-in-Err-clause-err : goal.returns-in-Err-clause-err
-returns-in-Err-clause-err g c = put_back c.args.self.now _ c.step_top.new.self c.push_reserved.new.self c.in-Some.top c.in-Err.top (popped c.args.self.now c.pop.new.self c.in-Some.top c.in-Some.ensures.items) c.push_reserved.ensures.items c.in-Err.ensures.err c.in-Err.ensures.kept
+returns-in-Err-clause-err g c = record {
+  due = record { running_is = ap status_view c.in-Running.is; few = omega arith };
+  same = put_back c.args.self.now _ c.step_top.new.self c.push_reserved.new.self c.in-Some.top c.in-Err.top (popped c.args.self.now c.pop.new.self c.in-Some.top c.in-Some.ensures.items) c.push_reserved.ensures.items c.in-Err.ensures.err c.in-Err.ensures.kept;
+}
 
 pub returns-in-Err-clause-counted : goal.returns-in-Err-clause-counted
-returns-in-Err-clause-counted g c = subst IsCounted (sym (returns-in-Err-clause-err g c)) c.requires.counted
+returns-in-Err-clause-counted g c = subst IsCounted (sym (returns-in-Err-clause-err g c).same) c.requires.counted
 
 pub returns-in-Err-clause-proper : goal.returns-in-Err-clause-proper
-returns-in-Err-clause-proper g c = subst (λ (m : Model). IsProper m.rules (state_in m)) (sym (returns-in-Err-clause-err g c)) c.requires.proper
+returns-in-Err-clause-proper g c = subst (λ (m : Model). IsProper m.rules (state_in m)) (sym (returns-in-Err-clause-err g c).same) c.requires.proper

@@ -11,4 +11,5 @@ returns-clause-rests g c =
     let q = start_of c.in_ok-core.core in record {
       rests = subst (λ (es : List Event). Rests p q c.args.workers 0 es) (sym c.in_ok-core.ensures.events) (rests_at_start p q c.args.workers);
       few = omega arith;
+      full = λ is. cc;
     }

@@ -21,7 +21,7 @@ returns-in-Err-clause-ready g c =
     let q = start_of old.core in
     let at = progress p q (events_of old.core) in
     subst (λ (es : List Event). IsReady p q old.workers (old.skipped + 1) at es) (sym c.in-Err.ensures.err.events_are)
-    (ready_counted p q (events_of old.core) old.workers old.skipped c.requires.workers c.requires.rests.rests)
+    (ready_counted p q (events_of old.core) old.workers old.skipped c.requires.workers c.requires.rests.rests (sym c.has_place.ensures ∙ c.if-not-has_place.false))
 
 pub returns-then-not-has_place-clause-ready : goal.returns-then-not-has_place-clause-ready
 returns-then-not-has_place-clause-ready g c =

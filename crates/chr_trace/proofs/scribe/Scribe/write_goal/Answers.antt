@@ -15,13 +15,13 @@ returns-in-Chr-clause-ok g c =
     subst (λ (x : Goal g.row.A.Denot). OnOk c.write_atom.result (c.write_atom.new.out.items ≡ c.args.out.now.items ++ goal_by w (shown_goal w x))) (sym c.in-Chr.is)
     (subst (λ (ts : List (Term g.row.A.Denot)). OnOk c.write_atom.result (c.write_atom.new.out.items ≡ c.args.out.now.items ++ atom_by w (shown_atom w c.in-Chr.sym ts))) c.as_slice.ensures.value c.write_atom.ensures.ok)
 
-pub returns-in_ok-write_text-in-BuiltIn-clause-ok : goal.returns-in_ok-write_text-in-BuiltIn-clause-ok
-returns-in_ok-write_text-in-BuiltIn-clause-ok g c =
+pub returns-in_ok-write_text-in-Told-clause-ok : goal.returns-in_ok-write_text-in-Told-clause-ok
+returns-in_ok-write_text-in-Told-clause-ok g c =
     let w = c.args.self.now in
     let s = w.bindings.now.subst in
-    let left = term_by w (apply s (view c.in-BuiltIn.left)) in
-    let right = term_by w (apply s (view c.in-BuiltIn.right)) in
-    let whole = append_assoc left c.sign.result.now right ∙ (ap (λ sign. left ++ (sign ++ right)) c.sign.ensures ∙ (sym (sides_text w.names.now w.var_names.now (value_at s) c.in-BuiltIn.op (view c.in-BuiltIn.left) (view c.in-BuiltIn.right)) ∙ ap (λ (x : Goal g.row.A.Denot). goal_by w (shown_goal w x)) (sym c.in-BuiltIn.is))) in
-    written_after c.write_term-in-BuiltIn.result c.args.out.now.items c.write_text.new.out.items _ (left ++ c.sign.result.now) right _
-    (both_written _ c.write_term.new.out.items _ left c.sign.result.now c.in_ok-write_term-in-BuiltIn.ensures.ok c.in_ok-write_text-in-BuiltIn.ensures.ok)
-    c.write_term-in-BuiltIn.ensures.ok whole
+    let left = term_by w (apply s (view c.in-Told.left)) in
+    let right = term_by w (apply s (view c.in-Told.right)) in
+    let whole = append_assoc left c.sign.result.now right ∙ (ap (λ sign. left ++ (sign ++ right)) c.sign.ensures ∙ (sym (sides_text w.names.now w.var_names.now (value_at s) c.in-Told.op (view c.in-Told.left) (view c.in-Told.right)) ∙ ap (λ (x : Goal g.row.A.Denot). goal_by w (shown_goal w x)) (sym c.in-Told.is))) in
+    written_after c.write_term-in-Told.result c.args.out.now.items c.write_text.new.out.items _ (left ++ c.sign.result.now) right _
+    (both_written _ c.write_term.new.out.items _ left c.sign.result.now c.in_ok-write_term-in-Told.ensures.ok c.in_ok-write_text-in-Told.ensures.ok)
+    c.write_term-in-Told.ensures.ok whole

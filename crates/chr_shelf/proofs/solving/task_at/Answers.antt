@@ -2,7 +2,7 @@ use Rattle.std.proofs.Common.{ap, option_map, refl, ◌∙◌}
 use Rattle.std.proofs.lemmas.Option.{slice_get-map, slice_get_past, slice_get_read}
 use Rattle.std.specs.Prelude.{slice_get}
 use Rattle.chr_find.specs.SnapshotView.{task_view}
-use Rattle.chr_shelf.proofs.answer.task_at.Goals as goal
+use Rattle.chr_shelf.proofs.solving.task_at.Goals as goal
 
 pub returns-in-None : goal.returns-in-None
 returns-in-None g c = λ q is.

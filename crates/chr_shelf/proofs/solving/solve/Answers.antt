@@ -2,7 +2,7 @@ use Rattle.std.proofs.Common.{ap, option_map, subst, sym, ◌∙◌}
 use Rattle.chr_semantics.specs.Program.{Program}
 use Rattle.chr_semantics.specs.Snapshot.{found_in}
 use Rattle.chr_find.specs.SnapshotView.{IsSnapshot, task_view}
-use Rattle.chr_shelf.proofs.answer.solve.Goals as goal
+use Rattle.chr_shelf.proofs.solving.solve.Goals as goal
 
 pub invariant_of-result : goal.invariant_of-result
 invariant_of-result g c = record {
