@@ -106,3 +106,15 @@ def endless():
 
 
 endless()
+
+
+def handed_on(name, goal):
+    """A deep term is handed from one constraint to the next, and goes with the last of them."""
+    text = f"1 activate p({goal})#1\n2 simplify p({goal})#1:1 hand 1\n3 activate q({goal})#2\n4 simplify q({goal})#2:1 last 2\n"
+    text += "end done\nstack 0\nstore 0\nbindings 0\nhistory 2\nhand 1\nlast 2\n"
+    rules = "hand @ p(X) <=> q(X). last @ q(X) <=> true.\n"
+    make(name, f"p({goal}).\n:- chr_constraint p/1, q/1.\n{rules}", stdout=text, alone=DEEP)
+
+
+handed_on("deepest_sum_handed_on", "1" + "+1" * 524_200)
+handed_on("deepest_list_handed_on", "[1" + ",1" * 524_200 + "]")

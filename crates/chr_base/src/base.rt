@@ -7,7 +7,7 @@ ghost use Rattle.chr_store.specs.HistoryView.{entries_view};
 ghost use Rattle.chr_store.specs.Rows.{row_atom};
 ghost use Rattle.chr_store.specs.StoreView.{store_view};
 ghost use Rattle.chr_find.specs.TableView.{atom_at, fired_at};
-ghost use Rattle.chr_term.specs.TermView.{atom_view};
+ghost use Rattle.chr_term.specs.TermView.{atom_over};
 ghost use Rattle.chr_base.specs.Agreement.{Agrees, agreements};
 
 use crate::Memory;
@@ -15,7 +15,7 @@ use chr_bind::Bindings;
 use chr_find::{Plan, Table};
 use chr_map::Pointer;
 use chr_store::{History, Id, Row, Store};
-use chr_term::{Sym, Term};
+use chr_term::{Args, Sym};
 use std::alloc::{Allocator, Global};
 
 /// The constraints of a run, its bindings, and what has fired, with the table that is searched. Contracts see the store, the bindings and
@@ -81,25 +81,25 @@ impl<A: Allocator + Copy> Base<A> {
     pub(crate) fn resolved_row(
         &self,
         sym: Sym,
-        args: &[Term<A>],
+        args: &Args<A>,
     ) -> Result<Pointer<Row<A>, A>, Memory>
         ensures { IfOk result (λ row. row_atom row
-            ≡ resolved_atom self.now.bindings.subst (atom_view sym args.now)) }
+            ≡ resolved_atom self.now.bindings.subst (atom_over sym args.now)) }
     {
-        let args = self.bindings.resolve_all(args)?;
+        let args = self.bindings.resolve_args(args)?;
         Pointer::new(self.alloc, Row { sym, args })
     }
 
     /// Adds a constraint under the next identity. Where memory is refused, nothing changes, and the arguments come back.
-    pub fn add(&mut self, sym: Sym, args: Vec<Term<A>, A>) -> Result<Id, (Vec<Term<A>, A>, Memory)>
+    pub fn add(&mut self, sym: Sym, args: Args<A>) -> Result<Id, (Args<A>, Memory)>
         requires { (base_view self.old).store.changes < MAX_CHANGES }
         ensures ok { OnOk result (base_view self.new
-            ≡ record (base_view self.old) { store = added (base_view self.old).store (atom_view sym args.items) }) }
+            ≡ record (base_view self.old) { store = added (base_view self.old).store (atom_over sym args) }) }
         ensures id { IfOk result (λ id. id.0 ≡ (base_view self.old).store.next_id) }
         ensures back { IfErr result (λ refused. refused.0 ≡ args) }
         ensures err { OnErr result (base_view self.new ≡ base_view self.old) }
     {
-        let row = match self.resolved_row(sym, args.as_slice()) {
+        let row = match self.resolved_row(sym, &args) {
             Err(error) => return Err((args, error)),
             Ok(row) => row,
         };

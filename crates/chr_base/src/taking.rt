@@ -5,7 +5,7 @@ ghost use Rattle.chr_semantics.specs.State.{State, resolved_atom};
 ghost use Rattle.chr_store.specs.HistoryView.{entries_view};
 ghost use Rattle.chr_store.specs.Rows.{row_atom};
 ghost use Rattle.chr_store.specs.StoreView.{store_view};
-ghost use Rattle.chr_find.specs.SnapshotView.{IsSnapshot, guest_view, tasks_view};
+ghost use Rattle.chr_find.specs.SnapshotView.{IsSnapshot, tasks_view, told_view};
 
 use crate::Memory;
 use crate::base::Base;
@@ -13,7 +13,7 @@ use chr_bind::Bindings;
 use chr_find::{Snapshot, Task};
 use chr_map::Pointer;
 use chr_store::{History, Row, Store};
-use chr_term::{Sym, Term};
+use chr_term::{Args, Sym};
 use std::alloc::Allocator;
 
 impl<A: Allocator + Copy> Base<A> {
@@ -34,10 +34,10 @@ impl<A: Allocator + Copy> Base<A> {
     /// A guest with the bindings applied.
     fn resolved_guest(
         &self,
-        guest: Option<(Sym, &[Term<A>])>,
+        guest: Option<(Sym, &Args<A>)>,
     ) -> Result<Option<Pointer<Row<A>, A>>, Memory>
         ensures { IfOk result (λ resolved. option_map row_atom resolved
-            ≡ option_map (resolved_atom (base_view self.now).subst) (guest_view guest.entry)) }
+            ≡ option_map (resolved_atom (base_view self.now).subst) (told_view guest.entry)) }
     {
         match guest {
             None => Ok(None),
@@ -50,11 +50,11 @@ impl<A: Allocator + Copy> Base<A> {
     pub fn snapshot(
         &self,
         tasks: Vec<Task, A>,
-        guest: Option<(Sym, &[Term<A>])>,
+        guest: Option<(Sym, &Args<A>)>,
     ) -> Result<Snapshot<A>, Memory>
         requires { IsShareable self.now }
         ensures { IfOk result (λ shared. (s : State) → IsStateOf (base_view self.now) s →
-            IsSnapshot shared (snapshot_for s (tasks_view tasks.items) (guest_view guest.entry))) }
+            IsSnapshot shared (snapshot_for s (tasks_view tasks.items) (told_view guest.entry))) }
     {
         let resolved = self.resolved_guest(guest)?;
         Snapshot::of(&self.table, self.store.next(), tasks, resolved)

@@ -1,11 +1,10 @@
 mod Links
-mod Lists
+mod Grounds
 mod Roots
 mod Changed
 mod Binds
 mod Equations
 mod Agenda
-mod Views
 mod Eliminations
 mod Fresh
 mod Values

@@ -2,7 +2,7 @@
 use Rattle.std.specs.Prelude.{ℕ, refl}
 use Rattle.std.specs.Coded.{Coded, code_by, coded×, coded_ℕ, coded_list}
 use Rattle.chr_semantics.specs.Subst.{Subst}
-use Rattle.chr_bind.specs.Code.{tree_code}
+use Rattle.chr_term.specs.Code.{tree_code}
 
 -- how many variables there are, the solved substitution, and how many more variables take no memory
 pub record BindingsValue : Type 0 where

@@ -4,7 +4,6 @@ pub mod Chains
 pub mod Root
 pub mod Agenda
 pub mod Unified
-pub mod Code
 pub mod BindingsModel
 pub mod Slots
 pub mod Matching

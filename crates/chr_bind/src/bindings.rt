@@ -3,6 +3,7 @@ ghost use Rattle.std.specs.Prelude.{◌≡◌, ◌≤◌, ◌<◌, ◌+◌, ◌^
 ghost use Rattle.chr_semantics.specs.Tree.{is_ground_tree};
 ghost use Rattle.chr_semantics.specs.Subst.{IsSolved, apply, instances, value_at};
 ghost use Rattle.chr_semantics.specs.Value.{value as value_of};
+ghost use Rattle.chr_term.specs.Replaced.{args_by};
 ghost use Rattle.chr_term.specs.TermView.{trees_view, view};
 ghost use Rattle.chr_semantics.specs.Bounds.{IsBelow};
 ghost use Rattle.chr_bind.specs.Chains.{AreSound, IsSound, Pairs, subst_of};
@@ -13,7 +14,7 @@ use crate::Memory;
 use crate::chains::{Chains, Link};
 use crate::fault::Fault;
 use crate::unification::{Additions, take_over, unify_terms};
-use chr_term::Term;
+use chr_term::{Args, Term};
 use std::alloc::{Allocator, Global};
 use std::marker::Model;
 
@@ -74,6 +75,21 @@ impl<A: Allocator + Copy> Bindings<A> {
         ensures { IfOk result (λ resolved. view resolved ≡ apply self.now.subst (view term.now)) }
     {
         self.chains().resolve(self.alloc, term)
+    }
+
+    /// The arguments with what their variables stand for put in: the very same where that changes nothing.
+    pub fn resolve_args(&self, args: &Args<A>) -> Result<Args<A>, Memory>
+        ensures { IfOk result (λ resolved. resolved ≡ instances (value_at self.now.subst) args.now) }
+    {
+        self.chains().resolve_args(self.alloc, args)
+    }
+
+    /// What the bindings make of the arguments: nothing where that is the arguments as they are.
+    pub fn replaced_args(&self, args: &Args<A>) -> Result<Option<Args<A>>, Memory>
+        ensures { IfOk result (λ replaced.
+            args_by args.now replaced ≡ instances (value_at self.now.subst) args.now) }
+    {
+        self.chains().replaced_args(self.alloc, args)
     }
 
     /// The terms with what their variables stand for put in.

@@ -1,5 +1,5 @@
 //! Bindings that are followed: terms stay as they were, and nothing is replaced in them.
-ghost use Rattle.std.specs.Prelude.{◌≡◌, ◌<◌, ◌↔◌, IfOk, IsTrue, Some, ℕ, length, option_map, slice_get};
+ghost use Rattle.std.specs.Prelude.{◌≡◌, ◌<◌, ◌↔◌, IsTrue, Some, ℕ, length, option_map, slice_get};
 ghost use Rattle.chr_semantics.specs.Tree.{Tree, is_ground_tree, is_ground_trees, var as variable};
 ghost use Rattle.chr_semantics.specs.Subst.{apply, occurs, occurs_any, instances, value_at};
 ghost use Rattle.chr_semantics.specs.Value.{node_value, value as value_of, values};
@@ -11,7 +11,7 @@ ghost use Rattle.chr_bind.specs.Values.{value_view};
 
 use crate::arithmetic::{evaluate_operator, pair_of};
 use crate::fault::Fault;
-use chr_term::{Memory, Sym, Term};
+use chr_term::{Args, Sym, Term};
 use std::alloc::Allocator;
 
 /// How the class of a variable goes on from it. A class is the variables that stand for one another.
@@ -39,7 +39,7 @@ pub(crate) enum Root<'t, A: Allocator> {
     /// A free class by the place of its link, and its least variable.
     Free(usize, u64),
     Int(i128),
-    Node(Sym, &'t [Term<A>]),
+    Node(Sym, &'t Args<A>),
 }
 
 impl<'l, 't, A: Allocator> Chains<'l, 't, A> {
@@ -70,7 +70,7 @@ impl<'l, 't, A: Allocator> Chains<'l, 't, A> {
     }
 
     /// What a variable stands for.
-    fn value(&self, var: u64) -> Root<'t, A>
+    pub fn value(&self, var: u64) -> Root<'t, A>
         requires { AreSound self.now }
         ensures { IsRoot self.now (variable var) result }
     {
@@ -107,42 +107,11 @@ fn written_root<'t, A: Allocator>(term: &'t Term<A>) -> Root<'t, A>
     match term {
         Term::Var(_) => unreachable!(),
         Term::Int(z) => Root::Int(*z),
-        Term::Node(sym, args) => Root::Node(*sym, args.as_slice()),
+        Term::Node(sym, args) => Root::Node(*sym, args),
     }
 }
 
 impl<'l, 't, A: Allocator> Chains<'l, 't, A> {
-    /// The term with all that it stands for put in.
-    #[cycle(resolve)]
-    pub fn resolve(&self, alloc: A, term: &'t Term<A>) -> Result<Term<A>, Memory>
-    where
-        A: Copy,
-        requires { AreSound self.now }
-        ensures { IfOk result (λ resolved.
-            view resolved ≡ apply (subst_of self.now) (view term.now)) }
-    {
-        match self.root(term) {
-            Root::Free(_, name) => Ok(Term::Var(name)),
-            Root::Int(z) => Ok(Term::Int(z)),
-            Root::Node(sym, args) => Ok(Term::Node(sym, self.resolve_all(alloc, args)?)),
-        }
-    }
-
-    #[cycle(resolve)]
-    pub fn resolve_all(&self, alloc: A, terms: &'t [Term<A>]) -> Result<Vec<Term<A>, A>, Memory>
-    where
-        A: Copy,
-        requires { AreSound self.now }
-        ensures { IfOk result (λ resolved. trees_view resolved.items
-            ≡ instances (value_at (subst_of self.now)) (trees_view terms.now)) }
-    {
-        let mut items = Vec::with_capacity(alloc, terms.len())?;
-        for term in terms {
-            items.push(self.resolve(alloc, term)?)?;
-        }
-        Ok(items)
-    }
-
     /// Whether the term stands for one with no variable.
     #[cycle(ground)]
     pub fn is_ground(&self, term: &'t Term<A>) -> bool
@@ -152,7 +121,7 @@ impl<'l, 't, A: Allocator> Chains<'l, 't, A> {
         match self.root(term) {
             Root::Free(_, _) => false,
             Root::Int(_) => true,
-            Root::Node(_, args) => self.are_ground(args),
+            Root::Node(_, args) => args.is_ground() || self.are_ground(args.as_slice()),
         }
     }
 
@@ -180,7 +149,7 @@ impl<'l, 't, A: Allocator> Chains<'l, 't, A> {
             (Root::Free(_, name), Term::Var(x)) => name == *x,
             (Root::Int(y), Term::Int(z)) => y == *z,
             (Root::Node(f, args), Term::Node(g, others)) => f == *g
-                && self.resolve_to(args, others.as_slice()),
+                && self.resolve_to(args.as_slice(), others.as_slice()),
             _ => false,
         }
     }
@@ -211,7 +180,7 @@ impl<'l, 't, A: Allocator> Chains<'l, 't, A> {
         match self.root(term) {
             Root::Free(_, name) => var == name,
             Root::Int(_) => false,
-            Root::Node(_, args) => self.occurs_any(var, args),
+            Root::Node(_, args) => !args.is_ground() && self.occurs_any(var, args.as_slice()),
         }
     }
 
@@ -238,7 +207,7 @@ impl<'l, 't, A: Allocator> Chains<'l, 't, A> {
         match self.root(term) {
             Root::Free(_, _) => Err(Fault::Unbound),
             Root::Int(z) => Ok(z),
-            Root::Node(sym, args) => self.node_number(sym, args),
+            Root::Node(sym, args) => self.node_number(sym, args.as_slice()),
         }
     }
 

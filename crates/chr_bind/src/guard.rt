@@ -15,7 +15,7 @@ use crate::comparison::Comparison;
 use crate::fault::Fault;
 use crate::matching::Match;
 use crate::renaming::are_unifiable;
-use chr_term::{Sym, Term, copy, is_ground, same};
+use chr_term::{Args, Sym, Term, copy, is_ground, same};
 use std::alloc::{Allocator, Global};
 
 /// A test of a guard. Its terms are over the variables of the rule's heads.
@@ -92,13 +92,13 @@ fn made_instance<A: Allocator + Copy>(
 {
     match pattern {
         Term::Var(x) => match matching.get(*x) {
-            Some(matched) => Ok(copy(alloc, matched)?),
+            Some(matched) => copy(matched),
             None => Ok(Term::Var(*x)),
         },
         Term::Int(number) => Ok(Term::Int(*number)),
         Term::Node(sym, patterns) => Ok(Term::Node(
             *sym,
-            made_instances(alloc, matching, patterns.as_slice())?,
+            Args::new(alloc, made_instances(alloc, matching, patterns.as_slice())?)?,
         )),
     }
 }

@@ -11,6 +11,7 @@ mod fitting;
 mod guard;
 mod matching;
 mod renaming;
+mod resolving;
 mod unification;
 
 pub use arithmetic::value;

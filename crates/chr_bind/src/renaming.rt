@@ -7,7 +7,7 @@ ghost use Rattle.chr_bind.specs.Renamed.{AreRenamed, IsNames, IsRenamed};
 
 use crate::Memory;
 use crate::bindings::{Bindings, Unified};
-use chr_term::Term;
+use chr_term::{Args, Term};
 use indexmap::IndexSet;
 use std::alloc::Allocator;
 use std::hash::{BuildHasherDefault, FoldHasher};
@@ -57,7 +57,7 @@ fn renumber<A: Allocator + Copy>(
         Term::Int(number) => Ok(Term::Int(*number)),
         Term::Node(sym, args) => Ok(Term::Node(
             *sym,
-            renumber_all(alloc, numbers, args.as_slice())?,
+            Args::new(alloc, renumber_all(alloc, numbers, args.as_slice())?)?,
         )),
     }
 }

@@ -87,7 +87,7 @@ fn compare<'t, A: Allocator>(
         (Root::Int(x), Root::Int(y)) if x == y => RootComparison::Same,
         (Root::Node(f, lefts), Root::Node(g, rights)) => {
             if f == g {
-                RootComparison::Arguments(lefts, rights)
+                RootComparison::Arguments(lefts.as_slice(), rights.as_slice())
             } else {
                 RootComparison::Clash
             }
@@ -458,7 +458,7 @@ fn copy_pairs<A: Allocator + Copy>(
 {
     let mut items = Vec::with_capacity(alloc, added.len())?;
     for pair in added {
-        items.push((pair.0, copy(alloc, pair.1)?))?;
+        items.push((pair.0, copy(pair.1)?))?;
     }
     Ok(items)
 }

@@ -27,5 +27,5 @@ fn node<A: Allocator + Copy, const N: usize>(
     sym: Sym,
     args: [Term<A>; N],
 ) -> Result<Term<A>, Memory> {
-    Ok(Term::Node(sym, Vec::from_array(alloc, args)?))
+    Term::node(alloc, sym, Vec::from_array(alloc, args)?)
 }

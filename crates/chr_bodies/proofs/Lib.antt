@@ -1,4 +1,3 @@
 pub mod Variables
-pub mod TermLists
 pub mod Goals
 pub mod Matched

@@ -1,5 +1,5 @@
 -- What a variable of a rule stands for in its body.
-use Rattle.std.proofs.Common.{◌≡◌, ℕ, ◌+◌, ◌-◌, ◌<◌, Bool, true, false, cond, ◌==◌, Option, Some, None, Result, Ok, Err, IfOk, [], ◌∷◌, option_map, rules, ap, refl, sym, ◌∙◌}
+use Rattle.std.proofs.Common.{◌≡◌, ℕ, ◌+◌, ◌-◌, ◌<◌, Bool, true, false, cond, ◌==◌, Option, Some, None, Result, Ok, Err, IfOk, [], ◌∷◌, option_map, ap, refl, sym, ◌∙◌}
 use Rattle.std.proofs.lemmas.Bool.{lt-ltb}
 use Rattle.std.specs.Borrow.{Bor}
 use Rattle.std.specs.declared.alloc.AllocError.{AllocError}
@@ -9,13 +9,10 @@ use Rattle.chr_semantics.specs.Step.{in_body}
 use Rattle.chr_semantics.specs.Subst.{Subst, value_at}
 use Rattle.chr_semantics.specs.Tree.{Tree, var}
 use Rattle.chr_term.specs.TermView.{view}
-use Rattle.chr_term.specs.declared.term.Term.{Term, the_lemmas}
+use Rattle.chr_term.specs.declared.term.Term.{Term}
 use Rattle.chr_term.specs.declared.term.Term.TheVariants.{Var}
 use Rattle.chr_bind.specs.Matching.{AgreesWith, matched_tree}
 use Rattle.chr_bind.specs.declared.matching.Match.{Match}
-
-pub view-Var : (A : Type 0) (x : ℕ) → view {A = A} (Var x) ≡ var x
-view-Var A x = search (rules, the_lemmas)
 
 matched_step : (b : Bool) (u t w : Tree) (o : Option Tree) → (o ≡ Some t → w ≡ t) → cond b (Some u) o ≡ Some t → cond b u w ≡ t
 matched_step true u t w o f e = cc
@@ -52,4 +49,4 @@ module _ {A : Type 0} (h : Match A) (rule : Rule) (next x : ℕ) (o : Option (Bo
   pub free_stays : (m : Subst) → x < rule.head_vars → AgreesWith h m → option_map (λ (b : Bor (Term A)). view b.now) o ≡ matched_tree h x → o ≡ None → view {A = A} (Var x) ≡ in_body rule m next x
   free_stays m lt a eo et =
       let slot : matched_tree h x ≡ None = sym eo ∙ ap (option_map (λ (b : Bor (Term A)). view b.now)) et in
-      view-Var A x ∙ sym (in_heads rule m next x lt ∙ free_value m x (sym (a x) ∙ slot))
+      sym (in_heads rule m next x lt ∙ free_value m x (sym (a x) ∙ slot))

@@ -8,14 +8,13 @@ ghost use Rattle.chr_bind.specs.Matching.{AgreesWith};
 ghost use Rattle.chr_semantics.specs.Bounds.{IsBounded, IsGoalBelow};
 ghost use Rattle.chr_rules.specs.RuleView.{goal_view, rule_view};
 
-use crate::terms::{build_term, build_terms};
+use crate::terms::{build_args, build_term};
 use chr_bind::Match;
 use chr_rules::{Goal, Rule};
 use chr_term::Memory;
 use std::alloc::Allocator;
 
-/// A goal of the body of a rule that fires, whose heads are matched: a variable of the heads becomes a copy of the term that it is matched
-/// to, and each variable of the body alone a new one, numbered from `next` on.
+/// A goal of the body of a rule that fires, whose heads are matched: a variable of the heads becomes the term that it is matched to, and each variable of the body alone a new one, numbered from `next` on.
 pub fn build_goal<A: Allocator + Copy>(
     alloc: A,
     rule: &Rule<A>,
@@ -31,10 +30,10 @@ pub fn build_goal<A: Allocator + Copy>(
         ≡ goal_instance (in_body (rule_view rule.now) m next) (goal_view goal.now)) }
 {
     match goal {
-        Goal::Chr(sym, args) => Ok(Goal::Chr(
-            *sym,
-            build_terms(alloc, rule, matching, next, args.as_slice())?,
-        )),
+        Goal::Chr(sym, args) => {
+            let args = build_args(alloc, rule, matching, next, args)?;
+            Ok(Goal::Chr(*sym, args))
+        }
         Goal::Told(op, left, right) => {
             let left = build_term(alloc, rule, matching, next, left)?;
             let right = build_term(alloc, rule, matching, next, right)?;

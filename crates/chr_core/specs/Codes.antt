@@ -1,7 +1,7 @@
 -- The definitions as coded types, so that a core can keep what it says of them.
 use Rattle.std.specs.Prelude.{◌≡◌, ◌+◌, ℕ, zero, suc, Bool, List, refl}
 use Rattle.std.specs.Coded.{Coded, code_by, coded_ℕ, coded_bool, coded_list, coded×}
-use Rattle.chr_bind.specs.Code.{tree_code}
+use Rattle.chr_term.specs.Code.{tree_code}
 use Rattle.chr_semantics.specs.Match.{Row}
 use Rattle.chr_semantics.specs.Program.{Atom, Comparison, Goal, Head, Rule, Test, at_least, at_most, compare, compares, constraint, differs, equals, evaluate, fail, greater, identical, is_ground, is_integer, less, not_unifiable, tell}
 use Rattle.chr_semantics.specs.Search.{History}

@@ -2,13 +2,13 @@
 use Rattle.std.specs.Prelude.{ℕ, false, List, Option, Vec, length, map, option_map, replicate}
 use Rattle.chr_semantics.specs.Program.{Atom}
 use Rattle.chr_semantics.specs.Tasks.{Task}
+use Rattle.chr_semantics.specs.Tree.{Trees}
 use Rattle.chr_footprint.specs.Marks.{mark_stamp}
 use Rattle.chr_rounds.specs.Rounds as rounds
 use Rattle.chr_rounds.specs.Stands as stands
 use Rattle.chr_rounds.specs.Sums.{marks_at, sum_of}
-use Rattle.chr_term.specs.TermView.{atom_view}
+use Rattle.chr_term.specs.TermView.{atom_over}
 use Rattle.chr_term.specs.declared.term.Sym.{Sym}
-use Rattle.chr_term.specs.declared.term.Term.{Term}
 use Rattle.chr_machine.specs.MachineView.{machine_view}
 use Rattle.chr_machine.specs.Model.{Model, state_in}
 use Rattle.chr_machine.specs.declared.machine.Machine.{Machine}
@@ -24,11 +24,11 @@ touches_at m t = sum_of (mark_stamp m.base.store m.base.entries) (marks_at m.rul
 abbrev pub round_of : Model → List Task → Option Atom → rounds.Round
 round_of m ts g = record { at = m.steps; next = m.base.store.next_id; guest = g; sums = map (touches_at m) ts; flags = replicate (length ts) false }
 
-module _ {A : Type 0} where
-  -- a guest as it is kept: its symbol and its arguments
-  abbrev pub kept_guest : Option (Sym × Vec (Term A) A) → Option Atom
-  kept_guest g = option_map (λ p. atom_view p.0 p.1.items) g
+-- a guest as it is kept: its symbol and its arguments
+abbrev pub kept_guest : Option (Sym × Trees) → Option Atom
+kept_guest g = option_map (λ p. atom_over p.0 p.1) g
 
+module _ {A : Type 0} where
   abbrev pub round_view : Round A → rounds.Round
   round_view d = record { at = d.at; next = d.next.0; guest = kept_guest d.guest; sums = d.touches.items; flags = d.is_kept.items }
 

@@ -1,10 +1,10 @@
 //! What a core keeps of a round.
-ghost use Rattle.std.specs.Prelude.{◌≡◌, ◌<◌, ◌==◌, IfOk, Some, false, length, replicate, set, slice_get, true, unwrap_or};
+ghost use Rattle.std.specs.Prelude.{◌≡◌, ◌<◌, ◌==◌, IfOk, Some, false, length, option_map, replicate, set, slice_get, true, unwrap_or};
 ghost use Rattle.chr_semantics.specs.Schedule.{same_goal};
 ghost use Rattle.chr_semantics.specs.Snapshot as semantics;
 ghost use Rattle.chr_semantics.specs.State.{resolved_atom};
 ghost use Rattle.chr_store.specs.Rows.{row_atom};
-ghost use Rattle.chr_find.specs.SnapshotView.{IsSnapshot, guest_view};
+ghost use Rattle.chr_find.specs.SnapshotView.{IsSnapshot};
 ghost use Rattle.chr_machine.specs.MachineView.{machine_view};
 ghost use Rattle.chr_rounds.specs.Rounds.{flag_in};
 ghost use Rattle.chr_core.specs.RoundView.{kept_guest, round_of, round_view};
@@ -15,7 +15,7 @@ use chr_bind::Bindings;
 use chr_find::Snapshot;
 use chr_machine::Machine;
 use chr_store::{Id, Row};
-use chr_term::{Sym, Term, copy_all};
+use chr_term::{Args, Sym};
 use std::alloc::Allocator;
 
 /// A round: the transitions before it, the next identity there, its guest with the bindings applied, how often the footprint of each task
@@ -24,21 +24,20 @@ use std::alloc::Allocator;
 pub(crate) struct Round<A: Allocator> {
     pub(crate) at: u64,
     pub(crate) next: Id,
-    pub(crate) guest: Option<(Sym, Vec<Term<A>, A>)>,
+    pub(crate) guest: Option<(Sym, Args<A>)>,
     pub(crate) touches: Vec<u128, A>,
     pub(crate) is_kept: Vec<bool, A>,
 }
 
-/// The guest again.
-fn copied_guest<A: Allocator + Copy>(
-    alloc: A,
-    guest: Option<(Sym, &[Term<A>])>,
-) -> Result<Option<(Sym, Vec<Term<A>, A>)>, Memory>
-    ensures { IfOk result (λ copied. kept_guest copied ≡ guest_view guest.entry) }
+/// The guest of a snapshot again.
+fn shared_guest<A: Allocator + Copy>(
+    guest: Option<&Row<A>>,
+) -> Result<Option<(Sym, Args<A>)>, Memory>
+    ensures { IfOk result (λ shared. kept_guest shared ≡ option_map (λ row. row_atom row.now) guest.entry) }
 {
     match guest {
         None => Ok(None),
-        Some((sym, args)) => Ok(Some((sym, copy_all(alloc, args)?))),
+        Some(row) => Ok(Some((row.sym, row.args.share()?))),
     }
 }
 
@@ -67,7 +66,7 @@ impl<A: Allocator + Copy> Round<A> {
         Ok(Round {
             at: machine.steps(),
             next: machine.store().next(),
-            guest: copied_guest(alloc, snapshot.guest())?,
+            guest: shared_guest(snapshot.guest_row())?,
             touches: touches_of(alloc, machine, tasks)?,
             is_kept: none_kept(alloc, tasks.len())?,
         })

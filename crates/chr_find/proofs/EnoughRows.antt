@@ -17,6 +17,7 @@ use Rattle.chr_store.specs.Rows.{row_atom}
 use Rattle.chr_store.specs.declared.row.Row.{Row}
 use Rattle.chr_semantics.specs.Program.{Atom}
 use Rattle.chr_semantics.specs.Subst.{Subst}
+use Rattle.chr_semantics.specs.Tree.{Trees}
 use Rattle.chr_term.specs.TermView.{atom_view, trees_view, view}
 use Rattle.chr_term.specs.declared.term.Sym.{Sym}
 use Rattle.chr_term.specs.declared.term.Term.{Term}
@@ -57,12 +58,12 @@ pub unused : (i own : ℕ) (used : List ℕ) → has_number used i ≡ false →
 unused i own used others other = let e : (i == own) ≡ false = ne_eqb i own other in rw (e, others) refl
 
 -- the row fits where it is of the head's symbol and its arguments fit
-pub head_fits : {A : Type 0} (fits : Bool) (f : Sym) (args : List (Term A)) (row : Row A) (ts : List (Term A)) (old new : Match A) → ts ≡ row.args.items → (f.0 == row.sym.0) ≡ true → FitsOrSpoils fits (trees_view args) (trees_view ts) old new
+pub head_fits : {A : Type 0} (fits : Bool) (f : Sym) (args : List (Term A)) (row : Row A) (ts : List (Term A)) (old new : Match A) → trees_view ts ≡ row.args → (f.0 == row.sym.0) ≡ true → FitsOrSpoils fits (trees_view args) (trees_view ts) old new
     → FitsHead fits (atom_view f args) (row_atom row) old new
-head_fits {A = A} fits f args row ts old new e same fit = by_fit fits (subst (λ (l : List (Term A)). FitsOrSpoils fits (trees_view args) (trees_view l) old new) e fit)
+head_fits {A = A} fits f args row ts old new e same fit = by_fit fits (subst (λ (us : Trees). FitsOrSpoils fits (trees_view args) us old new) e fit)
   where
-    by_fit : (b : Bool) → FitsOrSpoils b (trees_view args) (trees_view row.args.items) old new → FitsHead b (atom_view f args) (row_atom row) old new
-    by_fit true g m a = let p : (n : Subst) × (fit_all (trees_view args) (trees_view row.args.items) m ≡ Some n) × AgreesWith new n = g m a in (p.0, rw same p.1, p.2)
+    by_fit : (b : Bool) → FitsOrSpoils b (trees_view args) row.args old new → FitsHead b (atom_view f args) (row_atom row) old new
+    by_fit true g m a = let p : (n : Subst) × (fit_all (trees_view args) row.args m ≡ Some n) × AgreesWith new n = g m a in (p.0, rw same p.1, p.2)
     by_fit false g m a = rw same (g m a)
 
 -- and does not fit where it is of another

@@ -2,7 +2,7 @@
 use Rattle.std.specs.Prelude.{refl}
 use Rattle.std.specs.Coded.{Coded, code_by, codes}
 use Rattle.std.proofs.Props.{props}
-use Rattle.chr_bind.specs.Code.{tree_code}
+use Rattle.chr_term.specs.Code.{tree_code}
 use Rattle.chr_semantics.specs.Program.{Atom}
 use Rattle.chr_semantics.specs.Tree.{Tree, node, none}
 

@@ -6,8 +6,9 @@ use Rattle.chr_semantics.specs.Program.{Atom}
 use Rattle.chr_semantics.specs.Search.{fired_before}
 use Rattle.chr_semantics.specs.Snapshot as semantics
 use Rattle.chr_semantics.specs.Tasks as tasks
+use Rattle.chr_semantics.specs.Tree.{Trees}
 use Rattle.chr_store.specs.Rows.{row_atom}
-use Rattle.chr_term.specs.TermView.{atom_view}
+use Rattle.chr_term.specs.TermView.{atom_over, atom_view}
 use Rattle.chr_term.specs.declared.term.Sym.{Sym}
 use Rattle.chr_term.specs.declared.term.Term.{Term}
 use Rattle.chr_find.specs.Firings.{fits}
@@ -25,6 +26,10 @@ tasks_view ts = map task_view ts
 -- a guest as it is handed in and read: its symbol and its arguments
 abbrev pub guest_view : {A : Type 0} → Option (Sym × Bor (List (Term A))) → Option Atom
 guest_view g = option_map (λ p. atom_view p.0 p.1.now) g
+
+-- a constraint that is told, as it stands on a stack
+abbrev pub told_view : Option (Sym × Bor Trees) → Option Atom
+told_view g = option_map (λ p. atom_over p.0 p.1.now) g
 
 -- the constraint of the identity lives, or is yet to come, where n is the next identity
 abbrev pub is_not_dead : {A : Type 0} → Table A → ℕ → ℕ → Bool

@@ -7,7 +7,6 @@ use crate::list::{List, Place};
 use crate::root::Root;
 use chr_map::{Map, Pointer, Share};
 use chr_store::{Id, Row};
-use chr_term::are_ground;
 use std::alloc::Allocator;
 
 /// Rows at places.
@@ -46,7 +45,7 @@ impl<A: Allocator + Copy> Change<A> {
         let row = self.row.value();
         self.set(rows, List::All)?;
         self.set(rows, List::Symbol(row.sym))?;
-        if are_ground(row.args.as_slice()) {
+        if row.args.is_ground() {
             return Ok(());
         }
         self.set(rows, List::Open)

@@ -15,7 +15,6 @@ use crate::table::{Table, is_open};
 use chr_bind::Bindings;
 use chr_map::{Pointer, Share};
 use chr_store::{Id, Row};
-use chr_term::are_ground;
 use std::alloc::{Allocator, Global};
 
 /// A row in the place of another.
@@ -66,7 +65,7 @@ impl<A: Allocator + Copy> Rebound<A> {
             }
             Some(new) => new,
         };
-        if !are_ground(new.value().args.as_slice()) {
+        if !new.value().args.is_ground() {
             self.woken.push(standing.id)?;
         }
         self.replaced.push(Replaced {

@@ -17,11 +17,11 @@ pub(crate) fn resolved<A: Allocator + Copy>(
 ) -> Result<Option<Pointer<Row<A>, A>>, Memory>
     ensures { IfOk result (IsResolved bindings.now.subst (row_atom row.now)) }
 {
-    let args = row.args.as_slice();
-    if bindings.resolve_to(args, args) {
-        return Ok(None);
+    match bindings.replaced_args(&row.args)? {
+        None => Ok(None),
+        Some(args) => {
+            let row = Row { sym: row.sym, args };
+            Ok(Some(Pointer::new(alloc, row)?))
+        }
     }
-    let args = bindings.resolve_all(args)?;
-    let row = Row { sym: row.sym, args };
-    Ok(Some(Pointer::new(alloc, row)?))
 }

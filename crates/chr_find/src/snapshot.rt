@@ -59,6 +59,17 @@ impl<A: Allocator> Snapshot<A> {
             Some(row) => Some((row.value().sym, row.value().args.as_slice())),
         }
     }
+
+    /// The guest, with bindings applied.
+    pub fn guest_row(&self) -> Option<&Row<A>>
+        ensures { (q : semantics.Snapshot) → IsSnapshot self.now q →
+            q.guest ≡ option_map (λ row. row_atom row.now) result }
+    {
+        match &self.guest {
+            None => None,
+            Some(row) => Some(row.value()),
+        }
+    }
 }
 
 impl<A: Allocator + Copy> Snapshot<A> {

@@ -22,7 +22,6 @@ use crate::plan::Plan;
 use crate::standing::{Standing, collect};
 use chr_map::{Map, Pointer, Share};
 use chr_store::{Id, Row};
-use chr_term::are_ground;
 use std::alloc::{Allocator, Global};
 use std::mem;
 
@@ -51,7 +50,7 @@ pub struct Table<A: Allocator = Global> {
 pub(crate) fn is_open<A: Allocator>(row: &Row<A>) -> bool
     ensures { result ≡ not (is_ground_trees (row_atom row.now).args) }
 {
-    !are_ground(row.args.as_slice())
+    !row.args.is_ground()
 }
 
 /// Whether the newest constraint is the one with the identity.

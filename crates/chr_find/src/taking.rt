@@ -25,14 +25,14 @@ use chr_bind::Bindings;
 use chr_map::Pointer;
 use chr_rules::Program;
 use chr_store::{Fired, History, Id, Row, Store};
-use chr_term::{Sym, Term};
+use chr_term::{Args, Sym, Term};
 use std::alloc::Allocator;
 
 /// A constraint with bindings applied.
 fn resolved_row<A: Allocator + Copy>(bindings: &Bindings<A>, row: &Row<A>) -> Result<Row<A>, Memory>
     ensures { IfOk result (λ made. row_atom made ≡ resolved_atom bindings.now.subst (row_atom row.now)) }
 {
-    let args = bindings.resolve_all(row.args.as_slice())?;
+    let args = bindings.resolve_args(&row.args)?;
     Ok(Row { sym: row.sym, args })
 }
 
@@ -208,7 +208,7 @@ fn resolved_guest<A: Allocator + Copy>(
         None => return Ok(None),
         Some(guest) => guest,
     };
-    let args = bindings.resolve_all(args)?;
+    let args = Args::new(alloc, bindings.resolve_all(args)?)?;
     Ok(Some(Pointer::new(alloc, Row { sym, args })?))
 }
 

@@ -255,6 +255,32 @@ fn first_argument_index(rt: HostRuntime) -> Result<(), Fail> {
     Ok(())
 }
 
+/// A snapshot that is kept shows what it was taken of, once the rule has fired, the variable is bound, and all constraints are removed.
+fn follow_kept(rt: &impl Abort, alloc: Global, scene: &mut Scene<Global>) -> Result<(), Memory> {
+    let lists = lists_of(alloc);
+    let kept = taken(alloc, scene, (4, 1), Id(2))?;
+    fire(alloc, &mut scene.history, 0, &[4, 1])?;
+    bind_first(rt, &mut scene.bindings)?;
+    for id in 1..5u64 {
+        assert!(rt; scene.store.changes() < MAX_CHANGES);
+        scene.store.remove(Id(id));
+    }
+    assert_keyed(rt, &kept, &[1], &[2], &[3]);
+    assert!(rt; kept.guest().is_some());
+    assert!(rt; finds(&lists, &scene.program, &kept, (4, 1), &[4, 1], (1, 1))?);
+    assert!(rt; finds_taken(&lists, scene, (4, 1), &[], (0, 0))?);
+    Ok(())
+}
+
+#[test]
+fn snapshot_is_kept(rt: HostRuntime) -> Result<(), Fail> {
+    let rules = ":- chr_constraint p/2, go/0, o/1. r @ go, p(1,X) ==> o(X).";
+    let texts = (rules, "p(1,[7,8]), p(2,f(A)), p(A,9), go.");
+    let mut scene = scene_of_texts(&rt, rt.alloc(), texts)?;
+    follow_kept(&rt, rt.alloc(), &mut scene)?;
+    Ok(())
+}
+
 const JOIN: &str =
     ":- chr_constraint go/0, p/1, q/1, o/2. r @ go, p(X), q(Y) ==> X =\\= Y | o(X,Y).";
 

@@ -6,7 +6,7 @@ ghost use Rattle.chr_semantics.specs.State.{active as at_occurrence, goal, runni
 ghost use Rattle.chr_rules.specs.ProgramView.{rules_of};
 ghost use Rattle.chr_rules.specs.RuleView.{goal_view, rule_view};
 ghost use Rattle.chr_find.specs.SearchView.{IsSearchable};
-ghost use Rattle.chr_term.specs.TermView.{atom_view};
+ghost use Rattle.chr_term.specs.TermView.{atom_over};
 ghost use Rattle.chr_trace.specs.State.{elem_view, stack_view, status_view};
 ghost use Rattle.chr_resume.specs.ResumingView.{IsFresh, base_in, program_in};
 ghost use Rattle.chr_machine.specs.Firing.{ComesTo, FindsIds, FiresBelow, IsAt, IsFiring};
@@ -22,7 +22,7 @@ use chr_find::Active;
 use chr_resume::Resuming;
 use chr_rules::{Goal, Occurrence, Rule};
 use chr_store::Id;
-use chr_term::{Memory, Sym, Term};
+use chr_term::{Args, Memory, Sym};
 use chr_trace::Elem;
 use std::alloc::Allocator;
 
@@ -70,7 +70,7 @@ impl<'p, A: Allocator + Copy> Execution<'p, A> {
         active: &Active<'_, A>,
         number: u32,
         sym: Sym,
-        args: &[Term<A>],
+        args: &Args<A>,
         ids: &[u64],
     ) -> Result<Vec<Goal<A>, A>, Memory>
         requires few { self.old.steps < MAX_TRANSITIONS }
@@ -79,9 +79,9 @@ impl<'p, A: Allocator + Copy> Execution<'p, A> {
         requires fresh { IsFresh self.old.base }
         requires ascends { Ascends 0 (base_in self.old.base).store.rows
             (base_in self.old.base).store.next_id }
-        requires is_of { IsOf (base_in self.old.base).store.rows active.now.id.0 (atom_view sym args.now) }
-        requires fires { IsFiring (model_of self.old) active.now number (atom_view sym args.now) ids.now }
-        ensures ok { IfOk result (λ goals. FiresBelow self.old active.now number (atom_view sym args.now)
+        requires is_of { IsOf (base_in self.old.base).store.rows active.now.id.0 (atom_over sym args.now) }
+        requires fires { IsFiring (model_of self.old) active.now number (atom_over sym args.now) ids.now }
+        ensures ok { IfOk result (λ goals. FiresBelow self.old active.now number (atom_over sym args.now)
             ids.now self.new goals.items) }
         ensures stack { IfOk result
             (λ goals. vec_len self.new.stack + vec_len goals + 1 ≤ vec_capacity self.new.stack) }
@@ -135,7 +135,7 @@ impl<'p, A: Allocator + Copy> Execution<'p, A> {
         active: &Active<'_, A>,
         number: u32,
         sym: Sym,
-        args: Vec<Term<A>, A>,
+        args: Args<A>,
         ids: &[u64],
     ) -> Result<(), Elem<A>>
         requires few { self.old.steps < MAX_TRANSITIONS }
@@ -143,17 +143,17 @@ impl<'p, A: Allocator + Copy> Execution<'p, A> {
         requires changes { (base_in self.old.base).store.changes + 8 ≤ MAX_CHANGES }
         requires fresh { IsFresh self.old.base }
         requires proper { IsProper (rules_of (program_in self.old.base))
-            (state_in (topped (at_occurrence active.now.id.0 number (atom_view sym args.items)) (model_of self.old))) }
+            (state_in (topped (at_occurrence active.now.id.0 number (atom_over sym args)) (model_of self.old))) }
         requires running { status_view self.old.status ≡ running }
-        requires fires { IsFiring (model_of self.old) active.now number (atom_view sym args.items) ids.now }
+        requires fires { IsFiring (model_of self.old) active.now number (atom_over sym args) ids.now }
         ensures ok { OnOk result
-            (Made (at_occurrence active.now.id.0 number (atom_view sym args.items)) self.old self.new) }
+            (Made (at_occurrence active.now.id.0 number (atom_over sym args)) self.old self.new) }
         ensures err { IfErr result
-            (λ top. elem_view top ≡ at_occurrence active.now.id.0 number (atom_view sym args.items)) }
+            (λ top. elem_view top ≡ at_occurrence active.now.id.0 number (atom_over sym args)) }
         ensures kept { OnErr result (Kept self.old self.new) }
         ensures room { OnErr result (vec_len self.new.stack < vec_capacity self.new.stack) }
     {
-        match self.fire_below(active, number, sym, args.as_slice(), ids) {
+        match self.fire_below(active, number, sym, &args, ids) {
             Err(_) => Err(Elem::Active(active.id, number, sym, args)),
             Ok(goals) => {
                 let keeps = active.place < active.rule.kept;
@@ -169,7 +169,7 @@ impl<'p, A: Allocator + Copy> Execution<'p, A> {
         active: &Active<'_, A>,
         number: u32,
         sym: Sym,
-        args: Vec<Term<A>, A>,
+        args: Args<A>,
         ids: Option<&[u64]>,
     ) -> Result<(), Elem<A>>
         requires few { self.old.steps < MAX_TRANSITIONS }
@@ -178,13 +178,13 @@ impl<'p, A: Allocator + Copy> Execution<'p, A> {
         requires small { number < 2 ^ 31 }
         requires running { status_view self.old.status ≡ running }
         requires proper { IsProper (rules_of (program_in self.old.base))
-            (state_in (topped (at_occurrence active.now.id.0 number (atom_view sym args.items)) (model_of self.old))) }
-        requires comes { ComesTo (model_of self.old) active.now number (atom_view sym args.items)
+            (state_in (topped (at_occurrence active.now.id.0 number (atom_over sym args)) (model_of self.old))) }
+        requires comes { ComesTo (model_of self.old) active.now number (atom_over sym args)
             (option_map (λ list. list.now) ids) }
         ensures ok { OnOk result
-            (Made (at_occurrence active.now.id.0 number (atom_view sym args.items)) self.old self.new) }
+            (Made (at_occurrence active.now.id.0 number (atom_over sym args)) self.old self.new) }
         ensures err { IfErr result
-            (λ top. elem_view top ≡ at_occurrence active.now.id.0 number (atom_view sym args.items)) }
+            (λ top. elem_view top ≡ at_occurrence active.now.id.0 number (atom_over sym args)) }
         ensures kept { OnErr result (Kept self.old self.new) }
         ensures room { OnErr result (vec_len self.new.stack < vec_capacity self.new.stack) }
     {
@@ -203,7 +203,7 @@ impl<'p, A: Allocator + Copy> Execution<'p, A> {
         active: &Active<'_, A>,
         number: u32,
         sym: Sym,
-        args: Vec<Term<A>, A>,
+        args: Args<A>,
     ) -> Result<(), Elem<A>>
         requires few { self.old.steps < MAX_TRANSITIONS }
         requires room { vec_len self.old.stack < vec_capacity self.old.stack }
@@ -211,13 +211,13 @@ impl<'p, A: Allocator + Copy> Execution<'p, A> {
         requires small { number < 2 ^ 31 }
         requires running { status_view self.old.status ≡ running }
         requires proper { IsProper (rules_of (program_in self.old.base))
-            (state_in (topped (at_occurrence active.now.id.0 number (atom_view sym args.items)) (model_of self.old))) }
+            (state_in (topped (at_occurrence active.now.id.0 number (atom_over sym args)) (model_of self.old))) }
         requires searchable { IsSearchable active.now.rule.now active.now.place }
-        requires at { IsAt (model_of self.old) active.now number (atom_view sym args.items) }
+        requires at { IsAt (model_of self.old) active.now number (atom_over sym args) }
         ensures ok { OnOk result
-            (Made (at_occurrence active.now.id.0 number (atom_view sym args.items)) self.old self.new) }
+            (Made (at_occurrence active.now.id.0 number (atom_over sym args)) self.old self.new) }
         ensures err { IfErr result
-            (λ top. elem_view top ≡ at_occurrence active.now.id.0 number (atom_view sym args.items)) }
+            (λ top. elem_view top ≡ at_occurrence active.now.id.0 number (atom_over sym args)) }
         ensures kept { OnErr result (Kept self.old self.new) }
         ensures room { OnErr result (vec_len self.new.stack < vec_capacity self.new.stack) }
     {
@@ -235,7 +235,7 @@ impl<'p, A: Allocator + Copy> Execution<'p, A> {
         id: Id,
         number: u32,
         sym: Sym,
-        args: Vec<Term<A>, A>,
+        args: Args<A>,
         answer: Answer,
     ) -> Result<(), Elem<A>>
         requires room { vec_len self.old.stack < vec_capacity self.old.stack }
@@ -243,13 +243,13 @@ impl<'p, A: Allocator + Copy> Execution<'p, A> {
         requires changes { (base_in self.old.base).store.changes + 8 ≤ MAX_CHANGES }
         requires running { status_view self.old.status ≡ running }
         requires proper { IsProper (rules_of (program_in self.old.base))
-            (state_in (topped (at_occurrence id.0 number (atom_view sym args.items)) (model_of self.old))) }
+            (state_in (topped (at_occurrence id.0 number (atom_over sym args)) (model_of self.old))) }
         requires answer { AnswersStep
-            (topped (at_occurrence id.0 number (atom_view sym args.items)) (model_of self.old)) answer }
+            (topped (at_occurrence id.0 number (atom_over sym args)) (model_of self.old)) answer }
         ensures ok { OnOk result
-            (Made (at_occurrence id.0 number (atom_view sym args.items)) self.old self.new) }
+            (Made (at_occurrence id.0 number (atom_over sym args)) self.old self.new) }
         ensures err { IfErr result
-            (λ top. elem_view top ≡ at_occurrence id.0 number (atom_view sym args.items)) }
+            (λ top. elem_view top ≡ at_occurrence id.0 number (atom_over sym args)) }
         ensures kept { OnErr result (Kept self.old self.new) }
         ensures room { OnErr result (vec_len self.new.stack < vec_capacity self.new.stack) }
     {

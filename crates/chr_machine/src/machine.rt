@@ -129,7 +129,10 @@ impl<'p, A: Allocator + Copy> Machine<'p, A> {
     pub fn guest(&self) -> Option<(Sym, &[Term<A>])>
         ensures { guest_view result ≡ guest (state_in (machine_view self.now)) }
     {
-        self.execution.guest()
+        match self.execution.guest() {
+            None => None,
+            Some((sym, args)) => Some((sym, args.as_slice())),
+        }
     }
 
     /// The searches that are worth making ahead, at most 64: those of the constraint that is active on top, where it lives, then those of the first

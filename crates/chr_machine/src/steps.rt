@@ -11,7 +11,7 @@ ghost use Rattle.chr_semantics.specs.State.{active, goal, known, resolved_atom, 
 ghost use Rattle.chr_semantics.specs.Step.{search_at};
 ghost use Rattle.chr_semantics.specs.Text.{known_text, line_text};
 ghost use Rattle.chr_rules.specs.ProgramView.{names_of, rules_of};
-ghost use Rattle.chr_term.specs.TermView.{atom_view};
+ghost use Rattle.chr_term.specs.TermView.{atom_over};
 ghost use Rattle.chr_trace.specs.State.{elem_view, stack_view, status_view};
 ghost use Rattle.chr_trace.specs.Texts.{texts};
 ghost use Rattle.chr_resume.specs.ResumingView.{base_in, program_in};
@@ -23,7 +23,7 @@ ghost use Rattle.chr_machine.specs.Told.{told_line};
 use crate::state::{Execution, Shown};
 use chr_rules::Goal;
 use chr_store::Id;
-use chr_term::{Memory, Sym, Term, copy_all};
+use chr_term::{Args, Memory, Sym};
 use chr_trace::{Elem, Scribe, Status};
 use std::alloc::Allocator;
 
@@ -62,12 +62,12 @@ impl<'p, A: Allocator + Copy> Execution<'p, A> {
     }
 
     /// Makes the text of a constraint with its identity, unless it is kept.
-    fn show(&mut self, id: Id, sym: Sym, args: &[Term<A>]) -> Result<(), Memory>
-        requires { IsOf (base_in self.old.base).store.rows id.0 (atom_view sym args.now) }
+    fn show(&mut self, id: Id, sym: Sym, args: &Args<A>) -> Result<(), Memory>
+        requires { IsOf (base_in self.old.base).store.rows id.0 (atom_over sym args.now) }
         ensures kept { Kept self.old self.new }
         ensures base { self.new.base ≡ self.old.base }
         ensures text { OnOk result (self.new.shown.text.items ≡ known_text (names_of (program_in self.old.base))
-            self.old.var_names (resolved_atom (base_in self.old.base).subst (atom_view sym args.now)) id.0) }
+            self.old.var_names (resolved_atom (base_in self.old.base).subst (atom_over sym args.now)) id.0) }
     {
         if self.is_shown(id) {
             return Ok(());
@@ -106,16 +106,16 @@ impl<'p, A: Allocator + Copy> Execution<'p, A> {
         &mut self,
         id: Id,
         sym: Sym,
-        args: &[Term<A>],
+        args: &Args<A>,
         told: Told<'_>,
     ) -> Result<Vec<u8, A>, Memory>
         requires few { self.old.steps < MAX_TRANSITIONS }
-        requires is_of { IsOf (base_in self.old.base).store.rows id.0 (atom_view sym args.now) }
+        requires is_of { IsOf (base_in self.old.base).store.rows id.0 (atom_over sym args.now) }
         ensures kept { Kept self.old self.new }
         ensures base { self.new.base ≡ self.old.base }
         ensures line { IfOk result (λ line. line.items ≡ line_text (names_of (program_in self.old.base))
             self.old.var_names (self.old.steps + 1)
-            (told_line told.entry (resolved_atom (base_in self.old.base).subst (atom_view sym args.now)) id.0)) }
+            (told_line told.entry (resolved_atom (base_in self.old.base).subst (atom_over sym args.now)) id.0)) }
         ensures room { OnOk result (vec_len self.new.lines < vec_capacity self.new.lines) }
     {
         self.show(id, sym, args)?;
@@ -168,16 +168,16 @@ impl<'p, A: Allocator + Copy> Execution<'p, A> {
     }
 
     /// Reactivate: the constraint is active at its first occurrence.
-    pub fn reactivate(&mut self, id: Id, sym: Sym, args: Vec<Term<A>, A>) -> Result<(), Elem<A>>
+    pub fn reactivate(&mut self, id: Id, sym: Sym, args: Args<A>) -> Result<(), Elem<A>>
         requires room { vec_len self.old.stack < vec_capacity self.old.stack }
         requires few { self.old.steps < MAX_TRANSITIONS }
-        requires is_of { IsOf (base_in self.old.base).store.rows id.0 (atom_view sym args.items) }
-        ensures ok { OnOk result (Made (known id.0 (atom_view sym args.items)) self.old self.new) }
-        ensures err { IfErr result (λ top. elem_view top ≡ known id.0 (atom_view sym args.items)) }
+        requires is_of { IsOf (base_in self.old.base).store.rows id.0 (atom_over sym args) }
+        ensures ok { OnOk result (Made (known id.0 (atom_over sym args)) self.old self.new) }
+        ensures err { IfErr result (λ top. elem_view top ≡ known id.0 (atom_over sym args)) }
         ensures kept { OnErr result (Kept self.old self.new) }
         ensures room { OnErr result (vec_len self.new.stack < vec_capacity self.new.stack) }
     {
-        let Ok(line) = self.line_about(id, sym, args.as_slice(), Told::Reactivates) else {
+        let Ok(line) = self.line_about(id, sym, &args, Told::Reactivates) else {
             return Err(Elem::Known(id, sym, args));
         };
         self.log(line);
@@ -186,27 +186,27 @@ impl<'p, A: Allocator + Copy> Execution<'p, A> {
     }
 
     /// Activate: the constraint enters the store under the next identity.
-    pub fn activate(&mut self, sym: Sym, args: Vec<Term<A>, A>) -> Result<(), Elem<A>>
+    pub fn activate(&mut self, sym: Sym, args: Args<A>) -> Result<(), Elem<A>>
         requires room { vec_len self.old.stack < vec_capacity self.old.stack }
         requires few { self.old.steps < MAX_TRANSITIONS }
         requires changes { (base_in self.old.base).store.changes + 8 ≤ MAX_CHANGES }
         requires ascends { Ascends 0 (base_in self.old.base).store.rows
             (base_in self.old.base).store.next_id }
         ensures ok { OnOk result
-            (Made (goal (constraint (atom_view sym args.items))) self.old self.new) }
+            (Made (goal (constraint (atom_over sym args))) self.old self.new) }
         ensures err { IfErr result
-            (λ top. elem_view top ≡ goal (constraint (atom_view sym args.items))) }
+            (λ top. elem_view top ≡ goal (constraint (atom_over sym args))) }
         ensures kept { OnErr result (Kept self.old self.new) }
         ensures room { OnErr result (vec_len self.new.stack < vec_capacity self.new.stack) }
     {
         let next = self.base.store().next();
-        let Ok(text) = self.scribe().known(sym, args.as_slice(), next) else {
+        let Ok(text) = self.scribe().known(sym, &args, next) else {
             return Err(Elem::Goal(Goal::Chr(sym, args)));
         };
         let Ok(line) = self.scribe().activates(self.steps + 1, text.as_slice()) else {
             return Err(Elem::Goal(Goal::Chr(sym, args)));
         };
-        let Ok(copied) = copy_all(self.alloc, args.as_slice()) else {
+        let Ok(shared) = args.share() else {
             return Err(Elem::Goal(Goal::Chr(sym, args)));
         };
         let Ok(()) = self.lines.reserve(1) else {
@@ -221,7 +221,7 @@ impl<'p, A: Allocator + Copy> Execution<'p, A> {
                     is_right: true,
                 };
                 self.log(line);
-                self.put(Elem::Active(id, 1, sym, copied));
+                self.put(Elem::Active(id, 1, sym, shared));
                 Ok(())
             }
         }
@@ -233,22 +233,22 @@ impl<'p, A: Allocator + Copy> Execution<'p, A> {
         id: Id,
         number: u32,
         sym: Sym,
-        args: Vec<Term<A>, A>,
+        args: Args<A>,
     ) -> Result<(), Elem<A>>
         requires room { vec_len self.old.stack < vec_capacity self.old.stack }
         requires few { self.old.steps < MAX_TRANSITIONS }
-        requires is_of { IsOf (base_in self.old.base).store.rows id.0 (atom_view sym args.items) }
+        requires is_of { IsOf (base_in self.old.base).store.rows id.0 (atom_over sym args) }
         requires none { search_at (rules_of (program_in self.old.base))
-            (state_in (topped (active id.0 number (atom_view sym args.items)) (model_of self.old))) id.0 number
-            (atom_view sym args.items) ≡ no_occurrence }
+            (state_in (topped (active id.0 number (atom_over sym args)) (model_of self.old))) id.0 number
+            (atom_over sym args) ≡ no_occurrence }
         ensures ok { OnOk result
-            (Made (active id.0 number (atom_view sym args.items)) self.old self.new) }
+            (Made (active id.0 number (atom_over sym args)) self.old self.new) }
         ensures err { IfErr result
-            (λ top. elem_view top ≡ active id.0 number (atom_view sym args.items)) }
+            (λ top. elem_view top ≡ active id.0 number (atom_over sym args)) }
         ensures kept { OnErr result (Kept self.old self.new) }
         ensures room { OnErr result (vec_len self.new.stack < vec_capacity self.new.stack) }
     {
-        let Ok(line) = self.line_about(id, sym, args.as_slice(), Told::Drops(number)) else {
+        let Ok(line) = self.line_about(id, sym, &args, Told::Drops(number)) else {
             return Err(Elem::Active(id, number, sym, args));
         };
         self.log(line);
@@ -262,23 +262,23 @@ impl<'p, A: Allocator + Copy> Execution<'p, A> {
         id: Id,
         number: u32,
         sym: Sym,
-        args: Vec<Term<A>, A>,
+        args: Args<A>,
     ) -> Result<(), Elem<A>>
         requires room { vec_len self.old.stack < vec_capacity self.old.stack }
         requires few { self.old.steps < MAX_TRANSITIONS }
         requires small { number < 2 ^ 31 }
-        requires is_of { IsOf (base_in self.old.base).store.rows id.0 (atom_view sym args.items) }
+        requires is_of { IsOf (base_in self.old.base).store.rows id.0 (atom_over sym args) }
         requires none { search_at (rules_of (program_in self.old.base))
-            (state_in (topped (active id.0 number (atom_view sym args.items)) (model_of self.old))) id.0 number
-            (atom_view sym args.items) ≡ no_firing }
+            (state_in (topped (active id.0 number (atom_over sym args)) (model_of self.old))) id.0 number
+            (atom_over sym args) ≡ no_firing }
         ensures ok { OnOk result
-            (Made (active id.0 number (atom_view sym args.items)) self.old self.new) }
+            (Made (active id.0 number (atom_over sym args)) self.old self.new) }
         ensures err { IfErr result
-            (λ top. elem_view top ≡ active id.0 number (atom_view sym args.items)) }
+            (λ top. elem_view top ≡ active id.0 number (atom_over sym args)) }
         ensures kept { OnErr result (Kept self.old self.new) }
         ensures room { OnErr result (vec_len self.new.stack < vec_capacity self.new.stack) }
     {
-        let Ok(line) = self.line_about(id, sym, args.as_slice(), Told::Defaults(number)) else {
+        let Ok(line) = self.line_about(id, sym, &args, Told::Defaults(number)) else {
             return Err(Elem::Active(id, number, sym, args));
         };
         self.log(line);

@@ -6,8 +6,8 @@ ghost use Rattle.chr_semantics.specs.State.{Element, goal};
 ghost use Rattle.chr_semantics.specs.Tasks.{below_top, element_search, guest, guest_in, guest_tasks, same_task, tasks, tasks_from};
 ghost use Rattle.chr_semantics.specs.declared.limits.TheConstants.{MAX_TASKS};
 ghost use Rattle.chr_rules.specs.ProgramView.{rules_of};
-ghost use Rattle.chr_find.specs.SnapshotView.{guest_view, task_view, tasks_view};
-ghost use Rattle.chr_term.specs.TermView.{atom_view};
+ghost use Rattle.chr_find.specs.SnapshotView.{task_view, tasks_view, told_view};
+ghost use Rattle.chr_term.specs.TermView.{atom_over};
 ghost use Rattle.chr_trace.specs.State.{elem_view, stack_view};
 ghost use Rattle.chr_resume.specs.ResumingView.{program_in};
 ghost use Rattle.chr_machine.specs.Gathering.{gathered, waiting_view, with_task};
@@ -18,7 +18,7 @@ use chr_find::Task;
 use chr_rules::Goal;
 use chr_semantics::limits::{MAX_TASKS, MAX_WAITING_ELEMENTS};
 use chr_store::Id;
-use chr_term::{Memory, Sym, Term};
+use chr_term::{Args, Memory, Sym};
 use chr_trace::Elem;
 use std::alloc::Allocator;
 
@@ -31,14 +31,14 @@ pub struct Waiting {
 }
 
 /// The constraint that an element of the stack tells, if it tells one.
-fn told<A: Allocator>(elem: &Elem<A>) -> Option<(Sym, &[Term<A>])>
+fn told<A: Allocator>(elem: &Elem<A>) -> Option<(Sym, &Args<A>)>
     ensures some { IfSome result (λ found. elem_view elem.now
-        ≡ goal (constraint (atom_view found.0 found.1.now))) }
+        ≡ goal (constraint (atom_over found.0 found.1.now))) }
     ensures none { IfNone result ((es : List Element) → guest_in (elem_view elem.now ∷ es) ≡ guest_in es) }
 {
     match elem {
         Elem::Goal(goal) => match goal {
-            Goal::Chr(sym, args) => Some((*sym, args.as_slice())),
+            Goal::Chr(sym, args) => Some((*sym, args)),
             Goal::Told(_, _, _) => None,
             Goal::Fail => None,
         },
@@ -47,8 +47,8 @@ fn told<A: Allocator>(elem: &Elem<A>) -> Option<(Sym, &[Term<A>])>
 }
 
 /// The topmost constraint of a stack that is not yet active.
-pub fn first_told<A: Allocator>(stack: &[Elem<A>]) -> Option<(Sym, &[Term<A>])>
-    ensures { guest_view result ≡ guest_in (stack_view stack.now) }
+pub fn first_told<A: Allocator>(stack: &[Elem<A>]) -> Option<(Sym, &Args<A>)>
+    ensures { told_view result ≡ guest_in (stack_view stack.now) }
 {
     let mut left = stack.len();
     while left > 0 {
@@ -183,8 +183,8 @@ impl<'p, A: Allocator + Copy> Execution<'p, A> {
     }
 
     /// The guest of the state.
-    pub fn guest(&self) -> Option<(Sym, &[Term<A>])>
-        ensures { guest_view result ≡ guest (state_in (model_of self.now)) }
+    pub fn guest(&self) -> Option<(Sym, &Args<A>)>
+        ensures { told_view result ≡ guest (state_in (model_of self.now)) }
     {
         match self.active_top() {
             None => None,

@@ -21,7 +21,7 @@ ghost use Rattle.chr_machine.specs.Waking.{element_at, elements_at};
 use crate::state::Execution;
 use chr_rules::Goal;
 use chr_store::Id;
-use chr_term::{Memory, copy_all};
+use chr_term::Memory;
 use chr_trace::Elem;
 use std::alloc::Allocator;
 
@@ -52,8 +52,7 @@ impl<'p, A: Allocator + Copy> Execution<'p, A> {
         match self.base.store().row(id) {
             None => Ok(()),
             Some(row) => {
-                let args = copy_all(self.alloc, row.args.as_slice())?;
-                elems.push(Elem::Known(id, row.sym, args))?;
+                elems.push(Elem::Known(id, row.sym, row.args.share()?))?;
                 Ok(())
             }
         }

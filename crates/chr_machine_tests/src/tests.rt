@@ -7,7 +7,8 @@ use chr_machine::*;
 use chr_rules::{Program, Query};
 use chr_term::{Memory, Sym};
 use chr_texts::{
-    GCD, GROUND_RULE, PROPAGATE_THEN_SIMPLIFY, SPECULATION, WAKING_ORDER, Worked, both_of,
+    GCD, GROUND_RULE, PROPAGATE_THEN_SIMPLIFY, SPECULATION, TURNED_ROUND, WAKING_ORDER, Worked,
+    both_of,
 };
 use smallvec::SmallVec;
 use std::alloc::{Allocator, Global};

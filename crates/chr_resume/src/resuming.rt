@@ -6,7 +6,7 @@ ghost use Rattle.chr_semantics.specs.declared.limits.TheConstants.{MAX_CHANGES};
 ghost use Rattle.chr_store.specs.HistoryView.{entries_view};
 ghost use Rattle.chr_store.specs.StoreView.{store_view};
 ghost use Rattle.chr_rules.specs.ProgramView.{rules_of};
-ghost use Rattle.chr_term.specs.TermView.{atom_view};
+ghost use Rattle.chr_term.specs.TermView.{atom_over};
 ghost use Rattle.chr_base.specs.BaseView.{base_view};
 ghost use Rattle.chr_resume.specs.Bookmarks.{AreAhead};
 
@@ -18,7 +18,7 @@ use chr_find::Plan;
 use chr_map::Pointer;
 use chr_rules::Program;
 use chr_store::{History, Id, Store};
-use chr_term::{Sym, Term};
+use chr_term::{Args, Sym};
 use std::alloc::{Allocator, Global};
 
 /// The base of a run under a program, whose searches go on where the last one for the same constraint at the same head ended. Contracts see
@@ -87,10 +87,10 @@ impl<'p, A: Allocator + Copy> Resuming<'p, A> {
     }
 
     /// Adds a constraint under the next identity. Where memory is refused, nothing changes, and the arguments come back.
-    pub fn add(&mut self, sym: Sym, args: Vec<Term<A>, A>) -> Result<Id, (Vec<Term<A>, A>, Memory)>
+    pub fn add(&mut self, sym: Sym, args: Args<A>) -> Result<Id, (Args<A>, Memory)>
         requires { (base_in self.old).store.changes < MAX_CHANGES }
         ensures ok { OnOk result (base_in self.new
-            ≡ record (base_in self.old) { store = added (base_in self.old).store (atom_view sym args.items) }) }
+            ≡ record (base_in self.old) { store = added (base_in self.old).store (atom_over sym args) }) }
         ensures id { IfOk result (λ id. id.0 ≡ (base_in self.old).store.next_id) }
         ensures back { IfErr result (λ refused. refused.0 ≡ args) }
         ensures err { OnErr result (base_in self.new ≡ base_in self.old) }

@@ -7,7 +7,7 @@ ghost use Rattle.chr_semantics.specs.State.{State, goal};
 ghost use Rattle.chr_rules.specs.ProgramView.{rules_of};
 ghost use Rattle.chr_rules.specs.RuleView.{goal_view, rule_view};
 ghost use Rattle.chr_find.specs.SearchView.{IsSearchable};
-ghost use Rattle.chr_find.specs.SnapshotView.{IsSnapshot, guest_view, tasks_view};
+ghost use Rattle.chr_find.specs.SnapshotView.{IsSnapshot, tasks_view, told_view};
 ghost use Rattle.chr_base.specs.Searching.{FindsFirst, IsBodyFor};
 ghost use Rattle.chr_base.specs.Taking.{IsStateOf};
 
@@ -16,7 +16,7 @@ use crate::resuming::Resuming;
 use chr_find::{Active, Cursor, Snapshot, Task};
 use chr_rules::{Goal, Rule};
 use chr_store::Id;
-use chr_term::{Sym, Term};
+use chr_term::{Args, Sym};
 use std::alloc::Allocator;
 
 impl<'p, A: Allocator + Copy> Resuming<'p, A> {
@@ -46,11 +46,11 @@ impl<'p, A: Allocator + Copy> Resuming<'p, A> {
     pub fn snapshot(
         &self,
         tasks: Vec<Task, A>,
-        guest: Option<(Sym, &[Term<A>])>,
+        guest: Option<(Sym, &Args<A>)>,
     ) -> Result<Snapshot<A>, Memory>
         requires { IsShareable self.now }
         ensures { IfOk result (λ shared. (s : State) → IsStateOf (base_in self.now) s →
-            IsSnapshot shared (snapshot_for s (tasks_view tasks.items) (guest_view guest.entry))) }
+            IsSnapshot shared (snapshot_for s (tasks_view tasks.items) (told_view guest.entry))) }
     {
         self.base.snapshot(tasks, guest)
     }

@@ -1,12 +1,8 @@
 -- Trees that are built one after the other.
-use Rattle.std.proofs.Common.{rules, Vec, ◌≡◌, ◌∙◌, ◌<◌, ◌+◌, ℕ, List, [], ◌∷◌, ◌++◌, Some, length, drop, drop-cons, add-one, get_or, map, refl, ap, sym, append_assoc, append-nil, arith, ◌≤◌}
+use Rattle.std.proofs.Common.{◌≡◌, ◌∙◌, ◌<◌, ◌+◌, ℕ, List, [], ◌∷◌, ◌++◌, Some, length, drop, drop-cons, add-one, get_or, map, refl, ap, sym, append_assoc, append-nil, arith, ◌≤◌}
 use Rattle.std.specs.Prelude.{unwrap_or}
 use Rattle.std.proofs.lemmas.Grind.{common_steps}
 use Rattle.std.specs.Prelude.{IfOk, Result, Ok, Err}
-use Rattle.chr_term.specs.TermView.{view as tree_view, trees_view}
-use Rattle.chr_term.specs.declared.term.Sym.{Sym}
-use Rattle.chr_term.specs.declared.term.Term.{Term, the_lemmas}
-use Rattle.chr_term.specs.declared.term.Term.TheVariants.{Node}
 use Rattle.chr_semantics.specs.Tree.{Tree, trees_of, node, more}
 use Rattle.chr_semantics.specs.Names.{Names, symbol_of, with_symbol}
 use Rattle.chr_semantics.specs.Syntax as s
@@ -76,9 +72,6 @@ turn_done f v q r zs k z h e a = ap (λ xs. in_turn f q (map v xs)) (one_dropped
 
 pub all_dropped : {X : Type 0} (xs : List X) (k : ℕ) → length xs ≤ k → drop k xs ≡ []
 all_dropped xs k h = grind (arith, common_steps)
-
-pub node_view : {A : Type 0} (f : Sym) (ts : Vec (Term A) A) → tree_view (Node f ts) ≡ node f.0 (trees_view ts.items)
-node_view f ts = search (rules, the_lemmas)
 
 pub ok_answers : {T E : Type 0} (P Q : T → Type 0) (r : Result T E) → ((x : T) → P x → Q x) → IfOk r P → IfOk r Q
 ok_answers P Q (Ok x) f h = f x h

@@ -3,7 +3,7 @@ use Rattle.std.specs.Prelude.{ℕ, ◌+◌, Bool, false, List, [], ◌∷◌, ma
 use Rattle.chr_semantics.specs.Tree.{Tree}
 use Rattle.chr_semantics.specs.Program as semantics
 use Rattle.chr_semantics.specs.Program.{Head, constraint, tell, evaluate, compare, fail, less, greater, at_most, at_least, equals, differs}
-use Rattle.chr_term.specs.TermView.{atom_view, view}
+use Rattle.chr_term.specs.TermView.{atom_over, atom_view, view}
 use Rattle.chr_term.specs.declared.term.Sym.{Sym}
 use Rattle.chr_term.specs.declared.term.Term.{Term}
 use Rattle.chr_bind.specs.Guards.{test_view}
@@ -26,7 +26,7 @@ builtin_view Equals t u = compare equals t u
 builtin_view Differs t u = compare differs t u
 
 abbrev pub goal_view : {A : Type 0} → Goal A → semantics.Goal
-goal_view (Chr f ts) = constraint (atom_view f ts.items)
+goal_view (Chr f ts) = constraint (atom_over f ts)
 goal_view (Told op t u) = builtin_view op (view t) (view u)
 goal_view Fail = fail
 

@@ -5,7 +5,7 @@ ghost use Rattle.chr_term.specs.TermView.{view};
 ghost use Rattle.chr_rules.specs.RuleView.{goal_view, query_view};
 ghost use Rattle.chr_rules.specs.Signs.{sign_text};
 
-use chr_term::{Memory, Names, Sym, Term, VarNames, copy, copy_all, print, print_atom};
+use chr_term::{Args, Memory, Names, Sym, Term, VarNames, copy, print, print_atom};
 use std::alloc::{Allocator, Global};
 
 /// A built-in of Solve but `fail`.
@@ -33,7 +33,7 @@ pub enum Op {
 #[derive(Drop)]
 pub enum Goal<A: Allocator = Global> {
     /// A CHR constraint.
-    Chr(Sym, Vec<Term<A>, A>),
+    Chr(Sym, Args<A>),
     /// A built-in with its two sides.
     Told(Op, Term<A>, Term<A>),
     /// `fail`
@@ -66,7 +66,7 @@ pub struct Query<A: Allocator = Global> {
 }
 
 impl<A: Allocator + Copy> Query<A> {
-    /// An equal query, in memory of its own.
+    /// An equal query, whose terms are shared.
     pub fn copy(&self) -> Result<Query<A>, Memory>
         ensures { IfOk result (λ copied. query_view copied ≡ query_view self.now) }
     {
@@ -78,7 +78,7 @@ impl<A: Allocator + Copy> Query<A> {
     }
 }
 
-/// Equal goals.
+/// Equal goals, whose terms are shared.
 pub fn copy_goals<A: Allocator + Copy>(
     alloc: A,
     goals: &[Goal<A>],
@@ -87,20 +87,20 @@ pub fn copy_goals<A: Allocator + Copy>(
 {
     let mut copied = Vec::with_capacity(alloc, goals.len())?;
     for goal in goals {
-        copied.push(copy_goal(alloc, goal)?)?;
+        copied.push(copy_goal(goal)?)?;
     }
     Ok(copied)
 }
 
-/// An equal goal.
-fn copy_goal<A: Allocator + Copy>(alloc: A, goal: &Goal<A>) -> Result<Goal<A>, Memory>
+/// An equal goal, whose terms are shared.
+fn copy_goal<A: Allocator + Copy>(goal: &Goal<A>) -> Result<Goal<A>, Memory>
     ensures { IfOk result (λ copied. goal_view copied ≡ goal_view goal.now) }
 {
     match goal {
-        Goal::Chr(sym, args) => Ok(Goal::Chr(*sym, copy_all(alloc, args.as_slice())?)),
+        Goal::Chr(sym, args) => Ok(Goal::Chr(*sym, args.share()?)),
         Goal::Told(op, left, right) => {
-            let left = copy(alloc, left)?;
-            let right = copy(alloc, right)?;
+            let left = copy(left)?;
+            let right = copy(right)?;
             Ok(Goal::Told(*op, left, right))
         }
         Goal::Fail => Ok(Goal::Fail),
@@ -108,11 +108,11 @@ fn copy_goal<A: Allocator + Copy>(alloc: A, goal: &Goal<A>) -> Result<Goal<A>, M
 }
 
 /// Appends the text of a goal. Where memory is refused, the text is as before.
-pub fn print_goal<A: Allocator, N: Allocator, V: Allocator, O: Allocator>(
-    names: &Names<N>,
-    vars: &VarNames<V>,
+pub fn print_goal<A: Allocator>(
+    names: &Names<A>,
+    vars: &VarNames<A>,
     goal: &Goal<A>,
-    out: &mut Vec<u8, O>,
+    out: &mut Vec<u8, A>,
 ) -> Result<(), Memory>
     ensures ok { OnOk result
         (out.new.items ≡ out.old.items ++ goal_text names.now vars.now (goal_view goal.now)) }
@@ -126,13 +126,13 @@ pub fn print_goal<A: Allocator, N: Allocator, V: Allocator, O: Allocator>(
 }
 
 /// Appends two sides with their sign between them.
-fn print_sides<A: Allocator, N: Allocator, V: Allocator, O: Allocator>(
-    names: &Names<N>,
-    vars: &VarNames<V>,
+fn print_sides<A: Allocator>(
+    names: &Names<A>,
+    vars: &VarNames<A>,
     left: &Term<A>,
     op: Op,
     right: &Term<A>,
-    out: &mut Vec<u8, O>,
+    out: &mut Vec<u8, A>,
 ) -> Result<(), Memory>
     ensures ok { OnOk result (out.new.items ≡ out.old.items
         ++ infix_text names.now vars.now (view left.now) (sign_text op) (view right.now)) }
@@ -147,13 +147,13 @@ fn print_sides<A: Allocator, N: Allocator, V: Allocator, O: Allocator>(
 }
 
 /// Appends two sides with their sign between them, or a first part of that.
-fn write_sides<A: Allocator, N: Allocator, V: Allocator, O: Allocator>(
-    names: &Names<N>,
-    vars: &VarNames<V>,
+fn write_sides<A: Allocator>(
+    names: &Names<A>,
+    vars: &VarNames<A>,
     left: &Term<A>,
     op: Op,
     right: &Term<A>,
-    out: &mut Vec<u8, O>,
+    out: &mut Vec<u8, A>,
 ) -> Result<(), Memory>
     ensures ok { OnOk result (out.new.items ≡ out.old.items
         ++ infix_text names.now vars.now (view left.now) (sign_text op) (view right.now)) }

@@ -17,7 +17,7 @@ use crate::trees::{atom, tree};
 use crate::variables::Variables;
 use chr_bind::Test;
 use chr_read::{Expr, Head, Item};
-use chr_term::{Memory, Names, Sym, Term};
+use chr_term::{Args, Memory, Names, Sym, Term};
 use chr_tokens::Relation;
 use std::alloc::Allocator;
 
@@ -105,7 +105,7 @@ fn goal_of<'s, A: Allocator + Copy>(
         return Ok(Some(Goal::Fail));
     }
     let (sym, args) = atom(alloc, names, variables, name, args)?;
-    Ok(Some(Goal::Chr(sym, args)))
+    Ok(Some(Goal::Chr(sym, Args::new(alloc, args)?)))
 }
 
 /// The trees of the two sides of an item.

@@ -32,7 +32,7 @@ pub(crate) fn tree<'s, A: Allocator + Copy>(
         Expr::Number(number) => Ok(Term::Int(*number)),
         Expr::Call(name, args) => {
             let (sym, args) = atom(alloc, names, variables, name.as_str(), args.as_slice())?;
-            Ok(Term::Node(sym, args))
+            Term::node(alloc, sym, args)
         }
         Expr::List(items) => list(alloc, names, variables, items.as_slice()),
         Expr::ListWithEnd(items, end) => {
@@ -112,7 +112,8 @@ fn list<'s, A: Allocator + Copy>(
     ensures grows { Grows names.old names.new }
 {
     let trees = trees(alloc, names, variables, items)?;
-    list_of(alloc, trees, Term::Node(Sym::NIL, Vec::new(alloc)))
+    let empty = Term::node(alloc, Sym::NIL, Vec::new(alloc))?;
+    list_of(alloc, trees, empty)
 }
 
 /// A list with an end of its own.
@@ -163,7 +164,7 @@ fn node<A: Allocator + Copy>(
     let mut args = Vec::with_capacity(alloc, 2)?;
     args.push(left)?;
     args.push(right)?;
-    Ok(Term::Node(sym, args))
+    Term::node(alloc, sym, args)
 }
 
 /// A chain of operators, from the left.

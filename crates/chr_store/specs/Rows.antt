@@ -3,11 +3,11 @@ use Rattle.std.specs.Prelude.{◌≡◌, ℕ, ◌+◌, ◌==◌, not, filter, Li
 use Rattle.chr_semantics.specs.Program.{Atom}
 use Rattle.chr_semantics.specs.Search.{atom_of}
 use Rattle.chr_semantics.specs.Match as semantics
-use Rattle.chr_term.specs.TermView.{atom_view}
+use Rattle.chr_term.specs.TermView.{atom_over}
 use Rattle.chr_store.specs.declared.row.Row.{Row}
 
 abbrev pub row_atom : {A : Type 0} → Row A → Atom
-row_atom r = atom_view r.sym r.args.items
+row_atom r = atom_over r.sym r.args
 
 -- the rows in slots whose first has the identity k
 abbrev pub rows_from : {A : Type 0} → ℕ → List (Option (Row A)) → List semantics.Row

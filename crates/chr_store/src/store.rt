@@ -5,7 +5,7 @@ ghost use Rattle.chr_semantics.specs.Changes.{added, empty_store, rebound, remov
 ghost use Rattle.chr_semantics.specs.declared.limits.TheConstants.{MAX_CHANGES};
 ghost use Rattle.chr_semantics.specs.Keys.{rows_keyed, rows_of};
 ghost use Rattle.chr_semantics.specs.Search.{atom_of};
-ghost use Rattle.chr_term.specs.TermView.{atom_view};
+ghost use Rattle.chr_term.specs.TermView.{atom_over};
 ghost use Rattle.chr_store.specs.Counts.{AreStamped, AreUpTo, count_at, has_stamp, last_at};
 ghost use Rattle.chr_store.specs.KeyView.{keys_view};
 ghost use Rattle.chr_store.specs.Looks.{AreListed, HasRoomAt, ids_under, spare_under};
@@ -22,7 +22,7 @@ use crate::slots::Slots;
 use crate::stamps::Stamps;
 use crate::waking::{raise_all, wakes};
 use chr_bind::Bindings;
-use chr_term::{Memory, Sym, Term};
+use chr_term::{Args, Memory, Sym};
 use std::alloc::{Allocator, Global};
 
 /// The constraints of a run. Each gets the next identity when it is added, from 1 on. Contracts see a list by ascending identity, the next
@@ -59,10 +59,10 @@ impl<A: Allocator + Copy> Store<A> {
 
     /// Adds a constraint under the next identity. All its room is made first: where memory is refused, nothing changes, and the arguments
     /// come back.
-    pub fn add(&mut self, sym: Sym, args: Vec<Term<A>, A>) -> Result<Id, (Vec<Term<A>, A>, Memory)>
+    pub fn add(&mut self, sym: Sym, args: Args<A>) -> Result<Id, (Args<A>, Memory)>
         requires { (store_view self.old).changes < MAX_CHANGES }
         ensures ok { OnOk result
-            (store_view self.new ≡ added (store_view self.old) (atom_view sym args.items)) }
+            (store_view self.new ≡ added (store_view self.old) (atom_over sym args)) }
         ensures id { IfOk result (λ id. id.0 ≡ (store_view self.old).next_id) }
         ensures back { IfErr result (λ refused. refused.0 ≡ args) }
         ensures err { OnErr result (store_view self.new ≡ store_view self.old) }

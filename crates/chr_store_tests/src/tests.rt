@@ -1,7 +1,7 @@
 use chr_bind::Bindings;
 use chr_semantics::limits::MAX_CHANGES;
 use chr_store::*;
-use chr_term::{Sym, Term};
+use chr_term::{Args, Sym, Term};
 use std::alloc::{Allocator, Global};
 use std::process::Abort;
 use std::test::Fail;
@@ -13,10 +13,10 @@ const P: Sym = Sym(7);
 const Q: Sym = Sym(8);
 
 /// One argument.
-fn one<A: Allocator + Copy>(alloc: A, only: Term<A>) -> Result<Vec<Term<A>, A>, Memory> {
+fn one<A: Allocator + Copy>(alloc: A, only: Term<A>) -> Result<Args<A>, Memory> {
     let mut args = Vec::new(alloc);
     args.push(only)?;
-    Ok(args)
+    Args::new(alloc, args)
 }
 
 /// `add` to a store with few changes.
@@ -24,7 +24,7 @@ fn add<A: Allocator + Copy>(
     rt: &impl Abort,
     store: &mut Store<A>,
     sym: Sym,
-    args: Vec<Term<A>, A>,
+    args: Args<A>,
 ) -> Result<Id, Memory> {
     assert!(rt; store.changes() < MAX_CHANGES);
     match store.add(sym, args) {
@@ -83,9 +83,9 @@ fn fill_index(rt: &impl Abort, alloc: Global, store: &mut Store) -> Result<(), M
             Some(number) => Term::Int(number),
         };
         let args = Vec::from_array(alloc, [first, Term::Int(second)])?;
-        add(rt, store, P, args)?;
+        add(rt, store, P, Args::new(alloc, args)?)?;
     }
-    add(rt, store, Q, Vec::new(alloc))?;
+    add(rt, store, Q, Args::new(alloc, Vec::new(alloc))?)?;
     Ok(())
 }
 

@@ -6,6 +6,8 @@ pub mod Tables
 pub mod Texts
 pub mod Outcomes
 pub mod Sizes
+pub mod Replaced
+pub mod Lists
 pub mod Joined
 pub mod Extensions
 pub mod Signs

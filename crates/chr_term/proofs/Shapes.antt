@@ -1,11 +1,11 @@
 -- Whether a shape is printed as a sum, or as a product.
-use Rattle.std.proofs.Common.{rules, ◌≡◌, ◌∷◌, [], ℕ, Vec, refl, ap, ◌∙◌, sym}
+use Rattle.std.proofs.Common.{◌≡◌, ◌∷◌, [], ℕ, refl, ap, ◌∙◌, sym}
 use Rattle.chr_semantics.specs.Names.{Names, VarNames}
 use Rattle.chr_semantics.specs.Print.{Printing, node_printing, pair_printing, printing_of, printings_of}
-use Rattle.chr_semantics.specs.Tree.{node}
+use Rattle.chr_semantics.specs.Tree.{Trees}
 use Rattle.chr_term.specs.TermView.{trees_view, view}
 use Rattle.chr_term.specs.declared.term.Sym.{Sym}
-use Rattle.chr_term.specs.declared.term.Term.{Term, the_lemmas}
+use Rattle.chr_term.specs.declared.term.Term.{Term}
 use Rattle.chr_term.specs.declared.term.Term.TheVariants.{Node}
 use Rattle.chr_term.specs.Shapes.{is_product_shape, is_sum_shape, shaped_printing}
 use Rattle.chr_term.specs.declared.printer.Shape.{Shape}
@@ -23,14 +23,11 @@ shaped_product Sum names f a b = refl
 shaped_product Product names f a b = refl
 shaped_product Call names f a b = refl
 
-node_view : {A : Type 0} (f : Sym) (ts : Vec (Term A) A) → view (Node f ts) ≡ node f.0 (trees_view ts.items)
-node_view f ts = search (rules, the_lemmas)
-
 -- a shape that prints what a symbol and two printed arguments do
 abbrev pub Prints : Shape → ℕ → Type 0
 Prints s f = (names : Names) (a b : Printing) → pair_printing names f a b ≡ shaped_printing s names f a b
 
-module _ {A : Type 0} (names : Names) (vars : VarNames) (t : Term A) (f : Sym) (ts : Vec (Term A) A) (a b : Term A) (s : Shape) (is : t ≡ Node f ts) (two : ts.items ≡ a ∷ b ∷ []) (prints : Prints s f.0) where
+module _ {A : Type 0} (names : Names) (vars : VarNames) (t : Term A) (f : Sym) (ts : Trees) (a b : Term A) (s : Shape) (is : t ≡ Node f ts) (two : ts ≡ trees_view (a ∷ b ∷ [])) (prints : Prints s f.0) where
   left : Printing
   left = printing_of names vars (view a)
 
@@ -39,7 +36,7 @@ module _ {A : Type 0} (names : Names) (vars : VarNames) (t : Term A) (f : Sym) (
 
   shaped : shaped_printing s names f.0 left right ≡ printing_of names vars (view t)
   unfolding left right
-  shaped = sym (ap (λ u. printing_of names vars (view u)) is ∙ ap (printing_of names vars) (node_view f ts) ∙ ap (λ us. node_printing names f.0 (printings_of names vars (trees_view us))) two ∙ prints names left right)
+  shaped = sym (ap (λ u. printing_of names vars (view u)) is ∙ ap (λ us. node_printing names f.0 (printings_of names vars us)) two ∙ prints names left right)
 
   pub sum_printed : is_sum_shape s ≡ (printing_of names vars (view t)).is_sum
   sum_printed = shaped_sum s names f.0 left right ∙ ap (λ p. p.is_sum) shaped

@@ -1,4 +1,7 @@
 pub mod TermView
+pub mod Code
+pub mod Depth
+pub mod Replaced
 pub mod Size
 pub mod Texts
 pub mod Entries

@@ -14,14 +14,14 @@ use crate::{Memory, Names, Sym, Term, VarNames};
 use std::alloc::Allocator;
 
 /// The arguments of a term, by their number.
-enum Arguments<'a, T: Allocator> {
+enum Arguments<'a, A: Allocator> {
     Zero,
-    One(&'a Term<T>),
-    Two(&'a Term<T>, &'a Term<T>),
-    Many(&'a Term<T>, &'a Term<T>, &'a Term<T>, &'a [Term<T>]),
+    One(&'a Term<A>),
+    Two(&'a Term<A>, &'a Term<A>),
+    Many(&'a Term<A>, &'a Term<A>, &'a Term<A>, &'a [Term<A>]),
 }
 
-fn by_number<T: Allocator>(args: &[Term<T>]) -> Arguments<'_, T>
+fn by_number<A: Allocator>(args: &[Term<A>]) -> Arguments<'_, A>
     ensures { AreArguments result args.now }
 {
     match args {
@@ -62,7 +62,7 @@ fn shape_with_two(sym: Sym) -> Shape
 }
 
 /// The shape of a term with two arguments; any other has that of a call.
-fn shape_of<T: Allocator>(term: &Term<T>) -> Shape
+fn shape_of<A: Allocator>(term: &Term<A>) -> Shape
     ensures sum { (names : _) (vars : _) →
         is_sum_shape result ≡ (printing_of names vars (view term.now)).is_sum }
     ensures product { (names : _) (vars : _) →
@@ -93,7 +93,7 @@ fn is_product(shape: Shape) -> bool
 }
 
 /// Whether the left operand of a product, or else of a sum, stands in parentheses.
-fn wraps_left<T: Allocator>(product: bool, term: &Term<T>) -> bool
+fn wraps_left<A: Allocator>(product: bool, term: &Term<A>) -> bool
     ensures { (names : _) (vars : _) →
         result ≡ (product && (printing_of names vars (view term.now)).is_sum) }
 {
@@ -101,7 +101,7 @@ fn wraps_left<T: Allocator>(product: bool, term: &Term<T>) -> bool
 }
 
 /// Whether the right operand of a product, or else of a sum, stands in parentheses.
-fn wraps_right<T: Allocator>(product: bool, term: &Term<T>) -> bool
+fn wraps_right<A: Allocator>(product: bool, term: &Term<A>) -> bool
     ensures { (names : _) (vars : _) →
         let printing = printing_of names vars (view term.now) in
         result ≡ (printing.is_sum || (product && printing.is_product)) }
@@ -112,20 +112,16 @@ fn wraps_right<T: Allocator>(product: bool, term: &Term<T>) -> bool
 
 /// What the printing reads.
 #[derive(Drop)]
-pub(crate) struct Printer<'a, N: Allocator, V: Allocator> {
-    pub names: &'a Names<N>,
-    pub vars: &'a VarNames<V>,
+pub(crate) struct Printer<'a, A: Allocator> {
+    pub names: &'a Names<A>,
+    pub vars: &'a VarNames<A>,
 }
 
-impl<N: Allocator, V: Allocator> Printer<'_, N, V> {
+impl<A: Allocator> Printer<'_, A> {
     ghost use Rattle.chr_term.specs.Printer.{name_by, node_text_by, printing_by, printings_by};
 
     #[cycle(write)]
-    pub fn write<T: Allocator, O: Allocator>(
-        &self,
-        term: &Term<T>,
-        out: &mut Vec<u8, O>,
-    ) -> Result<(), Memory>
+    pub fn write(&self, term: &Term<A>, out: &mut Vec<u8, A>) -> Result<(), Memory>
         ensures ok { OnOk result
             (out.new.items ≡ out.old.items ++ (printing_by self.now term.now).text) }
         ensures kept { IsExtension out.old.items out.new.items }
@@ -137,7 +133,7 @@ impl<N: Allocator, V: Allocator> Printer<'_, N, V> {
         }
     }
 
-    fn write_var<O: Allocator>(&self, number: u64, out: &mut Vec<u8, O>) -> Result<(), Memory>
+    fn write_var(&self, number: u64, out: &mut Vec<u8, A>) -> Result<(), Memory>
         ensures ok { OnOk result
             (out.new.items ≡ out.old.items ++ var_text self.now.vars.now number) }
         ensures kept { IsExtension out.old.items out.new.items }
@@ -151,7 +147,7 @@ impl<N: Allocator, V: Allocator> Printer<'_, N, V> {
         }
     }
 
-    fn write_name<O: Allocator>(&self, sym: Sym, out: &mut Vec<u8, O>) -> Result<(), Memory>
+    fn write_name(&self, sym: Sym, out: &mut Vec<u8, A>) -> Result<(), Memory>
         ensures ok { OnOk result (out.new.items ≡ out.old.items ++ name_by self.now sym) }
         ensures kept { IsExtension out.old.items out.new.items }
     {
@@ -163,7 +159,7 @@ impl<N: Allocator, V: Allocator> Printer<'_, N, V> {
     }
 
     /// A name with the parenthesis that opens its arguments.
-    fn write_opening<O: Allocator>(&self, sym: Sym, out: &mut Vec<u8, O>) -> Result<(), Memory>
+    fn write_opening(&self, sym: Sym, out: &mut Vec<u8, A>) -> Result<(), Memory>
         ensures ok { OnOk result
             (out.new.items ≡ out.old.items ++ (name_by self.now sym ++ 40 ∷ [])) }
         ensures kept { IsExtension out.old.items out.new.items }
@@ -173,12 +169,7 @@ impl<N: Allocator, V: Allocator> Printer<'_, N, V> {
     }
 
     #[cycle(write)]
-    pub fn write_node<T: Allocator, O: Allocator>(
-        &self,
-        sym: Sym,
-        args: &[Term<T>],
-        out: &mut Vec<u8, O>,
-    ) -> Result<(), Memory>
+    pub fn write_node(&self, sym: Sym, args: &[Term<A>], out: &mut Vec<u8, A>) -> Result<(), Memory>
         ensures ok { OnOk result
             (out.new.items ≡ out.old.items ++ node_text_by self.now sym args.now) }
         ensures kept { IsExtension out.old.items out.new.items }
@@ -204,12 +195,12 @@ impl<N: Allocator, V: Allocator> Printer<'_, N, V> {
     }
 
     #[cycle(write)]
-    fn write_pair<T: Allocator, O: Allocator>(
+    fn write_pair(
         &self,
         sym: Sym,
-        left: &Term<T>,
-        right: &Term<T>,
-        out: &mut Vec<u8, O>,
+        left: &Term<A>,
+        right: &Term<A>,
+        out: &mut Vec<u8, A>,
     ) -> Result<(), Memory>
         ensures ok { OnOk result (out.new.items ≡ out.old.items ++ (pair_printing
             self.now.names.now sym.0
@@ -226,11 +217,11 @@ impl<N: Allocator, V: Allocator> Printer<'_, N, V> {
 
     /// A list, by its first element and the rest.
     #[cycle(write)]
-    fn write_list<T: Allocator, O: Allocator>(
+    fn write_list(
         &self,
-        first: &Term<T>,
-        rest: &Term<T>,
-        out: &mut Vec<u8, O>,
+        first: &Term<A>,
+        rest: &Term<A>,
+        out: &mut Vec<u8, A>,
     ) -> Result<(), Memory>
         ensures ok { OnOk result (out.new.items ≡ out.old.items ++ (list_printing
             (printing_by self.now first.now) (printing_by self.now rest.now)).text) }
@@ -243,12 +234,12 @@ impl<N: Allocator, V: Allocator> Printer<'_, N, V> {
 
     /// A name with two arguments.
     #[cycle(write)]
-    fn write_two<T: Allocator, O: Allocator>(
+    fn write_two(
         &self,
         sym: Sym,
-        left: &Term<T>,
-        right: &Term<T>,
-        out: &mut Vec<u8, O>,
+        left: &Term<A>,
+        right: &Term<A>,
+        out: &mut Vec<u8, A>,
     ) -> Result<(), Memory>
         ensures ok { OnOk result (out.new.items ≡ out.old.items ++ call_text (name_by self.now sym)
             (printing_by self.now left.now ∷ printing_by self.now right.now ∷ [])) }
@@ -261,13 +252,13 @@ impl<N: Allocator, V: Allocator> Printer<'_, N, V> {
     }
 
     #[cycle(write)]
-    fn write_operator<T: Allocator, O: Allocator>(
+    fn write_operator(
         &self,
         product: bool,
         sym: Sym,
-        left: &Term<T>,
-        right: &Term<T>,
-        out: &mut Vec<u8, O>,
+        left: &Term<A>,
+        right: &Term<A>,
+        out: &mut Vec<u8, A>,
     ) -> Result<(), Memory>
         ensures ok { OnOk result (out.new.items ≡ out.old.items ++ operator_text product sym.0
             (printing_by self.now left.now) (printing_by self.now right.now)) }
@@ -279,14 +270,14 @@ impl<N: Allocator, V: Allocator> Printer<'_, N, V> {
     }
 
     #[cycle(write)]
-    fn write_many<T: Allocator, O: Allocator>(
+    fn write_many(
         &self,
         sym: Sym,
-        first: &Term<T>,
-        second: &Term<T>,
-        third: &Term<T>,
-        others: &[Term<T>],
-        out: &mut Vec<u8, O>,
+        first: &Term<A>,
+        second: &Term<A>,
+        third: &Term<A>,
+        others: &[Term<A>],
+        out: &mut Vec<u8, A>,
     ) -> Result<(), Memory>
         ensures ok { let one = printing_by self.now in OnOk result
             (out.new.items ≡ out.old.items ++ call_text (name_by self.now sym)
@@ -301,11 +292,7 @@ impl<N: Allocator, V: Allocator> Printer<'_, N, V> {
 
     /// An argument with its comma.
     #[cycle(write)]
-    fn write_next<T: Allocator, O: Allocator>(
-        &self,
-        term: &Term<T>,
-        out: &mut Vec<u8, O>,
-    ) -> Result<(), Memory>
+    fn write_next(&self, term: &Term<A>, out: &mut Vec<u8, A>) -> Result<(), Memory>
         ensures ok { OnOk result
             (out.new.items ≡ out.old.items ++ 44 ∷ (printing_by self.now term.now).text) }
         ensures kept { IsExtension out.old.items out.new.items }
@@ -316,11 +303,11 @@ impl<N: Allocator, V: Allocator> Printer<'_, N, V> {
 
     /// An argument with its comma, the others, and the closing parenthesis.
     #[cycle(write)]
-    fn write_from<T: Allocator, O: Allocator>(
+    fn write_from(
         &self,
-        term: &Term<T>,
-        others: &[Term<T>],
-        out: &mut Vec<u8, O>,
+        term: &Term<A>,
+        others: &[Term<A>],
+        out: &mut Vec<u8, A>,
     ) -> Result<(), Memory>
         ensures ok { OnOk result
             (out.new.items ≡ out.old.items ++ 44 ∷ ((printing_by self.now term.now).text
@@ -333,11 +320,7 @@ impl<N: Allocator, V: Allocator> Printer<'_, N, V> {
     }
 
     #[cycle(write)]
-    fn write_others<T: Allocator, O: Allocator>(
-        &self,
-        others: &[Term<T>],
-        out: &mut Vec<u8, O>,
-    ) -> Result<(), Memory>
+    fn write_others(&self, others: &[Term<A>], out: &mut Vec<u8, A>) -> Result<(), Memory>
         ensures ok { OnOk result
             (out.new.items ≡ out.old.items ++ texts_from (printings_by self.now others.now)) }
         ensures kept { IsExtension out.old.items out.new.items }
@@ -349,12 +332,7 @@ impl<N: Allocator, V: Allocator> Printer<'_, N, V> {
     }
 
     #[cycle(write)]
-    fn write_wrapped<T: Allocator, O: Allocator>(
-        &self,
-        wrap: bool,
-        term: &Term<T>,
-        out: &mut Vec<u8, O>,
-    ) -> Result<(), Memory>
+    fn write_wrapped(&self, wrap: bool, term: &Term<A>, out: &mut Vec<u8, A>) -> Result<(), Memory>
         ensures ok { OnOk result (out.new.items ≡
             out.old.items ++ in_parentheses wrap (printing_by self.now term.now).text) }
         ensures kept { IsExtension out.old.items out.new.items }
@@ -370,11 +348,7 @@ impl<N: Allocator, V: Allocator> Printer<'_, N, V> {
 
     /// The rest of a list, from after an element to the closing bracket.
     #[cycle(write)]
-    fn write_tail<T: Allocator, O: Allocator>(
-        &self,
-        term: &Term<T>,
-        out: &mut Vec<u8, O>,
-    ) -> Result<(), Memory>
+    fn write_tail(&self, term: &Term<A>, out: &mut Vec<u8, A>) -> Result<(), Memory>
         ensures ok { OnOk result
             (out.new.items ≡ out.old.items ++ (printing_by self.now term.now).tail) }
         ensures kept { IsExtension out.old.items out.new.items }
@@ -407,11 +381,7 @@ impl<N: Allocator, V: Allocator> Printer<'_, N, V> {
 
     /// The end of a list that is no list.
     #[cycle(write)]
-    fn write_end<T: Allocator, O: Allocator>(
-        &self,
-        term: &Term<T>,
-        out: &mut Vec<u8, O>,
-    ) -> Result<(), Memory>
+    fn write_end(&self, term: &Term<A>, out: &mut Vec<u8, A>) -> Result<(), Memory>
         ensures ok { OnOk result (out.new.items ≡
             out.old.items ++ 124 ∷ ((printing_by self.now term.now).text ++ 93 ∷ [])) }
         ensures kept { IsExtension out.old.items out.new.items }
@@ -423,7 +393,7 @@ impl<N: Allocator, V: Allocator> Printer<'_, N, V> {
 }
 
 /// An operator, with spaces where it is a word.
-fn write_sign<O: Allocator>(sym: Sym, out: &mut Vec<u8, O>) -> Result<(), Memory>
+fn write_sign<A: Allocator>(sym: Sym, out: &mut Vec<u8, A>) -> Result<(), Memory>
     ensures ok { OnOk result (out.new.items ≡ out.old.items ++ sign_of sym.0) }
     ensures kept { IsExtension out.old.items out.new.items }
 {

@@ -15,11 +15,11 @@ use itoa::Buffer;
 use std::alloc::Allocator;
 
 /// Appends the text of a term. Where memory is refused, the text is as before.
-pub fn print<N: Allocator, V: Allocator, T: Allocator, O: Allocator>(
-    names: &Names<N>,
-    vars: &VarNames<V>,
-    term: &Term<T>,
-    out: &mut Vec<u8, O>,
+pub fn print<A: Allocator>(
+    names: &Names<A>,
+    vars: &VarNames<A>,
+    term: &Term<A>,
+    out: &mut Vec<u8, A>,
 ) -> Result<(), Memory>
     ensures ok { OnOk result
         (out.new.items ≡ out.old.items ++ term_text names.now vars.now (view term.now)) }
@@ -31,12 +31,12 @@ pub fn print<N: Allocator, V: Allocator, T: Allocator, O: Allocator>(
 }
 
 /// Appends the text of a symbol over these terms. Where memory is refused, the text is as before.
-pub fn print_atom<N: Allocator, V: Allocator, T: Allocator, O: Allocator>(
-    names: &Names<N>,
-    vars: &VarNames<V>,
+pub fn print_atom<A: Allocator>(
+    names: &Names<A>,
+    vars: &VarNames<A>,
     sym: Sym,
-    args: &[Term<T>],
-    out: &mut Vec<u8, O>,
+    args: &[Term<A>],
+    out: &mut Vec<u8, A>,
 ) -> Result<(), Memory>
     ensures ok { OnOk result
         (out.new.items ≡ out.old.items ++ atom_text names.now vars.now (atom_view sym args.now)) }

@@ -1,8 +1,8 @@
-ghost use Rattle.std.specs.Prelude.{◌≡◌, IfOk, IsTrue, ◌↔◌};
+ghost use Rattle.std.specs.Prelude.{◌≡◌, IsTrue, ◌↔◌};
 ghost use Rattle.chr_semantics.specs.Tree.{is_ground_tree, is_ground_trees};
 ghost use Rattle.chr_term.specs.TermView.{trees_view, view};
 
-use crate::Memory;
+use crate::args::Args;
 use std::alloc::{Allocator, Global};
 
 /// A symbol: a name with a number of arguments, by its number among the `Names`.
@@ -28,42 +28,16 @@ impl Sym {
 
 /// A term: a variable with its number, a whole number of 128 bits, or a symbol over terms.
 #[derive(Drop)]
+#[cycle(term)]
 pub enum Term<A: Allocator = Global> {
     Var(u64),
     Int(i128),
-    Node(Sym, Vec<Term<A>, A>),
-}
-
-/// An equal term.
-#[cycle(copy)]
-pub fn copy<A: Allocator + Copy, B: Allocator>(alloc: A, term: &Term<B>) -> Result<Term<A>, Memory>
-    ensures { IfOk result (λ copied. view copied ≡ view term.now) }
-{
-    match term {
-        Term::Var(x) => Ok(Term::Var(*x)),
-        Term::Int(z) => Ok(Term::Int(*z)),
-        Term::Node(sym, args) => Ok(Term::Node(*sym, copy_all(alloc, args.as_slice())?)),
-    }
-}
-
-/// Equal terms.
-#[cycle(copy)]
-pub fn copy_all<A: Allocator + Copy, B: Allocator>(
-    alloc: A,
-    terms: &[Term<B>],
-) -> Result<Vec<Term<A>, A>, Memory>
-    ensures { IfOk result (λ copied. trees_view copied.items ≡ trees_view terms.now) }
-{
-    let mut copied = Vec::with_capacity(alloc, terms.len())?;
-    for term in terms {
-        copied.push(copy(alloc, term)?)?;
-    }
-    Ok(copied)
+    Node(Sym, Args<A>),
 }
 
 /// Whether the terms are identical.
 #[cycle(same)]
-pub fn same<A: Allocator, B: Allocator>(left: &Term<A>, right: &Term<B>) -> bool
+pub fn same<A: Allocator>(left: &Term<A>, right: &Term<A>) -> bool
     ensures { IsTrue result ↔ (view left.now ≡ view right.now) }
 {
     match (left, right) {
@@ -77,7 +51,7 @@ pub fn same<A: Allocator, B: Allocator>(left: &Term<A>, right: &Term<B>) -> bool
 
 /// Whether the lists have one length and identical terms.
 #[cycle(same)]
-pub fn same_all<A: Allocator, B: Allocator>(left: &[Term<A>], right: &[Term<B>]) -> bool
+pub fn same_all<A: Allocator>(left: &[Term<A>], right: &[Term<A>]) -> bool
     ensures { IsTrue result ↔ (trees_view left.now ≡ trees_view right.now) }
 {
     if left.len() != right.len() {
@@ -92,19 +66,17 @@ pub fn same_all<A: Allocator, B: Allocator>(left: &[Term<A>], right: &[Term<B>])
 }
 
 /// Whether no variable occurs in the term.
-#[cycle(ground)]
 pub fn is_ground<A: Allocator>(term: &Term<A>) -> bool
     ensures { result ≡ is_ground_tree (view term.now) }
 {
     match term {
         Term::Var(_) => false,
         Term::Int(_) => true,
-        Term::Node(_, args) => are_ground(args.as_slice()),
+        Term::Node(_, args) => args.is_ground(),
     }
 }
 
 /// Whether no variable occurs in the terms.
-#[cycle(ground)]
 pub fn are_ground<A: Allocator>(terms: &[Term<A>]) -> bool
     ensures { result ≡ is_ground_trees (trees_view terms.now) }
 {

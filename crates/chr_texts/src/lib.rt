@@ -14,7 +14,9 @@ use thiserror::Error;
 
 mod worked;
 
-pub use worked::{GCD, GROUND_RULE, PROPAGATE_THEN_SIMPLIFY, SPECULATION, WAKING_ORDER, Worked};
+pub use worked::{
+    GCD, GROUND_RULE, PROPAGATE_THEN_SIMPLIFY, SPECULATION, TURNED_ROUND, WAKING_ORDER, Worked,
+};
 
 /// Why a text is no program, or no query over one.
 #[derive(Clone, Copy, PartialEq, Eq, Debug, Drop, Error)]

@@ -151,3 +151,37 @@ X = a
 history 0
 ",
 };
+
+/// A list is turned round, and a variable that stands in it twice is bound then.
+pub const TURNED_ROUND: Worked = Worked {
+    program: ":- chr_constraint turn/2, out/1.
+done @ turn([], A) <=> out(A).
+next @ turn([X|L], A) <=> turn(L, [X|A]).
+",
+    query: "turn([X,f(X)],[]), X = 1.",
+    transitions: 13,
+    text: "1 activate turn([X,f(X)],[])#1
+2 default turn([X,f(X)],[])#1:1
+3 simplify turn([X,f(X)],[])#1:2 next 1
+4 activate turn([f(X)],[X])#2
+5 default turn([f(X)],[X])#2:1
+6 simplify turn([f(X)],[X])#2:2 next 2
+7 activate turn([],[f(X),X])#3
+8 simplify turn([],[f(X),X])#3:1 done 3
+9 activate out([f(X),X])#4
+10 drop out([f(X),X])#4:1
+11 solve X = 1
+12 reactivate out([f(1),1])#4
+13 drop out([f(1),1])#4:1
+end done
+stack 0
+store 1
+out([f(1),1])#4
+bindings 1
+X = 1
+history 3
+next 1
+next 2
+done 3
+",
+};

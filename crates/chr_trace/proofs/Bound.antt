@@ -1,5 +1,5 @@
 -- Which variables are bound, and their lines.
-use Rattle.std.proofs.Common.{◌≡◌, ◌↔◌, ◌∙◌, ◌<◌, ◌+◌, ◌-◌, ℕ, suc, Bool, true, false, not, IsTrue, List, [], ◌∷◌, ◌++◌, Option, Some, None, cond, ap, arith, is_some, length, length-append, refl, rules, sym}
+use Rattle.std.proofs.Common.{◌≡◌, ◌↔◌, ◌∙◌, ◌<◌, ◌+◌, ◌-◌, ℕ, suc, Bool, true, false, not, IsTrue, List, [], ◌∷◌, ◌++◌, Option, Some, None, cond, ap, arith, is_some, length, length-append, refl, sym}
 use Rattle.std.specs.Borrow.{Bor}
 use Rattle.std.specs.Option.{option_copied}
 use Rattle.std.specs.Prelude.{codes}
@@ -9,13 +9,7 @@ use Rattle.chr_semantics.specs.Subst.{IsSolved, Subst, binds_var, value_at}
 use Rattle.chr_semantics.specs.Text.{binding_text, bindings_from}
 use Rattle.chr_semantics.specs.Tree.{var}
 use Rattle.chr_semantics.proofs.SolvedLaw.{bound_moves, unbound_stays}
-use Rattle.chr_term.specs.TermView.{view}
-use Rattle.chr_term.specs.declared.term.Term.{the_lemmas}
-use Rattle.chr_term.specs.declared.term.Term.TheVariants.{Var}
 use Rattle.chr_trace.specs.ScribeView.{name_if}
-
-pub view-Var : (A : Type 0) (x : ℕ) → view {A = A} (Var x) ≡ var x
-view-Var A x = search (rules, the_lemmas)
 
 -- a variable is bound exactly where it does not stand for itself
 pub bound_where : (s : Subst) (x : ℕ) (stays : Bool) → IsSolved s → (IsTrue stays ↔ (value_at s x ≡ var x)) → not stays ≡ binds_var s x

@@ -23,7 +23,3 @@ sides_text names vars f AtMost t u = refl
 sides_text names vars f AtLeast t u = refl
 sides_text names vars f Equals t u = refl
 sides_text names vars f Differs t u = refl
-
--- an atom with no variable stays as it is
-pub ground_atom : (s : Subst) (a : Atom) → is_ground_trees a.args ≡ true → a ≡ resolved_atom s a
-ground_atom s a h = ap (λ (ts : Trees). record { sym = a.sym; args = ts }) (sym (ground_stays_all (value_at s) a.args h))

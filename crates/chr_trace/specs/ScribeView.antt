@@ -11,17 +11,16 @@ use Rattle.chr_semantics.specs.Step.{goal_instance}
 use Rattle.chr_semantics.specs.Subst.{binds_var, value_at}
 use Rattle.chr_semantics.specs.Text.{active_text, atom_text, binding_text, bindings_from, element_text, firing_text, goal_text, known_text, line_text}
 use Rattle.chr_semantics.specs.Trace.{Line}
-use Rattle.chr_semantics.specs.Tree.{Tree}
+use Rattle.chr_semantics.specs.Tree.{Tree, Trees}
 use Rattle.chr_rules.specs.RuleView.{goal_view}
 use Rattle.chr_rules.specs.declared.goal.Goal as declared
-use Rattle.chr_term.specs.TermView.{atom_view}
+use Rattle.chr_term.specs.TermView.{atom_over}
 use Rattle.chr_term.specs.declared.term.Sym.{Sym}
-use Rattle.chr_term.specs.declared.term.Term.{Term}
 use Rattle.chr_trace.specs.declared.scribe.Scribe.{Scribe}
 
 -- an atom and a goal with the bindings applied
-abbrev pub shown_atom : {A : Type 0} → Scribe A → Sym → List (Term A) → Atom
-shown_atom w f ts = resolved_atom w.bindings.now.subst (atom_view f ts)
+abbrev pub shown_atom : {A : Type 0} → Scribe A → Sym → Trees → Atom
+shown_atom w f ts = resolved_atom w.bindings.now.subst (atom_over f ts)
 
 abbrev pub shown_goal : {A : Type 0} → Scribe A → declared.Goal A → Goal
 shown_goal w g = goal_instance (value_at w.bindings.now.subst) (goal_view g)

@@ -4,7 +4,7 @@ use Rattle.chr_semantics.specs.Changes.{Entries, Store}
 use Rattle.chr_semantics.specs.State as semantics
 use Rattle.chr_semantics.specs.State.{Element, goal, known, active, State}
 use Rattle.chr_semantics.specs.Subst.{Subst}
-use Rattle.chr_term.specs.TermView.{atom_view}
+use Rattle.chr_term.specs.TermView.{atom_over}
 use Rattle.chr_bind.specs.Values.{fault_view}
 use Rattle.chr_rules.specs.RuleView.{goal_view}
 use Rattle.chr_trace.specs.declared.state.Elem.{Elem}
@@ -14,8 +14,8 @@ use Rattle.chr_trace.specs.declared.state.Status.TheVariants.{Running, Done, Fai
 
 abbrev pub elem_view : {A : Type 0} → Elem A → Element
 elem_view (On g) = goal (goal_view g)
-elem_view (Known i f ts) = known i.0 (atom_view f ts.items)
-elem_view (Active i j f ts) = active i.0 j (atom_view f ts.items)
+elem_view (Known i f ts) = known i.0 (atom_over f ts)
+elem_view (Active i j f ts) = active i.0 j (atom_over f ts)
 
 -- the last element is the top
 abbrev pub stack_onto : {A : Type 0} → List (Elem A) → List Element → List Element

@@ -100,7 +100,7 @@ impl<'a, A: Allocator + Copy> Scribe<'a, A> {
         ensures kept { IsExtension out.old.items out.new.items }
     {
         for (id, row) in store.rows() {
-            self.write_known(row.sym, row.args.as_slice(), id, out)?;
+            self.write_known(row.sym, &row.args, id, out)?;
             write_byte(b'\n', out)?;
         }
         Ok(())

@@ -11,38 +11,32 @@ use crate::state::Elem;
 use crate::writing::{write_byte, write_number, write_text};
 use chr_rules::Goal;
 use chr_store::Id;
-use chr_term::{Memory, Sym, Term, are_ground, is_ground, print, print_atom};
+use chr_term::{Args, Memory, Sym, Term, print, print_atom};
 use std::alloc::Allocator;
 
 impl<'a, A: Allocator + Copy> Scribe<'a, A> {
-    /// Writes a term. One with no variable is not copied.
+    /// Writes a term.
     pub(crate) fn write_term(&self, term: &Term<A>, out: &mut Vec<u8, A>) -> Result<(), Memory>
         ensures ok { OnOk result (out.new.items ≡ out.old.items
             ++ term_by self.now (apply self.now.bindings.now.subst (view term.now))) }
         ensures kept { IsExtension out.old.items out.new.items }
     {
-        if is_ground(term) {
-            return print(self.names, self.var_names, term, out);
-        }
         let resolved = self.bindings.resolve(term)?;
         print(self.names, self.var_names, &resolved, out)
     }
 
-    /// Writes a symbol over terms. Where these have no variable, they are not copied.
+    /// Writes a symbol over arguments.
     pub(crate) fn write_atom(
         &self,
         sym: Sym,
-        args: &[Term<A>],
+        args: &Args<A>,
         out: &mut Vec<u8, A>,
     ) -> Result<(), Memory>
         ensures ok { OnOk result (out.new.items ≡ out.old.items
             ++ atom_by self.now (shown_atom self.now sym args.now)) }
         ensures kept { IsExtension out.old.items out.new.items }
     {
-        if are_ground(args) {
-            return print_atom(self.names, self.var_names, sym, args, out);
-        }
-        let resolved = self.bindings.resolve_all(args)?;
+        let resolved = self.bindings.resolve_args(args)?;
         print_atom(self.names, self.var_names, sym, resolved.as_slice(), out)
     }
 
@@ -53,7 +47,7 @@ impl<'a, A: Allocator + Copy> Scribe<'a, A> {
         ensures kept { IsExtension out.old.items out.new.items }
     {
         match goal {
-            Goal::Chr(sym, args) => self.write_atom(*sym, args.as_slice(), out),
+            Goal::Chr(sym, args) => self.write_atom(*sym, args, out),
             Goal::Told(op, left, right) => {
                 self.write_term(left, out)?;
                 write_text(op.sign(), out)?;
@@ -67,7 +61,7 @@ impl<'a, A: Allocator + Copy> Scribe<'a, A> {
     pub(crate) fn write_known(
         &self,
         sym: Sym,
-        args: &[Term<A>],
+        args: &Args<A>,
         id: Id,
         out: &mut Vec<u8, A>,
     ) -> Result<(), Memory>
@@ -84,7 +78,7 @@ impl<'a, A: Allocator + Copy> Scribe<'a, A> {
     pub(crate) fn write_active(
         &self,
         sym: Sym,
-        args: &[Term<A>],
+        args: &Args<A>,
         id: Id,
         occurrence: u32,
         out: &mut Vec<u8, A>,
@@ -106,9 +100,9 @@ impl<'a, A: Allocator + Copy> Scribe<'a, A> {
     {
         match elem {
             Elem::Goal(goal) => self.write_goal(goal, out),
-            Elem::Known(id, sym, args) => self.write_known(*sym, args.as_slice(), *id, out),
+            Elem::Known(id, sym, args) => self.write_known(*sym, args, *id, out),
             Elem::Active(id, occurrence, sym, args) => {
-                self.write_active(*sym, args.as_slice(), *id, *occurrence, out)
+                self.write_active(*sym, args, *id, *occurrence, out)
             }
         }
     }

@@ -8,7 +8,7 @@ ghost use Rattle.chr_trace.specs.ScribeView.{about_line, at_line, fired_line, go
 use chr_bind::{Bindings, Fault};
 use chr_rules::Goal;
 use chr_store::Id;
-use chr_term::{Memory, Names, Sym, Term, VarNames, print_number, print_numbers};
+use chr_term::{Args, Memory, Names, Sym, VarNames, print_number, print_numbers};
 use std::alloc::{Allocator, Global};
 
 /// The room that a line begins with, in bytes. Most lines need no more.
@@ -26,7 +26,7 @@ pub struct Scribe<'a, A: Allocator = Global> {
 
 impl<'a, A: Allocator + Copy> Scribe<'a, A> {
     /// The text of a constraint with its identity, which the lines about the constraint go on with.
-    pub fn known(&self, sym: Sym, args: &[Term<A>], id: Id) -> Result<Vec<u8, A>, Memory>
+    pub fn known(&self, sym: Sym, args: &Args<A>, id: Id) -> Result<Vec<u8, A>, Memory>
         ensures { IfOk result (λ text. text.items
             ≡ known_by self.now (shown_atom self.now sym args.now) id.0) }
     {

@@ -2,7 +2,7 @@
 use chr_bind::Fault;
 use chr_rules::Goal;
 use chr_store::Id;
-use chr_term::{Sym, Term};
+use chr_term::{Args, Sym};
 use std::alloc::{Allocator, Global};
 
 /// An element of the goal stack: a goal, an identified constraint, or an active one with the number of its occurrence, from 1. Each
@@ -10,8 +10,8 @@ use std::alloc::{Allocator, Global};
 #[derive(Drop)]
 pub enum Elem<A: Allocator = Global> {
     Goal(Goal<A>),
-    Known(Id, Sym, Vec<Term<A>, A>),
-    Active(Id, u32, Sym, Vec<Term<A>, A>),
+    Known(Id, Sym, Args<A>),
+    Active(Id, u32, Sym, Args<A>),
 }
 
 /// How a run stands.

@@ -21,7 +21,8 @@ use Rattle.chr_term.proofs.term.Sym.TheSendSync as sym_laws
 use Rattle.chr_rules.specs.contracts.index.Occurrence as Occurrence
 use Rattle.chr_rules.proofs.index.Occurrence.TheSendSync as occurrence_laws
 use Rattle.chr_term.proofs.names.Names.TheSendSync as names_laws
-use Rattle.chr_term.proofs.term.Term.TheLaws.TheKnot.{sync-Term}
+use Rattle.chr_term.specs.contracts.args.Args as Args
+use Rattle.chr_term.proofs.args.Args.TheLaws.TheKnot.{both_send-Args, both_sync-Args, both_sync-Term}
 
 -- a closure's captures
 pub five_send : (ν : List ℕ) (T₁ T₂ T₃ T₄ T₅ : RattleType) → IsSend T₁ → IsSend T₂ → IsSend T₃ → IsSend T₄ → IsSend T₅ → IsSend (TupleAt ν (T₁ ∷ T₂ ∷ T₃ ∷ T₄ ∷ T₅ ∷ []))
@@ -34,18 +35,24 @@ seven_send ν T₁ T₂ T₃ T₄ T₅ T₆ T₇ p q r s t u v =
     let T = type_at ν (T₁ ∷ T₂ ∷ T₃ ∷ T₄ ∷ T₅ ∷ T₆ ∷ T₇ ∷ []) in
     recorded_send _ _ _ T.to_one (struct_send (struct.shape T) (p, (q, (r, (s, (t, (u, (v, tt))))))))
 
-module _ (A : RattleType) (g : Ghosts A.Denot) (y : IsSync A) where
+module _ (A : RattleType) (g : Ghosts A.Denot) (s : IsSend A) (y : IsSync A) (f : Frees g g.dealloc_token) where
+  pub args : IsSync (Args.the_field A g).row
+  args = both_sync-Args A g (λ h hs hy. search (crosses, sendable) depth 20) (search sendable) (search sendable) (search sendable) (search (sym_laws.the_send, sym_laws.the_field_send, sendable) depth 20) (λ h hs hy. search (crosses, sendable) depth 20) (search sendable) (search sendable) (search sendable) (search (sym_laws.the_sync, sym_laws.the_field_sync, sendable) depth 20)
+
+  pub args_send : IsSend (Args.the_field A g).row
+  args_send = both_send-Args A g (λ h hs hy. search (crosses, sendable) depth 20) (search sendable) (search sendable) (search sendable) (search (sym_laws.the_send, sym_laws.the_field_send, sendable) depth 20) (λ h hs hy. search (crosses, sendable) depth 20) (search sendable) (search sendable) (search sendable) (search (sym_laws.the_sync, sym_laws.the_field_sync, sendable) depth 20)
+
   pub term : IsSync (Term.the_field A g).row
-  term = sync-Term A g (search sendable) (search sendable) (search sendable depth 20) (λ h yh. search (crosses, sendable) depth 20)
+  term = both_sync-Term A g (search sendable) (search sendable) (search (sym_laws.the_field_sync, sendable) depth 20) args
 
   pub term_row : IsSync (Term.the_row A g)
   term_row = recorded_sync _ _ _ (Term.the_type A g).to_one term
 
   pub vec_of : (R : RattleType) → IsSync R → IsSync (Vec.the_field R A g).row
-  vec_of R s = search (crosses, sendable) depth 20
+  vec_of R r = search (crosses, sendable) depth 20
 
   pub vec_row : (R : RattleType) → IsSync R → IsSync (Vec.the_row R A g)
-  vec_row R s = search (crosses, sendable) depth 20
+  vec_row R r = search (crosses, sendable) depth 20
 
   pub string : IsSync (String.the_field A g).row
   string = struct_sync (struct.shape (String.the_type A g)) (search (vec_of, crosses, sendable) depth 20)
@@ -57,7 +64,7 @@ module _ (A : RattleType) (g : Ghosts A.Denot) (y : IsSync A) where
   test_row = recorded_sync _ _ _ (Test.the_type A g).to_one test
 
   pub goal_ : IsSync (Goal.the_field A g).row
-  goal_ = let t = term in let r = term_row in enum_sync (enum.shape (Goal.the_type A g)) (search (t, r, vec_of, sendable) depth 20)
+  goal_ = let t = term in let a = args in enum_sync (enum.shape (Goal.the_type A g)) (search (t, a, sym_laws.the_field_sync, sendable) depth 20)
 
   pub goal_row : IsSync (Goal.the_row A g)
   goal_row = recorded_sync _ _ _ (Goal.the_type A g).to_one goal_

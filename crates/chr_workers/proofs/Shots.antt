@@ -6,12 +6,10 @@ use denote.Struct.Declared as struct
 use Rattle.std.specs.declared.alloc.Allocator.{Ghosts}
 use Rattle.std.proofs.CrossingOver.{crosses}
 use Rattle.std.specs.contracts.vec.Vec as Vec
-use Rattle.chr_term.specs.contracts.term.Term as Term
 use Rattle.chr_store.specs.contracts.row.Row as Row
 use Rattle.chr_map.specs.contracts.pointer.Pointer as Pointer
 use Rattle.chr_map.proofs.pointer.Pointer.TheSendSync as pointer_laws
 use Rattle.chr_map.proofs.node.Node.TheLaws.TheKnot as node_laws
-use Rattle.chr_term.proofs.term.Term.TheLaws.TheKnot.{send-Term}
 use Rattle.chr_term.proofs.term.Sym.TheSendSync as sym_laws
 use Rattle.chr_store.proofs.id.Id.TheSendSync as id_laws
 use Rattle.std.specs.contracts.sync.Arc as Arc
@@ -47,26 +45,20 @@ use Rattle.chr_find.specs.contracts.plan.Plan as Plan
 use Rattle.chr_find.proofs.plan.Plan.TheSendSync as plan_laws
 use Rattle.chr_find.specs.contracts.lists.Change as Change
 use Rattle.chr_find.specs.contracts.standing.Standing as Standing
-use Rattle.chr_workers.proofs.Crosses.{term, term_row, vec_of}
+use Rattle.chr_workers.proofs.Crosses.{args, args_send, vec_of}
 
 module _ (A : RattleType) (g : Ghosts A.Denot) (s : IsSend A) (y : IsSync A) (f : Frees g g.dealloc_token) where
   vec_send : (R : RattleType) → IsSend R → IsSend (Vec.the_field R A g).row
   vec_send R r = search (crosses, sendable) depth 20
 
-  pub term_send : IsSend (Term.the_field A g).row
-  term_send = send-Term A g (search sendable) (search sendable) (search sendable depth 20) (λ h sh. search (crosses, sendable) depth 20)
-
-  pub term_row_send : IsSend (Term.the_row A g)
-  term_row_send = recorded_send _ _ _ (Term.the_type A g).to_one term_send
-
   pub row : IsSync (Row.the_field A g).row
-  row = let args = vec_of A g y (Term.the_row A g) (term_row A g y) in struct_sync (struct.shape (Row.the_type A g)) (search (args, sym_laws.the_field_sync, sendable) depth 20)
+  row = let shared = args A g s y f in struct_sync (struct.shape (Row.the_type A g)) (search (shared, sym_laws.the_field_sync, sendable) depth 20)
 
   pub row_row : IsSync (Row.the_row A g)
   row_row = recorded_sync _ _ _ (Row.the_type A g).to_one row
 
   pub row_send : IsSend (Row.the_field A g).row
-  row_send = let args = vec_send (Term.the_row A g) term_row_send in struct_send (struct.shape (Row.the_type A g)) (search (args, sym_laws.the_field_send, sendable) depth 20)
+  row_send = let shared = args_send A g s y f in struct_send (struct.shape (Row.the_type A g)) (search (shared, sym_laws.the_field_send, sendable) depth 20)
 
   pub row_row_send : IsSend (Row.the_row A g)
   row_row_send = recorded_send _ _ _ (Row.the_type A g).to_one row_send
@@ -136,7 +128,7 @@ module _ (A : RattleType) (g : Ghosts A.Denot) (s : IsSend A) (y : IsSync A) (f 
   pub noted_keys : IsSync (NotedKeys.the_field A g).row
   noted_keys =
       let keys = key_lists in
-      let notes = vec_of A g y KeyNote.the_row key_note_laws.the_sync in
+      let notes = vec_of A g s y f KeyNote.the_row key_note_laws.the_sync in
       struct_sync (struct.shape (NotedKeys.the_type A g)) (search (keys, notes, sendable) depth 20)
 
   pub noted_keys_row : IsSync (NotedKeys.the_row A g)
@@ -149,7 +141,7 @@ module _ (A : RattleType) (g : Ghosts A.Denot) (s : IsSend A) (y : IsSync A) (f 
   noted =
       let shared_plan : IsSync (Pointer.the_field (Plan.the_row A g) A g).row = pointer_laws.the_sync (Plan.the_row A g) A g (plan_laws.the_send A g s f) s plan y f in
       let firings = fired in
-      let notes = vec_of A g y (Note.the_row A g) (recorded_sync _ _ _ (Note.the_type A g).to_one note) in
+      let notes = vec_of A g s y f (Note.the_row A g) (recorded_sync _ _ _ (Note.the_type A g).to_one note) in
       struct_sync (struct.shape (Noted.the_type A g)) (search (shared_plan, rows, firings, notes, sendable) depth 20)
 
   pub table : IsSync (Table.the_field A g).row
@@ -162,7 +154,7 @@ module _ (A : RattleType) (g : Ghosts A.Denot) (s : IsSend A) (y : IsSync A) (f 
   pub snapshot : IsSync (Snapshot.the_field A g).row
   snapshot =
       let t = table in
-      let tasks = vec_of A g y Task.the_row task_laws.the_sync in
+      let tasks = vec_of A g s y f Task.the_row task_laws.the_sync in
       let guest : IsSync (Option.the_field (Pointer.the_row (Row.the_row A g) A g)).row = (let r = shared_row in search (sendable) depth 20) in
       struct_sync (struct.shape (Snapshot.the_type A g)) (search (t, tasks, guest, id_laws.the_field_sync, sendable) depth 20)
 

@@ -14,10 +14,10 @@ const HALF: usize = 3_125;
 
 /// A list of the variables from the first one on.
 fn list_of(alloc: Global, first: usize, count: usize) -> Result<Term, Memory> {
-    let mut list = Term::Node(Sym::NIL, Vec::new(alloc));
+    let mut list = Term::node(alloc, Sym::NIL, Vec::new(alloc))?;
     for back in 1..=count {
         let var = Term::Var(first.saturating_add(count - back) as u64);
-        list = Term::Node(Sym::CONS, Vec::from_array(alloc, [var, list])?);
+        list = Term::node(alloc, Sym::CONS, Vec::from_array(alloc, [var, list])?)?;
     }
     Ok(list)
 }
@@ -31,10 +31,19 @@ fn tell(bindings: &mut Bindings, left: &Term, right: &Term) -> Result<(), Memory
     Ok(())
 }
 
+/// Binds a variable to the one before it.
+fn bind_back(bindings: &mut Bindings, var: usize) -> Result<(), Memory> {
+    let (var, less) = (
+        Term::Var(var as u64),
+        Term::Var(var.saturating_sub(1) as u64),
+    );
+    tell(bindings, &var, &less)
+}
+
 /// Binds each of the first variables to the one before it, the last one first.
 fn chain(bindings: &mut Bindings, count: usize) -> Result<(), Memory> {
     for var in (1..count).rev() {
-        tell(bindings, &Term::Var(var as u64), &Term::Var(var as u64 - 1))?;
+        bind_back(bindings, var)?;
     }
     Ok(())
 }

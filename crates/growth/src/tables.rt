@@ -5,7 +5,7 @@ use chr_find::{Active, Cursor, Memory, Plan, Table};
 use chr_map::{Pointer, Share};
 use chr_rules::Program;
 use chr_store::{Id, Row};
-use chr_term::{Sym, Term};
+use chr_term::{Args, Sym, Term};
 use chr_texts::program_of;
 use std::alloc::Global;
 use std::io;
@@ -34,13 +34,16 @@ struct Pairs {
 
 fn pair_of(alloc: Global, pairs: Pairs, id: u64) -> Result<Pointer<Row>, Memory> {
     let key = i128::from(id % pairs.keys.max(1));
-    let args = Vec::from_array(alloc, [Term::Int(key), Term::Int(key)])?;
+    let args = Args::new(
+        alloc,
+        Vec::from_array(alloc, [Term::Int(key), Term::Int(key)])?,
+    )?;
     let sym = pairs.sym;
     Pointer::new(alloc, Row { sym, args })
 }
 
 fn without_arguments(alloc: Global, sym: Sym) -> Result<Pointer<Row>, Memory> {
-    let args = Vec::new(alloc);
+    let args = Args::new(alloc, Vec::new(alloc))?;
     Pointer::new(alloc, Row { sym, args })
 }
 

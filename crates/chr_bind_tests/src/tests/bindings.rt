@@ -56,14 +56,24 @@ fn binding_calls(rt: HostRuntime) -> Result<(), Fail> {
     Ok(())
 }
 
-/// Variables that are bound one by one, each to the one before it.
+/// Binds a variable to the one before it.
+fn bind_back<A: Allocator + Copy>(
+    rt: &impl Abort,
+    bindings: &mut Bindings<A>,
+    var: u64,
+) -> Result<(), Memory> {
+    let (var, less) = (Term::Var(var), Term::Var(var.saturating_sub(1)));
+    assert_eq!(rt; unify(rt, bindings, &var, &less)?, Unified::Bound);
+    Ok(())
+}
+
+/// Variables that are bound one by one, each to the one before it, the last one first.
 #[test]
 fn a_chain_of_variables(rt: HostRuntime) -> Result<(), Fail> {
     let mut bindings = Bindings::new(rt.alloc());
     bindings.fresh(1000)?;
     for var in (1..1000u64).rev() {
-        let (var, less) = (Term::Var(var), Term::Var(var.saturating_sub(1)));
-        assert_eq!(&rt; unify(&rt, &mut bindings, &var, &less)?, Unified::Bound);
+        bind_back(&rt, &mut bindings, var)?;
     }
     assert!(&rt; stands_for(&bindings, &Term::Var(999), &Term::Var(0))?);
     Ok(())
@@ -146,8 +156,8 @@ fn is_called<M: Allocator + Copy>(
     let mut bindings = Bindings::new(alloc);
     bindings.fresh(3)?;
     unify(rt, &mut bindings, &Term::Var(0), &Term::Var(1))?;
-    let term = Term::Node(F, one(alloc, Term::Var(1))?);
-    let wanted = Term::Node(F, one(alloc, Term::Var(0))?);
+    let term = Term::node(alloc, F, one(alloc, Term::Var(1))?)?;
+    let wanted = Term::node(alloc, F, one(alloc, Term::Var(0))?)?;
     Ok(is_through(rt, meter, call, &mut bindings, (&term, &wanted), left))
 }
 
@@ -189,7 +199,7 @@ fn is_guarded<M: Allocator + Copy>(
 ) -> Result<bool, Memory> {
     meter.allow(AMPLE);
     let (patterns, terms) = (one(alloc, Term::Var(0))?, one(alloc, matched)?);
-    let test = Test::NotUnifiable(Term::Var(0), Term::Node(A, Vec::new(alloc)));
+    let test = Test::NotUnifiable(Term::Var(0), Term::node(alloc, A, Vec::new(alloc))?);
     let lists = (patterns.as_slice(), terms.as_slice());
     Ok(is_tested(rt, (alloc, meter), &test, lists, (wanted, left)))
 }
@@ -259,10 +269,10 @@ fn whole_numbers(rt: HostRuntime) -> Result<(), Fail> {
 #[test]
 fn no_numbers(rt: HostRuntime) -> Result<(), Fail> {
     let alloc = rt.alloc();
-    let name = Term::Node(A, Vec::new(alloc));
+    let name = Term::node(alloc, A, Vec::new(alloc))?;
     let unbound = value_over(alloc, Sym::PLUS, Term::Var(0), name)?;
     assert_eq!(&rt; unbound, Err(Fault::Unbound));
-    let name = Term::Node(A, Vec::new(alloc));
+    let name = Term::node(alloc, A, Vec::new(alloc))?;
     let not_number = value_over(alloc, Sym::PLUS, name, Term::Var(0))?;
     assert_eq!(&rt; not_number, Err(Fault::NotNumber));
     Ok(())

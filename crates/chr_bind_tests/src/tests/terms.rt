@@ -57,72 +57,60 @@ fn var_names<A: Allocator + Copy>(alloc: A, is_named: bool) -> Result<VarNames<A
     Ok(VarNames::new(texts))
 }
 
-/// The term is printed so, where its variable is named, or is not.
-fn assert_printed(
-    rt: &impl Abort,
-    alloc: Global,
-    (names, term): (&Names, &Term),
-    (is_named, text): (bool, &str),
-) -> Result<(), Memory> {
-    let meter = Refusing::new(alloc, 0);
-    let vars = var_names(alloc, is_named)?;
-    assert_eq!(rt; vars.name(0), is_named.then_some("X"));
-    assert_eq!(rt; vars.len(), usize::from(is_named));
-    assert!(rt; is_printed(rt, &meter, &meter, (names, &vars, term), text, AMPLE)?);
-    Ok(())
-}
-
 /// The calls of the term f(X,1), which is printed with its variable's name and without.
-fn follow_term(rt: &impl Abort, alloc: Global, names: &Names) -> Result<(), Memory> {
+fn follow_term(rt: &impl Abort, alloc: Global) -> Result<(), Memory> {
     let term = node(alloc, Sym(7), [Term::Var(0), Term::Int(1)])?;
     assert!(rt; !is_ground(&term));
+    let meter = Refusing::new(alloc, 0);
     for printed in [(true, ">f(X,1)"), (false, ">f(_0,1)")] {
-        assert_printed(rt, alloc, (names, &term), printed)?;
+        assert!(rt; is_printed(rt, &meter, &meter, printed, AMPLE)?);
     }
     Ok(())
 }
 
 #[test]
 fn term_calls(rt: HostRuntime) -> Result<(), Fail> {
-    let names = names_with_f(&rt, rt.alloc())?;
-    follow_term(&rt, rt.alloc(), &names)?;
+    follow_term(&rt, rt.alloc())?;
     Ok(())
 }
 
-/// Whether `copy` goes through with so many growths.
+/// Whether f(X,1) after `>` is printed so with so many growths, where its variable is named, or is not. A refused call prints nothing, and
+/// can be made again.
 ///
 /// For any allocator, here and below: proofs for the meter as the allocator would take much longer.
-fn is_copied<M: Allocator + Copy>(
-    rt: &impl Abort,
-    alloc: M,
-    meter: &Refusing<Global>,
-    term: &Term,
-    left: u64,
-) -> bool {
-    meter.allow(left);
-    let answer = copy(alloc, term);
-    assert_eq!(rt; answer.is_err(), was_refused(meter, left), "{left}");
-    answer.is_ok_and(|copied| same(&copied, term))
-}
-
-/// Whether `print` after `>` goes through with so many growths. A refused one prints nothing, and can be called again.
 fn is_printed<M: Allocator + Copy>(
     rt: &impl Abort,
     alloc: M,
     meter: &Refusing<Global>,
-    (names, vars, term): (&Names, &VarNames, &Term),
-    wanted: &str,
+    (is_named, wanted): (bool, &str),
     left: u64,
 ) -> Result<bool, Memory> {
     meter.allow(AMPLE);
+    let names = names_with_f(rt, alloc)?;
+    let vars = var_names(alloc, is_named)?;
+    assert_eq!(rt; vars.name(0), is_named.then_some("X"));
+    assert_eq!(rt; vars.len(), usize::from(is_named));
+    let term = node(alloc, Sym(7), [Term::Var(0), Term::Int(1)])?;
     let mut text = Vec::with_capacity(alloc, 1)?;
     text.push(b'>')?;
+    is_printed_in(rt, meter, (&names, &vars, &term), &mut text, wanted, left)
+}
+
+/// The same of known names and a term.
+fn is_printed_in<M: Allocator + Copy>(
+    rt: &impl Abort,
+    meter: &Refusing<Global>,
+    (names, vars, term): (&Names<M>, &VarNames<M>, &Term<M>),
+    text: &mut Vec<u8, M>,
+    wanted: &str,
+    left: u64,
+) -> Result<bool, Memory> {
     meter.allow(left);
-    let is_done = print(names, vars, term, &mut text).is_ok();
+    let is_done = print(names, vars, term, text).is_ok();
     assert_eq!(rt; !is_done, was_refused(meter, left), "{left}");
     if !is_done {
         assert_eq!(rt; text.as_slice(), b">".as_slice(), "{left}");
-        print(names, vars, term, &mut text)?;
+        print(names, vars, term, text)?;
     }
     assert_eq!(rt; text.as_slice(), wanted.as_bytes(), "{left}");
     Ok(is_done)
@@ -190,45 +178,42 @@ fn intern_refused(rt: HostRuntime) -> Result<(), Fail> {
     Ok(())
 }
 
-/// How often the copy of a term is refused.
-fn copies_refused(rt: &impl Abort, alloc: Global, term: &Term) -> Result<u64, Memory> {
-    let meter = Refusing::new(alloc, 0);
-    refused_in_turn(MOST, |left| -> Result<bool, Memory> {
-        Ok(is_copied(rt, &meter, &meter, term, left))
-    })
-}
-
-#[test]
-fn copy_refused(rt: HostRuntime) -> Result<(), Fail> {
-    let term = node(rt.alloc(), Sym(7), [Term::Var(0), Term::Int(1)])?;
-    let refused = copies_refused(&rt, rt.alloc(), &term)?;
-    assert!(&rt; refused > 0 && refused < MOST, "{refused}");
+/// A term is had again where no growth is allowed, and so are its arguments, which their last owner alone can have back as a list.
+fn follow_shares<M: Allocator + Copy>(
+    rt: &impl Abort,
+    alloc: M,
+    meter: &Refusing<Global>,
+) -> Result<(), Memory> {
+    meter.allow(AMPLE);
+    let term = node(alloc, Sym(7), [Term::Var(0), Term::Int(1)])?;
+    meter.allow(0);
+    let copied = copy(&term)?;
+    assert!(rt; same(&copied, &term));
+    assert_eq!(rt; meter.asked(), 0);
+    let Term::Node(_, args) = term else {
+        return Ok(());
+    };
+    let Err(args) = args.into_vec() else {
+        panic!(rt; "another owner has them");
+    };
+    drop(copied);
+    assert!(rt; args.into_vec().is_ok_and(|terms| terms.len() == 2));
     Ok(())
 }
 
-/// How often the print of f(X,1) is refused.
-fn prints_refused(
-    rt: &impl Abort,
-    alloc: Global,
-    known: (&Names, &VarNames, &Term),
-) -> Result<u64, Memory> {
-    let meter = Refusing::new(alloc, 0);
-    refused_in_turn(MOST, |left| {
-        is_printed(rt, &meter, &meter, known, ">f(X,1)", left)
-    })
-}
-
-/// The same with a term of its own.
-fn prints_refused_over(rt: &impl Abort, alloc: Global, names: &Names) -> Result<u64, Memory> {
-    let vars = var_names(alloc, true)?;
-    let term = node(alloc, Sym(7), [Term::Var(0), Term::Int(1)])?;
-    prints_refused(rt, alloc, (names, &vars, &term))
+#[test]
+fn terms_shared(rt: HostRuntime) -> Result<(), Fail> {
+    let meter = Refusing::new(rt.alloc(), 0);
+    follow_shares(&rt, &meter, &meter)?;
+    Ok(())
 }
 
 #[test]
 fn print_refused(rt: HostRuntime) -> Result<(), Fail> {
-    let names = names_with_f(&rt, rt.alloc())?;
-    let refused = prints_refused_over(&rt, rt.alloc(), &names)?;
+    let meter = Refusing::new(rt.alloc(), 0);
+    let refused = refused_in_turn(MOST, |left| {
+        is_printed(&rt, &meter, &meter, (true, ">f(X,1)"), left)
+    })?;
     assert!(&rt; refused > 0 && refused < MOST, "{refused}");
     Ok(())
 }

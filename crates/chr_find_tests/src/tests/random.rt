@@ -69,7 +69,7 @@ fn query_text(alloc: Global, dice: &mut Dice) -> Result<String, Memory> {
 /// Adds the constraint of an identity, if it lives, under another identity.
 fn push_row(scene: &Scene<Global>, id: Id, under: Id, rows: &mut Rows) -> Result<(), Memory> {
     if let Some(row) = scene.store.row(id) {
-        let args = scene.bindings.resolve_all(row.args.as_slice())?;
+        let args = scene.bindings.resolve_args(&row.args)?;
         let sym = row.sym;
         rows.push((under, Row { sym, args }))?;
     }

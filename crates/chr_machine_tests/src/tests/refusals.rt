@@ -15,7 +15,7 @@ const AMPLE: u64 = 1_000_000;
 /// More than a call that is refused in turn asks for.
 const MOST: u64 = 500;
 
-const EXAMPLES: [Worked; 3] = [GCD, PROPAGATE_THEN_SIMPLIFY, WAKING_ORDER];
+const EXAMPLES: [Worked; 4] = [GCD, PROPAGATE_THEN_SIMPLIFY, WAKING_ORDER, TURNED_ROUND];
 
 /// A call of a machine.
 #[derive(Clone, Copy, Drop)]

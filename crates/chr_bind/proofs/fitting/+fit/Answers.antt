@@ -7,9 +7,8 @@ use Rattle.chr_semantics.specs.Tree.{node}
 use Rattle.chr_term.specs.TermView.{trees_view, view}
 use Rattle.chr_bind.specs.Matching.{AgreesWith}
 use Rattle.chr_bind.proofs.Fits.{fit_all-at, fit_all-lengths, fit_end, fit_nodes}
-use Rattle.chr_bind.proofs.Lists.{below_item}
+use Rattle.chr_term.proofs.Lists.{below_item}
 use Rattle.chr_term.proofs.Sizes.{size-item}
-use Rattle.chr_bind.proofs.Views.{view-Node}
 use Rattle.chr_bind.proofs.fitting.+fit.Goals as goal
 
 pub fit_all-returns-then-patterns-terms : goal.fit_all-returns-then-patterns-terms
@@ -53,8 +52,8 @@ fit_all-returns g t c = record {
 pub fit_term-returns-then-eq : goal.fit_term-returns-then-eq
 fit_term-returns-then-eq g t c = record {
   fits = λ m h.
-      let pattern = ap view c.in-Node.is ∙ view-Node _ c.in-Node.sym c.in-Node.patterns ∙ ap (λ ts. node c.in-Node.sym.0 (trees_view ts)) (sym c.as_slice.ensures.value) in
-      let term = ap view c.in-Node-term.is ∙ view-Node _ c.in-Node-term.other c.in-Node-term.terms ∙ ap (λ ts. node c.in-Node-term.other.0 (trees_view ts)) (sym c.as_slice-then-eq.ensures.value) in
+      let pattern = ap view c.in-Node.is ∙ ap (node c.in-Node.sym.0) (sym c.as_slice.ensures.value) in
+      let term = ap view c.in-Node-term.is ∙ ap (node c.in-Node-term.other.0) (sym c.as_slice-then-eq.ensures.value) in
       let same = fit_nodes _ _ _ _ _ _ m pattern term ((Decides-eqb _ _).0 (sym c.if-eq.ensures)) in
       subst (λ (o : Option Subst). MatchBool c.fit_all.result ((n : Subst) × (o ≡ Some n) × AgreesWith c.fit_all.new.matching n) (o ≡ None)) (sym same) (c.fit_all.ensures.fits m h);
   kept = c.fit_all.ensures.kept;

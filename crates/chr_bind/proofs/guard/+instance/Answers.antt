@@ -1,19 +1,24 @@
-use Rattle.std.proofs.Common.{◌∙◌}
-use Rattle.chr_semantics.specs.Subst.{apply, value_at}
+use Rattle.std.proofs.Common.{◌≡◌, ◌∙◌, ap, refl}
+use Rattle.std.proofs.lemmas.Result.{IfOk-weaker}
+use Rattle.chr_semantics.specs.Subst.{Subst, apply, value_at}
 use Rattle.chr_term.specs.TermView.{view}
 use Rattle.chr_term.proofs.Mapped.{map_pushed}
-use Rattle.chr_bind.proofs.Lists.{built_whole}
+use Rattle.chr_bind.specs.Matching.{AgreesWith}
+use Rattle.chr_term.proofs.Lists.{built_whole}
 use Rattle.chr_bind.proofs.Instances.{instance_free, instance_matched}
-use Rattle.chr_bind.proofs.Views.{view-Var}
 use Rattle.chr_bind.proofs.guard.+instance.Goals as goal
 
-pub made_instance-returns-in_ok-copy-in-Some : goal.made_instance-returns-in_ok-copy-in-Some
-made_instance-returns-in_ok-copy-in-Some g t c m h =
-    c.in_ok-copy-in-Some.ensures ∙ instance_matched c.args.matching.now m c.in-Var.x (view c.args.pattern.now) c.get.result c.in-Some.matched h (rw c.in-Var.is (view-Var g.row.A.Denot c.in-Var.x)) c.get.ensures c.in-Some.is
+pub made_instance-returns-in-Some : goal.made_instance-returns-in-Some
+made_instance-returns-in-Some g t c =
+    let matching = c.args.matching.now in
+    let pattern = view c.args.pattern.now in
+    IfOk-weaker c.copy.result (λ copied. view copied ≡ view c.in-Some.matched.now) (λ made. (m : Subst) → AgreesWith matching m → view made ≡ apply m pattern)
+    (λ made same m h. same ∙ instance_matched matching m c.in-Var.x pattern c.get.result c.in-Some.matched h (ap view c.in-Var.is) c.get.ensures c.in-Some.is)
+    c.copy.ensures
 
 pub made_instance-returns-in-None : goal.made_instance-returns-in-None
 made_instance-returns-in-None g t c m h =
-    rw c.in-Var.is (instance_free c.args.matching.now m c.in-Var.x _ c.get.result h (view-Var g.row.A.Denot c.in-Var.x) c.get.ensures c.in-None.is)
+    rw c.in-Var.is (instance_free c.args.matching.now m c.in-Var.x _ c.get.result h refl c.get.ensures c.in-None.is)
 
 pub made_instances-returns : goal.made_instances-returns
 made_instances-returns g t c m h = built_whole (value_at m) c.loop-pattern.items.items c.args.patterns.now _ (c.loop-pattern.invariant m h) c.loop-pattern-test.false

@@ -2,13 +2,12 @@ use Rattle.std.proofs.Common.{ap}
 use Rattle.chr_term.specs.TermView.{view}
 use Rattle.chr_term.proofs.Extensions.{extended_on}
 use Rattle.chr_bind.proofs.Renamed.{renamed_more, renamed_var}
-use Rattle.chr_bind.proofs.Views.{view-Var}
 use Rattle.chr_bind.proofs.renaming.+renumber.Goals as goal
 
 pub renumber-returns-in_ok-place-in-Var-clause-renamed : goal.renumber-returns-in_ok-place-in-Var-clause-renamed
 renumber-returns-in_ok-place-in-Var-clause-renamed g t c =
     let stored = c.in_ok-place-in-Var.ensures.stored in
-    rw (view-Var g.row.A.Denot c.in_ok-place-in-Var.place, ap view c.in-Var.is, view-Var g.row.A.Denot c.in-Var.x)
+    rw (ap view c.in-Var.is)
     (renamed_var c.insert_full.new.self.keys c.in-Var.x c.in_ok-place-in-Var.place stored.0 stored.1 stored.2 c.in_ok-place-in-Var.ensures.within)
 
 pub renumber_all-loop-term-preserved : goal.renumber_all-loop-term-preserved

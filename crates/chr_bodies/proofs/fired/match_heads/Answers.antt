@@ -1,7 +1,8 @@
-use Rattle.std.proofs.Common.{ap, arith, length, subst, sym}
+use Rattle.std.proofs.Common.{◌∙◌, ap, arith, length, subst, sym}
 use Rattle.std.proofs.lemmas.List.{length_push}
 use Rattle.std.proofs.lemmas.Slice.Zip.{zip_end}
 use Rattle.chr_store.specs.Rows.{row_atom}
+use Rattle.chr_store.specs.declared.row.Row.{Row}
 use Rattle.chr_term.specs.TermView.{atom_view, trees_view}
 use Rattle.chr_rules.specs.RuleView.{rule_view}
 use Rattle.chr_find.proofs.RuleHeads.{heads_length}
@@ -25,7 +26,7 @@ loop-head-preserved-in-Some-row g c =
     let turn = at_turn rule.heads.items rule.passive.items c.args.ids.now c.loop-head.yielded c.into_iter-head-iterator.result c.loop-head.head-iterator c.next.new.self c.next.result c.in-Some.head c.in-Some.id (cc) (cc) c.loop-head.yielded_by c.in-Some.is c.next.ensures.steps in
     subst (λ k. IsMatchedTo c.args.table.now heads c.args.ids.now k c.fit_or_spoil-fits.new.matching) (sym (length_push c.loop-head.yielded (c.in-Some.head, c.in-Some.id)))
     (matched_more c.args.table.now heads c.args.ids.now (length c.loop-head.yielded) turn.0 (atom_view head.0 head.1.items) c.in-Some.id.now (row_atom c.in-Some-row.row.now) (trees_view c.as_slice.result.now) (trees_view c.as_slice-args.result.now) c.fit_or_spoil-fits.result c.loop-head.matching c.fit_or_spoil-fits.new.matching
-    turn.1 turn.2 (ap trees_view (sym c.as_slice.ensures.value)) turn.3 turn.4 c.in-Some-row.ensures (ap trees_view (cc)) c.fit_or_spoil-fits.ensures.fits c.loop-head.invariant)
+    turn.1 turn.2 (ap trees_view (sym c.as_slice.ensures.value)) turn.3 turn.4 c.in-Some-row.ensures (sym (c.as_slice-args.ensures.value ∙ ap (λ (r : Row g.row.A.Denot). r.args) c.value.ensures)) c.fit_or_spoil-fits.ensures.fits c.loop-head.invariant)
 
 pub loop-head-preserved : goal.loop-head-preserved
 loop-head-preserved g c =

@@ -5,12 +5,11 @@ use Rattle.chr_semantics.specs.Meaning.{scope, tree_from}
 use Rattle.chr_semantics.specs.Tree.{node, none}
 use Rattle.std.specs.Prelude.{string_bytes}
 use Rattle.chr_term.specs.TermView.{trees_view, view}
-use Rattle.chr_term.specs.declared.term.Term.TheVariants.{Node}
 use Rattle.chr_read.specs.SyntaxView.{chain, operand_views, view as syntax_view, views}
 use Rattle.chr_rules.specs.Turns.{list_of, operands_from, tree_turn}
 use Rattle.chr_rules.specs.Weight.{operand_weights, weight}
 use Rattle.chr_rules.proofs.Grown.{grows_both}
-use Rattle.chr_rules.proofs.Turned.{all_dropped, atom_made, chain_made, list_made, node_view, ok_answers, operand_done, turn_done}
+use Rattle.chr_rules.proofs.Turned.{all_dropped, atom_made, chain_made, list_made, ok_answers, operand_done, turn_done}
 use Rattle.chr_rules.proofs.Weighs.{chain_weighs, element_weighs}
 use Rattle.chr_rules.proofs.Within.{call_is, chain_is, count_views, list_is, list_with_end_is}
 use Rattle.chr_rules.proofs.trees.+tree.Goals as goal
@@ -25,10 +24,10 @@ list-returns-clause-list g t c =
     let here = scope c.args.names.now c.args.variables.now in
     let after = scope c.trees.new.names c.trees.new.variables in
     let built = map view c.in_ok-trees.trees.items in
-    let empty : node 0 none ≡ view (Node (record { 0 = 0 }) c.new.result) = sym (node_view _ c.new.result ∙ ap (λ ts. node 0 (trees_view ts)) c.new.ensures.items) in
+    let empty : view c.in_ok-empty.empty ≡ node 0 none = c.in_ok-empty.ensures ∙ ap (λ ts. node 0 (trees_view ts)) c.new.ensures.items in
     let whole : (after, list_of built (node 0 none)) ≡ tree_from here (list (views c.args.items.now) nil) =
     sym (list_made here (views c.args.items.now) nil ∙ ap (λ q. (q.0, list_of q.1 (node 0 none))) (sym c.in_ok-trees.ensures.trees)) in
-    ok_answers _ _ c.list_of.result (λ tree h. ap (λ t. (after, t)) (h ∙ ap (list_of built) (sym empty)) ∙ whole) c.list_of.ensures
+    ok_answers _ _ c.list_of.result (λ tree h. ap (λ t. (after, t)) (h ∙ ap (list_of built) empty) ∙ whole) c.list_of.ensures
 
 pub list_with_end-returns-clause-list : goal.list_with_end-returns-clause-list
 list_with_end-returns-clause-list g t c =
@@ -73,11 +72,12 @@ pub tree-returns-in_ok-sym-in-Call-clause-tree : goal.tree-returns-in_ok-sym-in-
 tree-returns-in_ok-sym-in-Call-clause-tree g t c =
     let here = scope c.args.names.now c.args.variables.now in
     let after = scope c.atom.new.names c.atom.new.variables in
-    ap (λ u. (after, u)) (node_view c.in_ok-sym-in-Call.sym c.in_ok-sym-in-Call.args)
-    ∙ ap (λ a. (a.0, node a.1.sym a.1.args)) c.in_ok-sym-in-Call.ensures.atom
+    let whole =
+    ap (λ a. (a.0, node a.1.sym a.1.args)) c.in_ok-sym-in-Call.ensures.atom
     ∙ ap (λ w. tree_from here (call w (exprs_of (views c.as_slice.result.now)))) c.as_str-in-Call.ensures.value
     ∙ ap (λ es. tree_from here (call (string_bytes c.in-Call.name) (exprs_of (views es)))) c.as_slice.ensures.value
-    ∙ ap (tree_from here) (sym (call_is c.args.expr.now c.in-Call.name c.in-Call.args c.in-Call.is))
+    ∙ ap (tree_from here) (sym (call_is c.args.expr.now c.in-Call.name c.in-Call.args c.in-Call.is)) in
+    ok_answers _ _ c.node.result (λ tree h. ap (λ u. (after, u)) h ∙ whole) c.node.ensures
 
 pub tree-returns-in-List-clause-tree : goal.tree-returns-in-List-clause-tree
 tree-returns-in-List-clause-tree g t c =

@@ -5,7 +5,7 @@ use Rattle.chr_store.specs.HistoryView.{entries_view}
 use Rattle.chr_store.specs.Rows.{row_atom}
 use Rattle.chr_store.specs.StoreView.{store_view}
 use Rattle.chr_find.specs.TableView.{atom_at, atoms_with, fired_at}
-use Rattle.chr_term.specs.TermView.{atom_view}
+use Rattle.chr_term.specs.TermView.{atom_over}
 use Rattle.chr_base.specs.Agreement.{Agrees}
 use Rattle.chr_base.proofs.Agreements.{absent_there, agrees_added, agrees_same}
 use Rattle.chr_base.proofs.base.Base.add.Goals as goal
@@ -33,9 +33,9 @@ add-requires-2-clause-absent g c =
 pub invariant_of-self-2 : goal.invariant_of-self-2
 invariant_of-self-2 g c =
     let b = c.args.self.now in
-    let a = atom_view c.args.sym c.args.args.items in
+    let a = atom_over c.args.sym c.args.args in
     let next = (store_view b.store).next_id in
-    let row : row_atom c.in-Ok.row ≡ resolved_atom b.bindings.subst a = c.in-Ok.ensures ∙ ap (λ ts. resolved_atom b.bindings.subst (atom_view c.args.sym ts)) c.as_slice.ensures.value in
+    let row : row_atom c.in-Ok.row ≡ resolved_atom b.bindings.subst a = c.in-Ok.ensures in
     let same : (i : ℕ) → atom_at c.add-2.new.self i ≡ atoms_with (atom_at b.table) next (Some (resolved_atom b.bindings.subst a)) i = λ i.
     c.add-2.ensures.atoms i ∙ (λ k. atoms_with (λ j. c.room.ensures.same j k) (c.in_ok-id.ensures.id k) (Some (row k)) i)
     in

@@ -2,7 +2,7 @@ use Rattle.std.proofs.Common.{ap, option_map, refl, subst, sym, ◌∙◌, ◌�
 use Rattle.std.proofs.lemmas.Result.{IfOk-weaker}
 use Rattle.chr_semantics.specs.Snapshot.{snapshot_for}
 use Rattle.chr_store.specs.Rows.{row_atom}
-use Rattle.chr_find.specs.SnapshotView.{IsTaken, guest_view, tasks_view}
+use Rattle.chr_find.specs.SnapshotView.{IsTaken, told_view, tasks_view}
 use Rattle.chr_base.specs.Agreement.{under}
 use Rattle.chr_base.proofs.Taken.{taken_is}
 use Rattle.chr_base.proofs.base.Base.snapshot.Goals as goal
@@ -20,7 +20,7 @@ pub returns : goal.returns
 returns g c =
     let b = c.args.self.now in
     let ts = tasks_view c.args.tasks.items in
-    let guest = guest_view c.args.guest in
+    let guest = told_view c.args.guest in
     let resolved = option_map row_atom c.in_ok-resolved.resolved in
     IfOk-weaker c.of.result _ _
     (λ shared says s of. says (snapshot_for s ts guest)

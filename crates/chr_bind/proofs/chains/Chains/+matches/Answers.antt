@@ -1,7 +1,7 @@
 use Rattle.std.proofs.Common.{arith, refl}
 use Rattle.chr_semantics.specs.Subst.{value_at}
 use Rattle.chr_bind.specs.Chains.{subst_of}
-use Rattle.chr_bind.proofs.Lists.{length-same, same_at, same_from_next, size_item}
+use Rattle.chr_term.proofs.Lists.{length-same, same_at, same_from_next, size_item}
 use Rattle.chr_bind.proofs.chains.Chains.+matches.Goals as goal
 
 pub resolve_to-returns-then-terms-others : goal.resolve_to-returns-then-terms-others

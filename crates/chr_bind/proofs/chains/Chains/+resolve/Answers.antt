@@ -1,19 +1,31 @@
-use Rattle.std.proofs.Common.{arith}
+use Rattle.std.proofs.Common.{◌≡◌, ◌∙◌, ◌++◌, ap, arith, sym, true}
+use Rattle.chr_semantics.proofs.Ground.{ground_stays_all}
 use Rattle.chr_semantics.specs.Subst.{apply, value_at}
+use Rattle.chr_semantics.specs.Tree.{is_ground_trees}
 use Rattle.chr_term.specs.TermView.{view}
-use Rattle.chr_term.proofs.Mapped.{map_pushed}
 use Rattle.chr_bind.specs.Chains.{subst_of}
-use Rattle.chr_bind.proofs.Lists.{built_whole, size_item}
+use Rattle.chr_term.specs.Replaced.{tree_at}
+use Rattle.chr_term.proofs.Lists.{replaced_whole, size_item}
+use Rattle.chr_term.proofs.Replaced.{one_more}
 use Rattle.chr_bind.proofs.chains.Chains.+resolve.Goals as goal
 
-pub resolve_all-resolve-requires : goal.resolve_all-resolve-requires
-resolve_all-resolve-requires g t c κs within =
-    let smaller = size_item (value_at (subst_of c.args.self.now)) c.args.terms.now c.loop-term.term-index c.term-item.result c.loop-term-test.true c.term-item.is in
+pub replaced_all-replaced-requires : goal.replaced_all-replaced-requires
+replaced_all-replaced-requires g t c κs within =
+    let smaller = size_item (value_at (subst_of c.args.self.now)) c.args.terms.now c.loop-i.i c.index-terms-i.result c.loop-i-test.true c.index-terms-i.is in
     (omega (arith, smaller, c.decreases), (within, c.requires))
 
-pub resolve_all-loop-term-preserved : goal.resolve_all-loop-term-preserved
-resolve_all-loop-term-preserved g t c =
-    rw c.in_ok-push.ensures.items (map_pushed view (λ t. apply (subst_of c.args.self.now) (view t)) _ _ _ c.term-item.result _ c.loop-term.invariant c.loop-term-test.true c.in_ok-resolve.ensures c.term-item.is)
+pub replaced_all-loop-i-preserved : goal.replaced_all-loop-i-preserved
+replaced_all-loop-i-preserved g t c =
+    let terms = c.args.terms.now in
+    c.in_ok-push_replaced.ensures
+    ∙ ap (λ l. l ++ tree_at terms c.loop-i.i c.in_ok-replaced.replaced) c.loop-i.invariant
+    ∙ one_more (λ t. apply (subst_of c.args.self.now) (view t)) terms c.loop-i.i c.index-terms-i.result c.in_ok-replaced.replaced c.loop-i-test.true c.index-terms-i.is c.in_ok-replaced.ensures
 
-pub resolve_all-returns : goal.resolve_all-returns
-resolve_all-returns g t c = built_whole (value_at (subst_of c.args.self.now)) c.loop-term.items.items c.args.terms.now _ c.loop-term.invariant c.loop-term-test.false
+pub replaced_all-returns : goal.replaced_all-returns
+replaced_all-returns g t c = replaced_whole (value_at (subst_of c.args.self.now)) c.loop-i.made c.args.terms.now _ c.loop-i.invariant c.loop-i-test.false
+
+pub replaced_args-returns-then-is_ground : goal.replaced_args-returns-then-is_ground
+replaced_args-returns-then-is_ground g t c =
+    let known : c.is_ground.result ≡ true = c.if-is_ground.true in
+    let ground : is_ground_trees c.args.args.now ≡ true = sym c.is_ground.ensures ∙ known in
+    sym (ground_stays_all (value_at (subst_of c.args.self.now)) c.args.args.now ground)

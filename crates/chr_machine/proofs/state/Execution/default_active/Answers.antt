@@ -1,22 +1,18 @@
 use Rattle.std.proofs.Common.{◌∙◌, ◌+◌, ◌∷◌, List, ap, sym}
 use Rattle.chr_semantics.specs.State.{active, resolved_atom, running}
 use Rattle.chr_semantics.specs.Trace.{defaults}
-use Rattle.chr_term.specs.TermView.{atom_view}
-use Rattle.chr_term.specs.declared.term.Term.{Term}
+use Rattle.chr_term.specs.TermView.{atom_over}
 use Rattle.chr_machine.specs.Model.{model_of}
 use Rattle.chr_machine.proofs.Constraints.{after_kept, defaulted, line_in}
 use Rattle.chr_machine.proofs.state.Execution.default_active.Goals as goal
-
-pub line_about-requires-clause-is_of : goal.line_about-requires-clause-is_of
-line_about-requires-clause-is_of g c b at = c.requires.is_of b at ∙ ap (atom_view c.args.sym) (sym c.as_slice.ensures.value)
 
 pub returns-clause-ok : goal.returns-clause-ok
 returns-clause-ok g c =
     let m = model_of c.args.self.now in
     let i = c.args.id.0 in
-    let a = atom_view c.args.sym c.args.args.items in
+    let a = atom_over c.args.sym c.args.args in
     let log = c.log.ensures in
-    let line = c.in-Ok.ensures.line ∙ ap (λ (ts : List (Term g.row.A.Denot)). line_in m (defaults (resolved_atom m.base.subst (atom_view c.args.sym ts)) i c.args.number)) c.as_slice.ensures.value in
+    let line = c.in-Ok.ensures.line in
     record {
       makes = defaulted m (model_of c.put.new.self) i c.args.number a c.requires.none (after_kept c.args.self.now c.line_about.new.self c.log.new.self c.put.new.self (λ es. active i (c.args.number + 1) a ∷ es) (λ es. running) c.in-Ok.line.items _ c.line_about.ensures.kept line log.stack log.base log.lines log.steps log.program log.var_names c.put.ensures.below c.put.ensures.stack c.put.ensures.status);
       ready = c.put.ensures.ready;

@@ -1,14 +1,14 @@
 use Rattle.std.proofs.Common.{◌≡◌, ◌∙◌, ◌≤◌, ℕ, List, ap, false, length, subst, sym}
 use Rattle.chr_semantics.specs.Search.{fired_before}
 use Rattle.chr_rules.specs.RuleView.{rule_view}
-use Rattle.chr_term.specs.TermView.{atom_view}
+use Rattle.chr_term.specs.TermView.{atom_over}
 use Rattle.chr_machine.specs.Firing.{FiresBelow}
 use Rattle.chr_machine.specs.Model.{model_of}
 use Rattle.chr_machine.proofs.Firings.{fired_after, fired_makes}
 use Rattle.chr_machine.proofs.state.Execution.fire.Goals as goal
 
 pub fire_below-requires-clause-is_of : goal.fire_below-requires-clause-is_of
-fire_below-requires-clause-is_of g c b at = c.requires.proper.sound.agrees.0.1 b at ∙ ap (atom_view c.args.sym) (sym c.as_slice.ensures.value)
+fire_below-requires-clause-is_of g c = c.requires.proper.sound.agrees.0.1
 
 pub returns-in-Ok-clause-ok : goal.returns-in-Ok-clause-ok
 returns-in-Ok-clause-ok g c =
@@ -16,8 +16,8 @@ returns-in-Ok-clause-ok g c =
     let m = model_of old in
     let s = c.args.active.now in
     let f = c.requires.fires in
-    let a = atom_view c.args.sym c.args.args.items in
-    let below = subst (λ ts. FiresBelow old s c.args.number (atom_view c.args.sym ts) c.args.ids.now c.fire_below.new.self c.in-Ok.goals.items) c.as_slice.ensures.value c.in-Ok.ensures.ok in
+    let a = atom_over c.args.sym c.args.args in
+    let below = c.in-Ok.ensures.ok in
     let after = fired_after old c.fire_below.new.self c.put_fired.new.self s c.args.number a c.args.ids.now c.in-Ok.goals.items f below c.put_fired.ensures.stack c.put_fired.ensures.status c.put_fired.ensures.below in
     record {
       makes =

@@ -6,7 +6,7 @@ use Rattle.chr_semantics.specs.State.{resolved_atom}
 use Rattle.chr_semantics.specs.Step.{body_of}
 use Rattle.chr_rules.specs.ProgramView.{names_of}
 use Rattle.chr_rules.specs.RuleView.{rule_view}
-use Rattle.chr_term.specs.TermView.{atom_view}
+use Rattle.chr_term.specs.TermView.{atom_over}
 use Rattle.chr_trace.specs.Texts.{texts}
 use Rattle.chr_base.specs.BaseView.{BaseModel}
 use Rattle.chr_base.specs.Searching.{rows_of}
@@ -25,7 +25,7 @@ returns-clause-ok g c =
     let m = model_of old in
     let s = c.args.active.now in
     let r = rule_view s.rule.now in
-    let a = resolved_atom m.base.subst (atom_view c.args.sym c.args.args.now) in
+    let a = resolved_atom m.base.subst (atom_over c.args.sym c.args.args.now) in
     let ids = c.args.ids.now in
     let kept = c.line_about.ensures.kept in
     let line : c.in_ok-line.line.items ≡ line_in m (firing_line s.id.0 c.args.number a r s.place ids) =
@@ -47,7 +47,7 @@ returns-clause-ok g c =
     }
 
 pub fire-requires-clause-found : goal.fire-requires-clause-found
-fire-requires-clause-found g c = (kept_firing c.args.self.now c.line_about.new.self c.args.active.now c.args.number (atom_view c.args.sym c.args.args.now) c.args.ids.now c.line_about.ensures.kept c.requires.fires).first
+fire-requires-clause-found g c = (kept_firing c.args.self.now c.line_about.new.self c.args.active.now c.args.number (atom_over c.args.sym c.args.args.now) c.args.ids.now c.line_about.ensures.kept c.requires.fires).first
 
 pub invariant_of-self-2 : goal.invariant_of-self-2
 invariant_of-self-2 g c =

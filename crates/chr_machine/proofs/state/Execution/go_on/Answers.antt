@@ -7,7 +7,7 @@ use Rattle.chr_semantics.proofs.OccurrenceRule.{occurrence_rule}
 use Rattle.chr_rules.specs.ProgramView.{names_of, rules_of}
 use Rattle.chr_rules.specs.RuleView.{rule_view}
 use Rattle.chr_rules.specs.declared.program.Program.{Program}
-use Rattle.chr_term.specs.TermView.{atom_view}
+use Rattle.chr_term.specs.TermView.{atom_over}
 use Rattle.chr_base.specs.BaseView.{BaseModel}
 use Rattle.chr_resume.specs.ResumingView.{base_in}
 use Rattle.chr_machine.specs.Firing.{ComesTo, IsFiring, occurrence_of}
@@ -22,7 +22,7 @@ pub default_active-requires-clause-none : goal.default_active-requires-clause-no
 default_active-requires-clause-none g c =
     let m = model_of c.args.self.now in
     let s = c.args.active.now in
-    let a = atom_view c.args.sym c.args.args.items in
+    let a = atom_over c.args.sym c.args.args in
     let comes = subst (λ (o : Option (Bor (List ℕ))). ComesTo m s c.args.number a (option_map (λ (l : Bor (List ℕ)). l.now) o)) c.in-None.is c.requires.comes in
     nothing_found m s c.args.number a comes.at.occurs comes.found
 
@@ -30,7 +30,7 @@ pub fire-requires-clause-fires : goal.fire-requires-clause-fires
 fire-requires-clause-fires g c =
     let m = model_of c.args.self.now in
     let s = c.args.active.now in
-    let a = atom_view c.args.sym c.args.args.items in
+    let a = atom_over c.args.sym c.args.args in
     let comes = subst (λ (o : Option (Bor (List ℕ))). ComesTo m s c.args.number a (option_map (λ (l : Bor (List ℕ)). l.now) o)) c.in-Some.is c.requires.comes in
     let occurs = comes.at.occurs in
     let bounded = All-got IsBounded m.rules s.number (rule_view s.rule.now) (occurrence_rule m.rules a.sym c.args.number (occurrence_of s) occurs) c.requires.proper.bounded in

@@ -5,7 +5,7 @@ use Rattle.chr_semantics.specs.Snapshot.{snapshot_for, snapshot_of}
 use Rattle.chr_semantics.specs.Snapshot as semantics
 use Rattle.chr_semantics.specs.Tasks.{guest, tasks}
 use Rattle.chr_rules.specs.ProgramView.{names_of, rules_of}
-use Rattle.chr_find.specs.SnapshotView.{IsSnapshot, guest_view, tasks_view}
+use Rattle.chr_find.specs.SnapshotView.{IsSnapshot, tasks_view, told_view}
 use Rattle.chr_resume.specs.ResumingView.{base_in, program_in}
 use Rattle.chr_machine.specs.Model.{Model, model_of, state_in}
 use Rattle.chr_machine.proofs.state.Execution.snapshot.Goals as goal

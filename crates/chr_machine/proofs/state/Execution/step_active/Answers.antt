@@ -10,7 +10,7 @@ use Rattle.chr_rules.specs.ProgramView.{names_of, rules_of}
 use Rattle.chr_rules.specs.declared.program.Program.{Program}
 use Rattle.chr_find.proofs.FoundLaw.{occurrence_is}
 use Rattle.chr_store.specs.declared.id.Id.{Id}
-use Rattle.chr_term.specs.TermView.{atom_view}
+use Rattle.chr_term.specs.TermView.{atom_over}
 use Rattle.chr_base.specs.BaseView.{BaseModel}
 use Rattle.chr_resume.specs.ResumingView.{base_in}
 use Rattle.chr_machine.specs.Answering.{AnswersStep}
@@ -24,12 +24,12 @@ pub drop_active-requires-clause-is_of : goal.drop_active-requires-clause-is_of
 drop_active-requires-clause-is_of g c = c.requires.proper.sound.agrees.0.1
 
 pub default_active-requires-clause-is_of : goal.default_active-requires-clause-is_of
-default_active-requires-clause-is_of g c = subst (λ (b : BaseModel). IsOf b.store.rows c.args.id.0 (atom_view c.args.sym c.args.args.items)) (sym c.end_search.ensures.same) c.requires.proper.sound.agrees.0.1
+default_active-requires-clause-is_of g c = subst (λ (b : BaseModel). IsOf b.store.rows c.args.id.0 (atom_over c.args.sym c.args.args)) (sym c.end_search.ensures.same) c.requires.proper.sound.agrees.0.1
 
 pub default_active-requires-clause-none : goal.default_active-requires-clause-none
 default_active-requires-clause-none g c =
     let m = model_of c.args.self.now in
-    let a = atom_view c.args.sym c.args.args.items in
+    let a = atom_over c.args.sym c.args.args in
     let of = ap rules_of c.program-program.ensures in
     let w = occurrence_is (rules_of c.program-program.result.now) c.args.sym.0 c.args.number c.in-Some.found c.in-Some.ensures.found in
     let occurs = ap (λ (p : Rules). occurrence p c.args.sym.0 c.args.number) (sym of) ∙ w.is in
@@ -42,12 +42,12 @@ pub step_own-requires-clause-at : goal.step_own-requires-clause-at
 step_own-requires-clause-at g c =
     let m = model_of c.args.self.now in
     let lives = ap (λ (st : Store). is_some (atom_of st.rows c.args.id.0)) (sym c.store.ensures) ∙ (sym c.alive.ensures ∙ c.if-not-alive.false) in
-    stands m (rules_of c.program-program.result.now) (ap rules_of c.program-program.ensures) c.args.id.0 c.args.number (atom_view c.args.sym c.args.args.items) c.in-Some.found c.at-active.result c.in-Some.ensures.found c.at-active.ensures.rule c.at-active.ensures.number c.at-active.ensures.place (ap (λ (x : Id). x.0) c.at-active.ensures.id) lives
+    stands m (rules_of c.program-program.result.now) (ap rules_of c.program-program.ensures) c.args.id.0 c.args.number (atom_over c.args.sym c.args.args) c.in-Some.found c.at-active.result c.in-Some.ensures.found c.at-active.ensures.rule c.at-active.ensures.number c.at-active.ensures.place (ap (λ (x : Id). x.0) c.at-active.ensures.id) lives
 
 pub go_on-requires-clause-comes : goal.go_on-requires-clause-comes
 go_on-requires-clause-comes g c =
     let m = model_of c.args.self.now in
-    let a = atom_view c.args.sym c.args.args.items in
+    let a = atom_over c.args.sym c.args.args in
     let id = ap (λ (x : Id). x.0) c.at-active.ensures.id in
     let lives = ap (λ (st : Store). is_some (atom_of st.rows c.args.id.0)) (sym c.store.ensures) ∙ (sym c.alive.ensures ∙ c.if-not-alive.false) in
     let known = subst (λ (k : Answer). AnswersStep (topped (at_occurrence c.args.id.0 c.args.number a) m) k) c.in-Nothing.is c.requires.answer in
@@ -59,7 +59,7 @@ go_on-requires-clause-comes g c =
 pub go_on-requires-in-Firing-clause-comes : goal.go_on-requires-in-Firing-clause-comes
 go_on-requires-in-Firing-clause-comes g c =
     let m = model_of c.args.self.now in
-    let a = atom_view c.args.sym c.args.args.items in
+    let a = atom_over c.args.sym c.args.args in
     let id = ap (λ (x : Id). x.0) c.at-active.ensures.id in
     let lives = ap (λ (st : Store). is_some (atom_of st.rows c.args.id.0)) (sym c.store.ensures) ∙ (sym c.alive.ensures ∙ c.if-not-alive.false) in
     let known = subst (λ (k : Answer). AnswersStep (topped (at_occurrence c.args.id.0 c.args.number a) m) k) c.in-Firing.is c.requires.answer in

@@ -1,5 +1,5 @@
 use Rattle.std.proofs.Common.{◌∙◌, List, None, Some, ℕ, ap, subst, sym}
-use Rattle.chr_term.specs.TermView.{atom_view}
+use Rattle.chr_term.specs.TermView.{atom_over}
 use Rattle.chr_rules.specs.ProgramView.{names_of, rules_of}
 use Rattle.chr_rules.specs.declared.program.Program.{Program}
 use Rattle.chr_semantics.proofs.OccurrenceRule.{occurrence_rule}
@@ -19,7 +19,7 @@ pub go_on-requires-clause-comes : goal.go_on-requires-clause-comes
 go_on-requires-clause-comes g c =
     let m = model_of c.args.self.now in
     let s = c.args.active.now in
-    let a = atom_view c.args.sym c.args.args.items in
+    let a = atom_over c.args.sym c.args.args in
     let at = c.requires.at in
     let found = rw c.in-Ok-None.field-0-is at c.in-Ok-None.ensures.found in
     subst (λ (p : Program g.row.A.Denot). ComesTo (record m { names = names_of p; rules = rules_of p; base = base_in c.search.new.base }) s c.args.number a None) (sym c.search.ensures.program)
@@ -29,7 +29,7 @@ pub go_on-requires-in-Ok-Some-clause-comes : goal.go_on-requires-in-Ok-Some-clau
 go_on-requires-in-Ok-Some-clause-comes g c =
     let m = model_of c.args.self.now in
     let s = c.args.active.now in
-    let a = atom_view c.args.sym c.args.args.items in
+    let a = atom_over c.args.sym c.args.args in
     let at = c.requires.at in
     let ids = c.in-Ok-Some.ids.items in
     let found = rw c.in-Ok-Some.field-0-is at c.in-Ok-Some.ensures.found in

@@ -1,7 +1,7 @@
 use Rattle.std.proofs.Common.{◌≡◌, ◌<◌, ◌∙◌, ◌+◌, ◌++◌, ◌∷◌, ◌==◌, ◌&&◌, [], cond, nat_lt, length, ℕ, ap, subst, refl, arith}
 use Rattle.std.proofs.Math.Path.{fun_ext}
 use Rattle.chr_semantics.specs.Program.{Atom}
-use Rattle.chr_term.specs.TermView.{atom_view}
+use Rattle.chr_term.specs.TermView.{atom_over}
 use Rattle.chr_store.specs.Counts.{count_at, last_at}
 use Rattle.chr_store.specs.Looks.{AreLooksOf, ids_under, is_at}
 use Rattle.chr_store.specs.Rows.{rows_from}
@@ -20,10 +20,10 @@ put_reserved-requires-clause-greatest g c =
 
 pub invariant_of-self-2 : goal.invariant_of-self-2
 invariant_of-self-2 g c =
-    let a : Atom = atom_view c.args.sym c.args.args.items in
+    let a : Atom = atom_over c.args.sym c.args.args in
     let next : c.push_reserved-id.result.0 ≡ next_in c.args.self.now.slots = omega (arith, c.push_reserved-id.ensures.id, ap length c.make_room.ensures.slots) in
     let rows : rows_in c.push_reserved-id.new.self ≡ rows_in c.args.self.now.slots ++ (next_in c.args.self.now.slots, a) ∷ [] = c.push_reserved-id.ensures.rows ∙ ap (λ l. rows_from 1 l ++ (length l + 1, a) ∷ []) c.make_room.ensures.slots in
-    let looks : AreLooksOf a c.of-at.result = subst (λ l. AreLooksOf (atom_view c.args.sym l) c.of-at.result) c.as_slice.ensures.value c.of-at.ensures in
+    let looks : AreLooksOf a c.of-at.result = subst (λ l. AreLooksOf (atom_over c.args.sym l) c.of-at.result) c.as_slice.ensures.value c.of-at.ensures in
     let less : (n : ℕ) → last_at c.make_room.new.stamps.stamps.items n < c.args.self.now.changes + 1 = λ n. omega (arith, c.make_room.ensures.lasts n, c.args.self.now.up_to n) in
     let put : (look : Look) → ids_under c.put_reserved.new.self look ≡ ids_under c.args.self.now.lists look ++ cond (is_at c.of-at.result look) (next_in c.args.self.now.slots ∷ []) [] =
     λ look. c.put_reserved.ensures look ∙ rw (c.make_room.ensures.lists look, next) refl in
@@ -37,7 +37,7 @@ invariant_of-self-2 g c =
 
 pub returns-clause-ok : goal.returns-clause-ok
 returns-clause-ok g c =
-    let a : Atom = atom_view c.args.sym c.args.args.items in
+    let a : Atom = atom_over c.args.sym c.args.args in
     let rows : rows_in c.push_reserved-id.new.self ≡ rows_in c.args.self.now.slots ++ (next_in c.args.self.now.slots, a) ∷ [] = c.push_reserved-id.ensures.rows ∙ ap (λ l. rows_from 1 l ++ (length l + 1, a) ∷ []) c.make_room.ensures.slots in
     let next : next_in c.push_reserved-id.new.self ≡ next_in c.args.self.now.slots + 1 = omega (arith, c.push_reserved-id.ensures.next, ap length c.make_room.ensures.slots) in
     let less : (n : ℕ) → last_at c.make_room.new.stamps.stamps.items n < c.args.self.now.changes + 1 = λ n. omega (arith, c.make_room.ensures.lasts n, c.args.self.now.up_to n) in

@@ -3,7 +3,7 @@ use Rattle.std.specs.Prelude.{is_some, option_map}
 use Rattle.std.proofs.Math.Path.{fun_ext}
 use Rattle.chr_semantics.specs.Changes.{Store, removed_as}
 use Rattle.chr_semantics.specs.Search.{atom_of}
-use Rattle.chr_term.specs.TermView.{atom_view}
+use Rattle.chr_term.specs.TermView.{atom_over}
 use Rattle.chr_store.specs.Counts.{count_at, has_stamp, last_at}
 use Rattle.chr_store.specs.Looks.{AreLooksOf, ids_under}
 use Rattle.chr_store.specs.Rows.{row_atom}
@@ -22,7 +22,7 @@ raise-requires g c =
 pub invariant_of-self-2 : goal.invariant_of-self-2
 invariant_of-self-2 g c =
     let at : atom_of (rows_in c.args.self.now.slots) c.args.id.0 ≡ Some (row_atom c.in-Some.row) = sym c.take.ensures.row ∙ ap (option_map row_atom) c.in-Some.is in
-    let looks : AreLooksOf (row_atom c.in-Some.row) c.of.result = subst (λ l. AreLooksOf (atom_view c.in-Some.row.sym l) c.of.result) c.as_slice.ensures.value c.of.ensures in
+    let looks : AreLooksOf (row_atom c.in-Some.row) c.of.result = subst (λ l. AreLooksOf (atom_over c.in-Some.row.sym l) c.of.result) c.as_slice.ensures.value c.of.ensures in
     let less : (n : ℕ) → last_at c.args.self.now.stamps.stamps.items n < c.args.self.now.changes + 1 = λ n. omega (arith, c.args.self.now.up_to n) in
     record {
       listed = rw c.take.ensures.rows (AreListed-taken (rows_in c.args.self.now.slots) c.args.id.0 (row_atom c.in-Some.row) c.of.result 1 (1 + length c.args.self.now.slots.items.items) (ids_under c.args.self.now.lists) (ids_under c.take_out.new.self) looks (Ascends-rows 1 c.args.self.now.slots.items.items) at c.args.self.now.listed c.take_out.ensures);

@@ -5,7 +5,7 @@ use Rattle.chr_semantics.specs.Subst.{apply, value_at}
 use Rattle.chr_semantics.specs.Text.{lines_text}
 use Rattle.chr_semantics.specs.Tree.{Tree}
 use Rattle.chr_trace.specs.ScribeView.{term_by}
-use Rattle.chr_trace.proofs.Bound.{one_line, view-Var}
+use Rattle.chr_trace.proofs.Bound.{one_line}
 use Rattle.chr_trace.proofs.Written.{both_written, written_after}
 use Rattle.chr_trace.proofs.scribe.Scribe.write_binding.Goals as goal
 
@@ -19,7 +19,7 @@ returns-in_ok-write_term-in-Some-clause-ok g c =
     let s = w.bindings.now.subst in
     let name = c.in-Some.name.now in
     let value = term_by w (value_at s c.args.var) in
-    let shown = c.in_ok-write_term-in-Some.ensures.ok ∙ ap (λ (t : Tree). c.write_text-in-Some.new.out.items ++ term_by w (apply s t)) (view-Var g.row.A.Denot c.args.var) in
+    let shown = c.in_ok-write_term-in-Some.ensures.ok in
     let line = one_line w.names.now w.var_names.now s c.args.var (var_name w.var_names.now c.args.var) name c.in-Some.ensures in
     written_after c.write_byte.result c.args.out.now.items c.write_term.new.out.items _ ((name ++ codes " = ") ++ value) (10 ∷ []) _
     (both_written _ c.write_text-in-Some.new.out.items _ (name ++ codes " = ") value

@@ -12,8 +12,7 @@ use Rattle.chr_trace.proofs.scribe.Scribe.write_goal.Goals as goal
 pub returns-in-Chr-clause-ok : goal.returns-in-Chr-clause-ok
 returns-in-Chr-clause-ok g c =
     let w = c.args.self.now in
-    subst (λ (x : Goal g.row.A.Denot). OnOk c.write_atom.result (c.write_atom.new.out.items ≡ c.args.out.now.items ++ goal_by w (shown_goal w x))) (sym c.in-Chr.is)
-    (subst (λ (ts : List (Term g.row.A.Denot)). OnOk c.write_atom.result (c.write_atom.new.out.items ≡ c.args.out.now.items ++ atom_by w (shown_atom w c.in-Chr.sym ts))) c.as_slice.ensures.value c.write_atom.ensures.ok)
+    subst (λ (x : Goal g.row.A.Denot). OnOk c.write_atom.result (c.write_atom.new.out.items ≡ c.args.out.now.items ++ goal_by w (shown_goal w x))) (sym c.in-Chr.is) c.write_atom.ensures.ok
 
 pub returns-in_ok-write_text-in-Told-clause-ok : goal.returns-in_ok-write_text-in-Told-clause-ok
 returns-in_ok-write_text-in-Told-clause-ok g c =

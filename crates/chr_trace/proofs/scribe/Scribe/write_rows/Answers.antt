@@ -19,8 +19,8 @@ loop-id-init g c =
 pub loop-id-preserved : goal.loop-id-preserved
 loop-id-preserved g c =
     let w = c.args.self.now in
-    let line = known_by w (shown_atom w c.in-Some.row.now.sym c.in-Some.row.now.args.items) c.in-Some.id.0 in
-    let known = c.in_ok-write_known.ensures.ok ∙ ap (λ (ts : List (Term g.row.A.Denot)). c.loop-id.out.items ++ known_by w (shown_atom w c.in-Some.row.now.sym ts) c.in-Some.id.0) c.as_slice.ensures.value in
+    let line = known_by w (shown_atom w c.in-Some.row.now.sym c.in-Some.row.now.args) c.in-Some.id.0 in
+    let known = c.in_ok-write_known.ensures.ok in
     let written = both_written c.loop-id.out.items c.write_known.new.out.items c.write_byte.new.out.items line (10 ∷ []) known c.in_ok-write_byte.ensures.ok in
     record {
       text = c.loop-id.invariant.text ∙ (ap (λ (rows : List semantics.Row). c.loop-id.out.items ++ lines_text (rows_by w rows)) c.in-Some.ensures.steps ∙ line_moved _ _ line (rows_by w (rows_left c.next.new.self)) written);

@@ -1,5 +1,5 @@
 -- Lists of terms with their variables replaced, read by an index.
-use Rattle.std.proofs.Common.{◌≡◌, ℕ, zero, suc, ◌+◌, ◌<◌, ◌≤◌, ◌↔◌, List, [], ◌∷◌, length, get_or, drop, take, map, ap, subst, sym, arith, refl, ◌∙◌}
+use Rattle.std.proofs.Common.{◌≡◌, ℕ, zero, suc, ◌+◌, ◌<◌, ◌≤◌, ◌↔◌, List, [], ◌∷◌, length, get_or, drop, take, map, Option, Vec, ap, subst, sym, arith, refl, ◌∙◌}
 use Rattle.std.proofs.lemmas.List.{take_all}
 use Rattle.chr_semantics.specs.Tree.{Tree, more, trees_of}
 use Rattle.chr_semantics.specs.Subst.{instance, instances}
@@ -10,8 +10,10 @@ use Rattle.chr_term.proofs.Lengths.{trees_length, trees_length-view}
 use Rattle.chr_term.proofs.Sizes.{size-item}
 use Rattle.chr_semantics.specs.Bounds.{AreBelow, IsBelow}
 use Rattle.chr_term.specs.Size.{size, size_all}
+use Rattle.chr_term.specs.Replaced.{list_by, trees_by}
 
-instances-view : {A : Type 0} (f : ℕ → Tree) (xs : List (Term A)) → instances f (trees_view xs) ≡ trees_of (map (λ t. instance f (view t)) xs)
+-- terms with their variables replaced, one by one
+pub instances-view : {A : Type 0} (f : ℕ → Tree) (xs : List (Term A)) → instances f (trees_view xs) ≡ trees_of (map (λ t. instance f (view t)) xs)
 instances-view f [] = refl
 instances-view f (x ∷ xs) = ap (more (instance f (view x))) (instances-view f xs)
 
@@ -45,3 +47,8 @@ pub below_item : {A : Type 0} (n : ℕ) (xs : List (Term A)) (i : ℕ) (x : Term
 below_item n [] i x h e b = absurd (omega arith)
 below_item n (y ∷ xs) zero x h e b = subst (λ t. IsBelow n (view t)) (sym e) b.0
 below_item n (y ∷ xs) (suc i) x h e b = below_item n xs i x (omega arith) e b.1
+
+-- a list where each term stands as itself, or as what replaces it
+pub replaced_whole : {A : Type 0} (f : ℕ → Tree) (made : Option (Vec (Term A) A)) (xs : List (Term A)) (n : ℕ) → list_by (take n xs) made ≡ map (λ t. instance f (view t)) (take n xs) → length xs ≤ n → trees_by xs made ≡ instances f (trees_view xs)
+replaced_whole f made xs n h le =
+    ap (λ l. trees_by l made) (sym (take_all n xs le)) ∙ ap trees_of h ∙ ap (λ l. trees_of (map (λ t. instance f (view t)) l)) (take_all n xs le) ∙ sym (instances-view f xs)

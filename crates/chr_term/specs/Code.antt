@@ -61,3 +61,6 @@ mutual
 
 abbrev pub tree_code : Coded Tree
 tree_code = code_by (List Token) (coded_list (coded× coded_ℕ (coded× coded_ℕ coded_ℤ))) (λ t. tokens_onto t []) (λ ts. tree_in (first_in (items_from ts))) (λ t. ap (λ is. tree_in (first_in is)) (items_from-tokens_onto t []))
+
+abbrev pub trees_code : Coded Trees
+trees_code = code_by (List Token) (coded_list (coded× coded_ℕ (coded× coded_ℕ coded_ℤ))) (λ ts. all_tokens_onto ts []) (λ ts. trees_in (first_in (items_from ts))) (λ ts. ap (λ is. trees_in (first_in is)) (items_from-all_tokens_onto ts []))

@@ -1,6 +1,6 @@
 use Rattle.chr_term.specs.TermView.{view}
 use Rattle.chr_term.proofs.Mapped.{map_pushed}
-use Rattle.chr_term.proofs.term.+copy.Goals as goal
+use Rattle.chr_term.proofs.args.+copy.Goals as goal
 
 pub copy_all-loop-term-preserved : goal.copy_all-loop-term-preserved
 copy_all-loop-term-preserved g t c =
