@@ -10,7 +10,6 @@ use Rattle.chr_semantics.specs.Text.{line_text}
 use Rattle.chr_semantics.specs.Trace.{Line, activates, defaults, drops, reactivates, search_line}
 use Rattle.chr_rules.specs.ProgramView.{names_of, rules_of}
 use Rattle.chr_trace.specs.State.{stack_view, status_view}
-use Rattle.chr_trace.specs.Texts.{texts}
 use Rattle.chr_base.specs.BaseView.{BaseModel}
 use Rattle.chr_resume.specs.ResumingView.{base_in, program_in}
 use Rattle.chr_machine.specs.Model.{Model, model_of, state_in, topped}
@@ -34,18 +33,18 @@ after_later m n es w b l h =
       lines = h.lines k;
     }
 
--- the same where the line is made, then appended, and then the stack and the status are made from the elements there
-module _ {A : Type 0} (old ready logged new : Execution A) (es : List Element → List Element) (w : List Element → Status) (line l : List ℕ) (kept : Kept old ready) (is : line ≡ l) where
-  pub after_kept : logged.stack ≡ ready.stack → logged.base ≡ ready.base → texts logged.lines.items ≡ texts ready.lines.items ++ line ∷ [] → logged.steps ≡ ready.steps + 1 → program_in logged.base ≡ program_in ready.base → logged.var_names ≡ ready.var_names
+-- the same where the line is drafted, then kept, and then the stack and the status are made from the elements there
+module _ {A : Type 0} (old ready logged new : Execution A) (es : List Element → List Element) (w : List Element → Status) (line : List ℕ) (kept : Kept old ready) where
+  pub after_kept : logged.stack ≡ ready.stack → logged.base ≡ ready.base → logged.lines.made ≡ ready.lines.made ++ line ∷ [] → logged.steps ≡ ready.steps + 1 → program_in logged.base ≡ program_in ready.base → logged.var_names ≡ ready.var_names
       → IsSameBelow logged new → stack_view new.stack.items ≡ es (stack_view logged.stack.items) → status_view new.status ≡ w (stack_view logged.stack.items)
-      → (let m = model_of old in IsAfter m (model_of new) (es m.stack) (w m.stack) m.base l)
+      → (let m = model_of old in IsAfter m (model_of new) (es m.stack) (w m.stack) m.base line)
   after_kept elems base lines steps program vars below stack status =
       let same : stack_view logged.stack.items ≡ stack_view old.stack.items = ap (λ v. stack_view v.items) elems ∙ ap stack_view kept.stack in
       record {
         stack = stack ∙ ap es same;
         status = status ∙ ap w same;
         base = ap base_in (below.base ∙ base) ∙ kept.base;
-        lines = ap (λ ls. texts ls.items) below.lines ∙ (lines ∙ λ k. texts (kept.lines k) ++ is k ∷ []);
+        lines = ap (λ ls. ls.made) below.lines ∙ (lines ∙ ap (λ ls. ls ++ line ∷ []) kept.lines);
         steps = below.steps ∙ (steps ∙ ap (λ n. n + 1) kept.steps);
         same = record {
           names = ap names_of (below.program ∙ (program ∙ kept.program));

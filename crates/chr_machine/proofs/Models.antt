@@ -4,7 +4,6 @@ use Rattle.std.specs.Prelude.{OnErr, vec_capacity, vec_len}
 use Rattle.chr_semantics.specs.State.{Element}
 use Rattle.chr_rules.specs.ProgramView.{names_of, rules_of}
 use Rattle.chr_trace.specs.State.{elem_view, stack_view, status_view}
-use Rattle.chr_trace.specs.Texts.{texts}
 use Rattle.chr_trace.specs.declared.state.Elem.{Elem}
 use Rattle.chr_trace.proofs.Stacks.{stack_put}
 use Rattle.chr_machine.specs.Model.{Model, model_of, topped}
@@ -24,7 +23,7 @@ module _ {A : Type 0} where
         status = status_view (h.status k);
         base = h.base k;
         steps = h.steps k;
-        lines = texts (h.lines k);
+        lines = h.lines k;
       }
 
   -- nothing that shows has changed, twice
@@ -47,7 +46,7 @@ module _ {A : Type 0} where
     room = subst (λ (v : Vec (Elem A) A). vec_len old.stack < vec_capacity old.stack → vec_len v < vec_capacity v) (sym h.stack) (λ r. r);
     status = h.status;
     base = base;
-    lines = ap (λ v. v.items) h.lines;
+    lines = ap (λ ls. ls.made) h.lines;
     steps = h.steps;
     program = h.program;
     var_names = h.var_names;

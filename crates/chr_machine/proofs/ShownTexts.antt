@@ -1,8 +1,10 @@
 -- The text that is kept of a constraint.
-use Rattle.std.proofs.Common.{◌≡◌, ◌∙◌, ◌++◌, ◌∷◌, ℕ, List, [], Vec, true, false, ap, subst, sym, not, ◌==◌}
-use Rattle.std.specs.Prelude.{IfOk, OnErr, OnOk, Option, Some, None, Result, Ok, Err, is_some}
+use Rattle.std.proofs.Common.{◌≡◌, ◌∙◌, ◌++◌, ◌∷◌, ℕ, List, [], ◌+◌, ◌≤◌, Bool, true, false, ap, arith, cond, refl, subst, sym, not, ◌==◌}
+use Rattle.std.specs.Prelude.{OnErr, OnOk, Option, Some, None, Result, Ok, Err, is_some}
 use Rattle.std.specs.List.{fold}
-use Rattle.chr_semantics.proofs.Lookups.{Ascends-filter, atom_last, atom_of_part}
+use Rattle.std.proofs.lemmas.Bool.Decides.{Decides-eqb}
+use Rattle.std.proofs.lemmas.Option.{none-some}
+use Rattle.chr_semantics.proofs.Lookups.{Ascends-ends, Ascends-filter, atom_last, atom_of_part}
 use Rattle.chr_semantics.specs.Changes.{Entries, Store, added, removed, removed_as}
 use Rattle.chr_semantics.specs.Footprint.{Ascends}
 use Rattle.chr_semantics.specs.Match.{Row}
@@ -10,11 +12,9 @@ use Rattle.chr_semantics.specs.Names.{Names, VarNames}
 use Rattle.chr_semantics.specs.Program.{Atom}
 use Rattle.chr_semantics.specs.Search.{atom_of}
 use Rattle.chr_semantics.specs.State.{resolved_atom}
-use Rattle.chr_semantics.specs.Text.{known_text, line_text}
+use Rattle.chr_semantics.specs.Text.{known_text}
 use Rattle.chr_base.specs.BaseView.{BaseModel}
 use Rattle.chr_machine.specs.Shown.{IsOf, IsShownIn}
-use Rattle.chr_machine.specs.Told.{told_line}
-use Rattle.chr_machine.specs.declared.steps.Told.{Told}
 
 some_of : (o : Option Atom) → is_some o ≡ true → (x : Atom) × (o ≡ Some x)
 some_of None e = absurd (let no : false ≡ true = e in cc)
@@ -63,8 +63,24 @@ pub shown_tried : {T E : Type 0} (r : Result T E) (names same_names : Names) (va
 shown_tried (Ok x) names same_names vars b new i text e n ids up en ok err = shown_fired names same_names vars b new i text e n ids up en ok
 shown_tried (Err x) names same_names vars b new i text e n ids up en ok err = shown_same names same_names vars b new i text en err
 
--- a line that has the text of t tells what is told, which is t
-pub tells : {A E : Type 0} (r : Result (Vec ℕ A) E) (names : Names) (vars : VarNames) (k : ℕ) (told t : Told) (a : Atom) (i : ℕ) (text : List ℕ) → told ≡ t → text ≡ line_text names vars k (told_line t a i)
-    → IfOk r (λ line. line.items ≡ text) → IfOk r (λ line. line.items ≡ line_text names vars k (told_line told a i))
-tells (Ok line) names vars k told t a i text same is says = says ∙ (is ∙ ap (λ (u : Told). line_text names vars k (told_line u a i)) (sym same))
-tells (Err e) names vars k told t a i text same is says = tt
+-- an identity behind all others is not found
+atom_next : (lo n : ℕ) (rows : List Row) → Ascends lo rows n → atom_of rows n ≡ None
+atom_next lo n [] up = refl
+atom_next lo n (r ∷ rows) up = by (r.0 == n) refl (atom_next (r.0 + 1) n rows up.1)
+  where
+    by : (b : Bool) → (r.0 == n) ≡ b → atom_of rows n ≡ None → cond b (Some r.1) (atom_of rows n) ≡ None
+    by true is none = let same : r.0 ≡ n = (Decides-eqb r.0 n).0 is in let end : r.0 + 1 ≤ n = Ascends-ends (r.0 + 1) n rows up.1 in absurd (omega (arith, same, end))
+    by false is none = none
+
+-- no constraint has the next identity yet
+pub of_next : (rows : List Row) (n i : ℕ) (a : Atom) → Ascends 0 rows n → i ≡ n → IsOf rows i a
+of_next rows n i a up same b at = absurd (none-some b (sym (atom_next 0 n rows up) ∙ (ap (atom_of rows) (sym same) ∙ at)))
+
+-- after the constraint whose text it is was added, or was refused
+pub shown_added : {T E : Type 0} (r : Result T E) (names same_names : Names) (vars : VarNames) (b new : BaseModel) (i : ℕ) (a : Atom) (text : List ℕ) → Ascends 0 b.store.rows b.store.next_id → same_names ≡ names → i ≡ b.store.next_id
+    → text ≡ known_text names vars (resolved_atom b.subst a) i → OnOk r (new ≡ record b { store = added b.store a }) → OnErr r (new ≡ b) → IsShownIn names vars b i text → IsShownIn same_names vars new i text
+shown_added (Ok x) names same_names vars b new i a text up en same is ok err shows =
+    let after = record b { store = added b.store a } in
+    let of : IsOf after.store.rows i a = subst (λ (n : ℕ). IsOf after.store.rows n a) (sym same) (last_of b.store.rows b.store.next_id a up) in
+    shown_same names same_names vars after new i text en ok (shown_new names vars after i a text of is)
+shown_added (Err x) names same_names vars b new i a text up en same is ok err shows = shown_same names same_names vars b new i text en err shows

@@ -15,7 +15,6 @@ use Rattle.chr_semantics.specs.Tree.{Tree}
 use Rattle.chr_rules.specs.ProgramView.{names_of, rules_of}
 use Rattle.chr_semantics.specs.Value.{Fault, value}
 use Rattle.chr_trace.specs.State.{elem_view, stack_view, status_view}
-use Rattle.chr_trace.specs.Texts.{texts}
 use Rattle.chr_trace.specs.declared.state.Elem.{Elem}
 use Rattle.chr_trace.specs.declared.state.Status as declared
 use Rattle.chr_trace.specs.declared.state.Status.TheVariants.{Failed}
@@ -37,25 +36,25 @@ logged_after line old mid new k l = record {
   room = λ h. l.room (k.room h);
   status = l.status ∙ k.status;
   base = l.base ∙ k.base;
-  lines = l.lines ∙ ap (λ ls. texts ls ++ line ∷ []) k.lines;
+  lines = l.lines ∙ ap (λ ls. ls ++ line ∷ []) k.lines;
   steps = l.steps ∙ ap (λ (n : ℕ). n + 1) k.steps;
   program = l.program ∙ k.program;
   var_names = l.var_names ∙ k.var_names;
 }
 
-module _ {A : Type 0} (old mid new : Execution A) (g : Goal) (elems : List (Elem A)) (line : List ℕ) (b : BaseModel) (kept : Kept old mid) (woke : map elem_view elems ≡ woken_elements (state_in (model_of old))) where
+module _ {A : Type 0} (old mid new : Execution A) (g : Goal) (elems : List (Elem A)) (b : BaseModel) (kept : Kept old mid) (woke : map elem_view elems ≡ woken_elements (state_in (model_of old))) where
   -- constraints wake, after nothing else that shows has changed but what is below the stack
   pub after_woken : stack_view new.stack.items ≡ map elem_view elems ++ stack_view mid.stack.items → status_view new.status ≡ status_at (map elem_view elems ++ stack_view mid.stack.items) → base_in new.base ≡ b
-      → texts new.lines.items ≡ texts mid.lines.items ++ line ∷ [] → line ≡ line_text (model_of old).names (model_of old).var_names (old.steps + 1) (solves (shown (model_of old) g)) → new.steps ≡ mid.steps + 1 → program_in new.base ≡ program_in mid.base → new.var_names ≡ mid.var_names
+      → new.lines.made ≡ mid.lines.made ++ line_text (model_of old).names (model_of old).var_names (old.steps + 1) (solves (shown (model_of old) g)) ∷ [] → new.steps ≡ mid.steps + 1 → program_in new.base ≡ program_in mid.base → new.var_names ≡ mid.var_names
       → (let es = woken_elements (with_goal g (model_of old)) ++ (model_of old).stack in
       IsAfter (model_of old) (model_of new) es (status_at es) b (line_text (model_of old).names (model_of old).var_names (old.steps + 1) (solves (shown (model_of old) g))))
-  after_woken stack status base lines line_is steps program vars =
+  after_woken stack status base lines steps program vars =
       let es : map elem_view elems ++ stack_view mid.stack.items ≡ woken_elements (state_in (model_of old)) ++ stack_view old.stack.items = λ k. woke k ++ stack_view (kept.stack k) in
       record {
         stack = stack ∙ es;
         status = status ∙ ap status_at es;
         base = base;
-        lines = lines ∙ (ap (λ ls. texts ls ++ line ∷ []) kept.lines ∙ ap (λ (l : List ℕ). texts old.lines.items ++ l ∷ []) line_is);
+        lines = lines ∙ ap (λ ls. ls ++ line_text (model_of old).names (model_of old).var_names (old.steps + 1) (solves (shown (model_of old) g)) ∷ []) kept.lines;
         steps = steps ∙ ap (λ (n : ℕ). n + 1) kept.steps;
         same = record {
           names = ap names_of (program ∙ kept.program);
@@ -220,7 +219,7 @@ stopped_after old mid new g w line l stack status below = record {
   stack = stack ∙ ap (λ es. goal g ∷ stack_view es) l.stack;
   status = ap status_view status;
   base = ap base_in below.base ∙ l.base;
-  lines = ap (λ v. texts v.items) below.lines ∙ l.lines;
+  lines = ap (λ ls. ls.made) below.lines ∙ l.lines;
   steps = below.steps ∙ l.steps;
   same = record {
     names = ap names_of (below.program ∙ l.program);

@@ -15,7 +15,6 @@ use Rattle.chr_semantics.specs.Trace.{propagates, simplifies}
 use Rattle.chr_rules.specs.RuleView.{goal_view, rule_view}
 use Rattle.chr_rules.specs.declared.goal.Goal.{Goal}
 use Rattle.chr_find.specs.declared.active.Active.{Active}
-use Rattle.chr_trace.specs.Texts.{texts}
 use Rattle.chr_base.specs.Agreement.{is_alive}
 use Rattle.chr_base.specs.BaseView.{BaseModel}
 use Rattle.chr_resume.specs.ResumingView.{base_in, program_in}
@@ -74,7 +73,7 @@ pub record FiresBelow {A : Type 0} (old : Execution A) (s : Active A) (number : 
   pub lines :
       let m = model_of old in
       let b = resolved_atom m.base.subst a in
-      texts new.lines.items ≡ m.lines ++ line_text m.names m.var_names (m.steps + 1)
+      new.lines.made ≡ m.lines ++ line_text m.names m.var_names (m.steps + 1)
       (cond (nat_lt s.place (rule_view s.rule.now).kept) (propagates b s.id.0 number (rule_view s.rule.now).label ids) (simplifies b s.id.0 number (rule_view s.rule.now).label ids)) ∷ []
   pub stack : new.stack.items ≡ old.stack.items
   pub status : new.status ≡ old.status

@@ -1,5 +1,4 @@
 pub mod Shown
-pub mod Told
 pub mod Model
 pub mod Step
 pub mod Proper

@@ -5,7 +5,6 @@ use Rattle.chr_semantics.specs.Program.{Program}
 use Rattle.chr_semantics.specs.State.{Element, State, Status}
 use Rattle.chr_rules.specs.ProgramView.{names_of, rules_of}
 use Rattle.chr_trace.specs.State.{stack_view, status_view}
-use Rattle.chr_trace.specs.Texts.{texts}
 use Rattle.chr_base.specs.BaseView.{BaseModel}
 use Rattle.chr_resume.specs.ResumingView.{base_in, program_in}
 use Rattle.chr_machine.specs.declared.state.Execution.{Execution}
@@ -31,7 +30,7 @@ model_of e = record {
   status = status_view e.status;
   base = base_in e.base;
   steps = e.steps;
-  lines = texts e.lines.items;
+  lines = e.lines.made;
 }
 
 -- the state of the definitions

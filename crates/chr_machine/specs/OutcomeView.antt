@@ -5,7 +5,6 @@ use Rattle.chr_semantics.specs.State.{State}
 use Rattle.chr_store.specs.HistoryView.{entries_view}
 use Rattle.chr_store.specs.StoreView.{store_view}
 use Rattle.chr_trace.specs.State.{stack_view, status_view}
-use Rattle.chr_trace.specs.Texts.{texts}
 use Rattle.chr_machine.specs.declared.outcome.Outcome.{Outcome}
 
 -- the state that its parts make
@@ -21,4 +20,4 @@ ended_in o = record {
 }
 
 abbrev pub outcome_view : {A : Type 0} → Outcome A → semantics.Outcome
-outcome_view o = outcome_of (ended_in o) o.steps (texts o.lines.items) o.var_names
+outcome_view o = outcome_of (ended_in o) o.steps (o.lines.made) o.var_names

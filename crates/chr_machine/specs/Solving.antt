@@ -14,7 +14,6 @@ use Rattle.chr_bind.specs.Comparison.{comparison_view}
 use Rattle.chr_bind.specs.Values.{fault_view}
 use Rattle.chr_bind.specs.declared.fault.Fault.{Fault}
 use Rattle.chr_trace.specs.State.{status_view}
-use Rattle.chr_trace.specs.Texts.{texts}
 use Rattle.chr_resume.specs.ResumingView.{base_in, program_in}
 use Rattle.chr_machine.specs.Model.{Model, model_of, state_in, topped}
 use Rattle.chr_machine.specs.Step.{Counts, IsReady, SameRun}
@@ -30,7 +29,7 @@ pub record Logged {A : Type 0} (line : List ℕ) (old new : Execution A) : Type 
   pub room : vec_len old.stack < vec_capacity old.stack → vec_len new.stack < vec_capacity new.stack
   pub status : new.status ≡ old.status
   pub base : base_in new.base ≡ base_in old.base
-  pub lines : texts new.lines.items ≡ texts old.lines.items ++ line ∷ []
+  pub lines : new.lines.made ≡ old.lines.made ++ line ∷ []
   pub steps : new.steps ≡ old.steps + 1
   pub program : program_in new.base ≡ program_in old.base
   pub var_names : new.var_names ≡ old.var_names

@@ -63,7 +63,7 @@ pub record Kept {A : Type 0} (old new : Execution A) : Type 0 where
   pub room : vec_len old.stack < vec_capacity old.stack → vec_len new.stack < vec_capacity new.stack
   pub status : new.status ≡ old.status
   pub base : base_in new.base ≡ base_in old.base
-  pub lines : new.lines.items ≡ old.lines.items
+  pub lines : new.lines.made ≡ old.lines.made
   pub steps : new.steps ≡ old.steps
   pub program : program_in new.base ≡ program_in old.base
   pub var_names : new.var_names ≡ old.var_names

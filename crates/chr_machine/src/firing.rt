@@ -17,13 +17,12 @@ ghost use Rattle.chr_machine.specs.Step.{IsProper, IsReady, IsSameBelow, Kept, M
 
 use crate::answer::Answer;
 use crate::state::Execution;
-use crate::steps::Told;
 use chr_find::Active;
 use chr_resume::Resuming;
 use chr_rules::{Goal, Occurrence, Rule};
 use chr_store::Id;
 use chr_term::{Args, Memory, Sym};
-use chr_trace::Elem;
+use chr_trace::{About, Elem};
 use std::alloc::Allocator;
 
 /// Puts goals on the stack, the first on top, with room for them.
@@ -90,13 +89,13 @@ impl<'p, A: Allocator + Copy> Execution<'p, A> {
     {
         let rule = active.rule;
         let keeps = active.place < rule.kept;
-        let told = Told::Fires(number, keeps, rule.label.as_str(), ids);
-        let line = self.line_about(active.id, sym, args, told)?;
+        let about = About::Fires(number, keeps, rule.label.as_str(), ids);
+        self.draft(active.id, sym, args, about)?;
         let goals = self.base.body(rule, ids)?;
         self.stack.reserve(goals.len() + 1)?;
         let variables = rule.vars - rule.head_vars();
         self.base.fire(active, ids, variables)?;
-        self.log(line);
+        self.log();
         Ok(goals)
     }
 

@@ -18,7 +18,7 @@ mod waking;
 pub use chr_bind::Fault;
 pub use chr_find::{Found, Snapshot, Task};
 pub use chr_store::{Fired, History, Id, Row, Store};
-pub use chr_trace::{Elem, Status};
+pub use chr_trace::{Elem, Lines, Status};
 pub use machine::Machine;
 pub use need::Need;
 pub use outcome::Outcome;

@@ -12,7 +12,6 @@ ghost use Rattle.chr_store.specs.Numbers.{numbers};
 ghost use Rattle.chr_store.specs.StoreView.{store_view};
 ghost use Rattle.chr_find.specs.SnapshotView.{IsSnapshot, guest_view, task_view, tasks_view};
 ghost use Rattle.chr_trace.specs.State.{stack_view, status_view};
-ghost use Rattle.chr_trace.specs.Texts.{texts};
 ghost use Rattle.chr_resume.specs.ResumingView.{program_in};
 ghost use Rattle.chr_machine.specs.Model.{model_of, state_in};
 ghost use Rattle.chr_machine.specs.NeedView.{Answers, need, need_view, plain, search_of};
@@ -29,7 +28,7 @@ use chr_find::{Found, Snapshot, Task};
 use chr_rules::{Program, Query};
 use chr_store::{History, Id, Store};
 use chr_term::{Memory, Sym, Term, VarNames};
-use chr_trace::{Elem, Status};
+use chr_trace::{Elem, Lines, Status};
 use smallvec::SmallVec;
 use std::alloc::{Allocator, Global};
 
@@ -220,10 +219,10 @@ impl<'p, A: Allocator + Copy> Machine<'p, A> {
     }
 
     /// The lines of the trace, each without its line feed.
-    pub fn lines(&self) -> &[Vec<u8, A>]
-        ensures { texts result.now ≡ (machine_view self.now).lines }
+    pub fn lines(&self) -> &Lines<A>
+        ensures { result.now.made ≡ (machine_view self.now).lines }
     {
-        self.execution.lines.as_slice()
+        &self.execution.lines
     }
 
     /// The program that it runs.

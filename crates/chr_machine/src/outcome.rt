@@ -5,7 +5,6 @@ ghost use Rattle.chr_semantics.specs.Text.{lines_text, outcome};
 ghost use Rattle.chr_rules.specs.ProgramView.{names_of, rules_of};
 ghost use Rattle.chr_store.specs.HistoryView.{entries_view};
 ghost use Rattle.chr_store.specs.StoreView.{store_view};
-ghost use Rattle.chr_trace.specs.Texts.{texts};
 ghost use Rattle.chr_machine.specs.Model.{model_of, state_in};
 ghost use Rattle.chr_machine.specs.OutcomeView.{ended_in, outcome_view};
 
@@ -14,7 +13,7 @@ use chr_bind::Bindings;
 use chr_rules::Program;
 use chr_store::{History, Store};
 use chr_term::{Memory, VarNames};
-use chr_trace::{Elem, Ending, Status, write_lines};
+use chr_trace::{Elem, Ending, Lines, Status};
 use std::alloc::{Allocator, Global};
 
 /// Where a run stands, with its trace: its state in parts, the number of its transitions, their lines, and the names of the query's
@@ -29,7 +28,7 @@ pub struct Outcome<A: Allocator = Global> {
     pub bindings: Bindings<A>,
     pub history: History<A>,
     /// Each without its line feed.
-    pub lines: Vec<Vec<u8, A>, A>,
+    pub lines: Lines<A>,
     pub var_names: VarNames<A>,
 }
 
@@ -56,12 +55,12 @@ impl<A: Allocator + Copy> Outcome<A> {
     /// the text is as before.
     #[tactic(auto, using(chr_term::proofs::Extensions::extended_on, chr_term::proofs::Extensions::taken_back))]
     pub fn text(&self, program: &Program<A>, out: &mut Vec<u8, A>) -> Result<(), Memory>
-        ensures ok { OnOk result (out.new.items ≡ out.old.items ++ lines_text (texts self.now.lines.items
+        ensures ok { OnOk result (out.new.items ≡ out.old.items ++ lines_text (self.now.lines.made
             ++ outcome (names_of program.now) self.now.var_names (rules_of program.now) (ended_in self.now))) }
         ensures err { OnErr result (out.new.items ≡ out.old.items) }
     {
         let len = out.len();
-        write_lines(self.lines.as_slice(), out)?;
+        out.extend_from_slice(self.lines.text_from(0))?;
         match self.write_ending(program, out) {
             Ok(()) => Ok(()),
             Err(error) => {

@@ -20,7 +20,7 @@ use chr_rules::{Goal, Program, Query};
 use chr_semantics::limits::MAX_TRANSITIONS;
 use chr_store::Id;
 use chr_term::Memory;
-use chr_trace::{Elem, Status};
+use chr_trace::{Elem, Lines, Status};
 use std::alloc::{AllocError, Allocator};
 
 impl<'p, A: Allocator + Copy> Execution<'p, A> {
@@ -47,7 +47,7 @@ impl<'p, A: Allocator + Copy> Execution<'p, A> {
             base,
             status: Status::Running,
             steps: 0,
-            lines: Vec::new(alloc),
+            lines: Lines::new(alloc),
             shown: Shown {
                 id: Id(0),
                 text: Vec::new(alloc),

@@ -9,11 +9,11 @@ ghost use Rattle.chr_semantics.specs.Footprint.{Ascends};
 ghost use Rattle.chr_semantics.specs.State.{goal as goal_element};
 ghost use Rattle.chr_semantics.specs.Subst.{apply};
 ghost use Rattle.chr_semantics.specs.Text.{line_text};
-ghost use Rattle.chr_semantics.specs.Trace.{fails, faults};
+ghost use Rattle.chr_semantics.specs.Trace.{solve_line};
 ghost use Rattle.chr_semantics.specs.Tree.{Tree, int};
 ghost use Rattle.chr_semantics.specs.Value.{value as value_in};
 ghost use Rattle.chr_bind.specs.Comparison.{comparison_view};
-ghost use Rattle.chr_bind.specs.Values.{fault_view, value_view};
+ghost use Rattle.chr_bind.specs.Values.{value_view};
 ghost use Rattle.chr_rules.specs.RuleView.{builtin_view, goal_view};
 ghost use Rattle.chr_store.specs.Numbers.{numbers};
 ghost use Rattle.chr_term.specs.TermView.{view};
@@ -25,7 +25,7 @@ ghost use Rattle.chr_machine.specs.Solving.{AreValues, Compares, Evaluates, IsBu
 ghost use Rattle.chr_machine.specs.Step.{IsSameBelow, IsSameBeside, Kept, Made};
 
 use crate::state::Execution;
-use crate::waking::put_elems;
+use crate::steps::scribe_of;
 use chr_bind::{Comparison, Fault, Unified};
 use chr_rules::{Goal, Op};
 use chr_store::Id;
@@ -65,37 +65,22 @@ fn kind_of(op: Op) -> Kind
 }
 
 impl<'p, A: Allocator + Copy> Execution<'p, A> {
-    /// The line of a Solve that fails.
-    fn fail(&mut self, goal: &Goal<A>) -> Result<Solved, Memory>
+    /// The line of a Solve that ends the run so.
+    fn end(&mut self, goal: &Goal<A>, status: Status) -> Result<Solved, Memory>
         requires few { self.old.steps < MAX_TRANSITIONS }
-        ensures ends { IfOk result (λ solved. solved ≡ Solved.Ends Status.Failed) }
+        ensures ends { IfOk result (λ solved. solved ≡ Solved.Ends status) }
         ensures ok { OnOk result (let m = model_of self.old in
-            Logged (line_text m.names m.var_names (m.steps + 1) (fails (shown m (goal_view goal.now)))) self.old self.new) }
-        ensures err { OnErr result (Kept self.old self.new) }
-        ensures room { OnErr result (vec_len self.old.stack < vec_capacity self.old.stack →
-            vec_len self.new.stack < vec_capacity self.new.stack) }
-    {
-        let line = self.scribe().fails(self.steps + 1, goal)?;
-        self.lines.reserve(1)?;
-        self.log(line);
-        Ok(Solved::Ends(Status::Failed))
-    }
-
-    /// The line of a Solve with a fault.
-    fn fault(&mut self, goal: &Goal<A>, fault: Fault) -> Result<Solved, Memory>
-        requires few { self.old.steps < MAX_TRANSITIONS }
-        ensures ends { IfOk result (λ solved. solved ≡ Solved.Ends (Status.Faulted fault)) }
-        ensures ok { OnOk result (let m = model_of self.old in
-            Logged (line_text m.names m.var_names (m.steps + 1) (faults (shown m (goal_view goal.now)) (fault_view fault)))
+            Logged (line_text m.names m.var_names (m.steps + 1) (solve_line (shown m (goal_view goal.now)) (status_view status)))
             self.old self.new) }
         ensures err { OnErr result (Kept self.old self.new) }
         ensures room { OnErr result (vec_len self.old.stack < vec_capacity self.old.stack →
             vec_len self.new.stack < vec_capacity self.new.stack) }
     {
-        let line = self.scribe().faults(self.steps + 1, goal, fault)?;
-        self.lines.reserve(1)?;
-        self.log(line);
-        Ok(Solved::Ends(Status::Faulted(fault)))
+        let scribe = scribe_of(&self.base, &self.var_names);
+        self.lines
+            .draft_solve(&scribe, self.steps + 1, goal, status)?;
+        self.log();
+        Ok(Solved::Ends(status))
     }
 
     /// Tells below the stack that two terms are equal. The text that is kept may be another one then.
@@ -130,9 +115,9 @@ impl<'p, A: Allocator + Copy> Execution<'p, A> {
     {
         let waking = self.prepare(goal)?;
         match self.bind(left, right, waking.ids.as_slice())? {
-            Unified::Clash => self.fail(goal),
+            Unified::Clash => self.end(goal, Status::Failed),
             Unified::Same | Unified::Bound => {
-                self.wake(waking.line, waking.elems);
+                self.wake(waking.elems);
                 Ok(Solved::Holds)
             }
         }
@@ -187,7 +172,7 @@ impl<'p, A: Allocator + Copy> Execution<'p, A> {
         ensures room { OnErr result (vec_len self.new.stack < vec_capacity self.new.stack) }
     {
         match self.value_of(right) {
-            Err(fault) => self.fault(goal, fault),
+            Err(fault) => self.end(goal, Status::Faulted(fault)),
             Ok(number) => self.tell_number(goal, left, number),
         }
     }
@@ -203,7 +188,7 @@ impl<'p, A: Allocator + Copy> Execution<'p, A> {
         ensures room { OnErr result (vec_len self.new.stack < vec_capacity self.new.stack) }
     {
         let waking = self.prepare(goal)?;
-        self.wake(waking.line, waking.elems);
+        self.wake(waking.elems);
         Ok(Solved::Holds)
     }
 
@@ -238,12 +223,12 @@ impl<'p, A: Allocator + Copy> Execution<'p, A> {
         ensures room { OnErr result (vec_len self.new.stack < vec_capacity self.new.stack) }
     {
         match self.values(left, right) {
-            Err(fault) => self.fault(goal, fault),
+            Err(fault) => self.end(goal, Status::Faulted(fault)),
             Ok((left, right)) => {
                 if comparison.holds(left, right) {
                     self.pass(goal)
                 } else {
-                    self.fail(goal)
+                    self.end(goal, Status::Failed)
                 }
             }
         }
@@ -305,7 +290,7 @@ impl<'p, A: Allocator + Copy> Execution<'p, A> {
         match goal {
             Goal::Chr(_, _) => unreachable!(),
             Goal::Told(op, left, right) => self.attempt(goal, *op, left, right),
-            Goal::Fail => self.fail(goal),
+            Goal::Fail => self.end(goal, Status::Failed),
         }
     }
 

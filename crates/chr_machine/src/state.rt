@@ -7,7 +7,7 @@ ghost use Rattle.chr_machine.specs.Shown.{IsShownIn};
 use chr_resume::Resuming;
 use chr_store::Id;
 use chr_term::VarNames;
-use chr_trace::{Elem, Status};
+use chr_trace::{Elem, Lines, Status};
 use std::alloc::Allocator;
 
 /// What a step did: a transition, or nothing, since the run has ended or the limit of transitions stands.
@@ -35,7 +35,7 @@ pub struct Execution<'p, A: Allocator> {
     pub base: Resuming<'p, A>,
     pub status: Status,
     pub steps: u64,
-    pub lines: Vec<Vec<u8, A>, A>,
+    pub lines: Lines<A>,
     pub shown: Shown<A>,
     pub alloc: A,
     ghost shows: { shown.is_right ≡ true → IsShownIn (names_of (program_in base)) var_names (base_in base)

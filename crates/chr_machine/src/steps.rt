@@ -2,56 +2,47 @@
 //!
 //! A transition makes all its growths first. Where one is refused, it gives the top back and has changed nothing.
 ghost use Rattle.chr_semantics.specs.declared.limits.TheConstants.{MAX_CHANGES, MAX_TRANSITIONS};
-ghost use Rattle.std.specs.Prelude.{◌≡◌, ℕ, ◌<◌, ◌≤◌, ◌+◌, ◌++◌, ◌∷◌, ◌^◌, [], IfErr, IfOk, OnErr, OnOk, is_some, true, vec_capacity, vec_len};
+ghost use Rattle.std.specs.Prelude.{◌≡◌, ℕ, ◌<◌, ◌≤◌, ◌+◌, ◌++◌, ◌∷◌, ◌^◌, [], IfErr, List, OnErr, OnOk, Some, is_some, true, vec_capacity, vec_len};
 ghost use Rattle.chr_semantics.specs.Footprint.{Ascends};
-ghost use Rattle.chr_semantics.specs.Names.{Names, VarNames};
-ghost use Rattle.chr_semantics.specs.Program.{Atom, constraint};
+ghost use Rattle.chr_semantics.specs.Program.{constraint};
 ghost use Rattle.chr_semantics.specs.Search.{atom_of, no_firing, no_occurrence};
 ghost use Rattle.chr_semantics.specs.State.{active, goal, known, resolved_atom, running, status_at};
 ghost use Rattle.chr_semantics.specs.Step.{search_at};
 ghost use Rattle.chr_semantics.specs.Text.{known_text, line_text};
 ghost use Rattle.chr_rules.specs.ProgramView.{names_of, rules_of};
 ghost use Rattle.chr_term.specs.TermView.{atom_over};
+ghost use Rattle.chr_trace.specs.About.{line_about};
 ghost use Rattle.chr_trace.specs.State.{elem_view, stack_view, status_view};
-ghost use Rattle.chr_trace.specs.Texts.{texts};
 ghost use Rattle.chr_resume.specs.ResumingView.{base_in, program_in};
 ghost use Rattle.chr_machine.specs.Model.{model_of, state_in, topped};
 ghost use Rattle.chr_machine.specs.Shown.{IsOf};
 ghost use Rattle.chr_machine.specs.Step.{IsReady, IsSameBelow, Kept, Made};
-ghost use Rattle.chr_machine.specs.Told.{told_line};
 
-use crate::state::{Execution, Shown};
+use crate::state::Execution;
+use chr_resume::Resuming;
 use chr_rules::Goal;
 use chr_store::Id;
-use chr_term::{Args, Memory, Sym};
-use chr_trace::{Elem, Scribe, Status};
+use chr_term::{Args, Memory, Sym, VarNames};
+use chr_trace::{About, Elem, Scribe, Status};
 use std::alloc::Allocator;
 
-/// What a line tells of a constraint. A Drop and a Default go with the number of the occurrence, and a firing with that, whether it keeps the
-/// active constraint, the label of its rule, and the identities.
-#[derive(Clone, Copy, Drop)]
-pub enum Told<'t> {
-    Reactivates,
-    Drops(u32),
-    Defaults(u32),
-    Fires(u32, bool, &'t str, &'t [u64]),
+/// What the lines of the trace are written with.
+pub fn scribe_of<'s, A: Allocator + Copy>(
+    base: &'s Resuming<'_, A>,
+    var_names: &'s VarNames<A>,
+) -> Scribe<'s, A>
+    ensures names { result.names.now ≡ names_of (program_in base.now) }
+    ensures var_names { result.var_names.now ≡ var_names.now }
+    ensures subst { result.bindings.now.subst ≡ (base_in base.now).subst }
+{
+    Scribe {
+        names: base.program().names(),
+        var_names,
+        bindings: base.bindings(),
+    }
 }
 
 impl<'p, A: Allocator + Copy> Execution<'p, A> {
-    /// What the lines of the trace are written with.
-    pub fn scribe(&self) -> Scribe<'_, A>
-        ensures names { result.names.now ≡ names_of (program_in self.now.base) }
-        ensures var_names { result.var_names.now ≡ self.now.var_names }
-        ensures subst { result.bindings.now.subst ≡ (base_in self.now.base).subst }
-    {
-        Scribe {
-            alloc: self.alloc,
-            names: self.base.program().names(),
-            var_names: &self.var_names,
-            bindings: self.base.bindings(),
-        }
-    }
-
     /// Whether the text that is kept is that of the constraint, which lives.
     fn is_shown(&self, id: Id) -> bool
         ensures right { result ≡ true → self.now.shown.is_right ≡ true }
@@ -61,67 +52,61 @@ impl<'p, A: Allocator + Copy> Execution<'p, A> {
         self.shown.is_right && self.shown.id == id && self.base.store().alive(id)
     }
 
+    /// Makes the text of a constraint with its identity, in place of the one that is kept.
+    fn write_shown(&mut self, id: Id, sym: Sym, args: &Args<A>) -> Result<(), Memory>
+        requires { IsOf (base_in self.old.base).store.rows id.0 (atom_over sym args.now) }
+        ensures kept { Kept self.old self.new }
+        ensures base { self.new.base ≡ self.old.base }
+        ensures id { OnOk result (self.new.shown.id.0 ≡ id.0) }
+        ensures text { OnOk result (self.new.shown.text.items ≡ known_text (names_of (program_in self.old.base))
+            self.old.var_names (resolved_atom (base_in self.old.base).subst (atom_over sym args.now)) id.0) }
+    {
+        self.shown.is_right = false;
+        self.shown.text.clear();
+        let scribe = scribe_of(&self.base, &self.var_names);
+        scribe.write_known(sym, args, id, &mut self.shown.text)?;
+        self.shown.id = id;
+        self.shown.is_right = true;
+        Ok(())
+    }
+
     /// Makes the text of a constraint with its identity, unless it is kept.
     fn show(&mut self, id: Id, sym: Sym, args: &Args<A>) -> Result<(), Memory>
         requires { IsOf (base_in self.old.base).store.rows id.0 (atom_over sym args.now) }
         ensures kept { Kept self.old self.new }
         ensures base { self.new.base ≡ self.old.base }
+        ensures id { OnOk result (self.new.shown.id.0 ≡ id.0) }
         ensures text { OnOk result (self.new.shown.text.items ≡ known_text (names_of (program_in self.old.base))
             self.old.var_names (resolved_atom (base_in self.old.base).subst (atom_over sym args.now)) id.0) }
     {
         if self.is_shown(id) {
             return Ok(());
         }
-        let text = self.scribe().known(sym, args, id)?;
-        self.shown = Shown {
-            id,
-            text,
-            is_right: true,
-        };
-        Ok(())
+        self.write_shown(id, sym, args)
     }
 
-    /// The line that tells this of the constraint whose text is kept.
-    fn line_of_shown(&self, told: Told<'_>) -> Result<Vec<u8, A>, Memory>
-        requires { self.now.steps < MAX_TRANSITIONS }
-        ensures { (names : Names) (vars : VarNames) (a : Atom) (i : ℕ) →
-            self.now.shown.text.items ≡ known_text names vars a i →
-            IfOk result (λ line. line.items ≡ line_text names vars (self.now.steps + 1) (told_line told.entry a i)) }
-    {
-        let number = self.steps + 1;
-        let known = self.shown.text.as_slice();
-        match told {
-            Told::Reactivates => self.scribe().reactivates(number, known),
-            Told::Drops(occurrence) => self.scribe().drops(number, known, occurrence),
-            Told::Defaults(occurrence) => self.scribe().defaults(number, known, occurrence),
-            Told::Fires(occurrence, keeps, label, ids) => {
-                self.scribe()
-                    .fires(number, known, occurrence, keeps, label, ids)
-            }
-        }
-    }
-
-    /// The line that tells this of a constraint, with room for it among the lines.
-    pub fn line_about(
+    /// Drafts the line of the next transition about a constraint.
+    pub fn draft(
         &mut self,
         id: Id,
         sym: Sym,
         args: &Args<A>,
-        told: Told<'_>,
-    ) -> Result<Vec<u8, A>, Memory>
+        about: About<'_>,
+    ) -> Result<(), Memory>
         requires few { self.old.steps < MAX_TRANSITIONS }
         requires is_of { IsOf (base_in self.old.base).store.rows id.0 (atom_over sym args.now) }
         ensures kept { Kept self.old self.new }
         ensures base { self.new.base ≡ self.old.base }
-        ensures line { IfOk result (λ line. line.items ≡ line_text (names_of (program_in self.old.base))
+        ensures id { OnOk result (self.new.shown.id.0 ≡ id.0) }
+        ensures text { OnOk result (self.new.shown.text.items ≡ known_text (names_of (program_in self.old.base))
+            self.old.var_names (resolved_atom (base_in self.old.base).subst (atom_over sym args.now)) id.0) }
+        ensures line { OnOk result (self.new.lines.draft ≡ Some (line_text (names_of (program_in self.old.base))
             self.old.var_names (self.old.steps + 1)
-            (told_line told.entry (resolved_atom (base_in self.old.base).subst (atom_over sym args.now)) id.0)) }
-        ensures room { OnOk result (vec_len self.new.lines < vec_capacity self.new.lines) }
+            (line_about about.entry (resolved_atom (base_in self.old.base).subst (atom_over sym args.now)) id.0))) }
     {
         self.show(id, sym, args)?;
-        let line = self.line_of_shown(told)?;
-        self.lines.reserve(1)?;
-        Ok(line)
+        let known = self.shown.text.as_slice();
+        self.lines.draft(self.steps + 1, known, about)
     }
 
     /// Puts an element on the stack, with room for it.
@@ -151,11 +136,12 @@ impl<'p, A: Allocator + Copy> Execution<'p, A> {
         }
     }
 
-    /// Appends the line of the transition, with room for it.
-    pub fn log(&mut self, line: Vec<u8, A>)
+    /// Keeps the line that was drafted for the transition.
+    pub fn log(&mut self)
         requires few { self.old.steps < MAX_TRANSITIONS }
-        requires room { vec_len self.old.lines < vec_capacity self.old.lines }
-        ensures lines { texts self.new.lines.items ≡ texts self.old.lines.items ++ line.items ∷ [] }
+        requires drafted { is_some self.old.lines.draft ≡ true }
+        ensures lines { (line : List ℕ) → self.old.lines.draft ≡ Some line →
+            self.new.lines.made ≡ self.old.lines.made ++ line ∷ [] }
         ensures steps { self.new.steps ≡ self.old.steps + 1 }
         ensures stack { self.new.stack ≡ self.old.stack }
         ensures status { self.new.status ≡ self.old.status }
@@ -163,7 +149,7 @@ impl<'p, A: Allocator + Copy> Execution<'p, A> {
         ensures program { program_in self.new.base ≡ program_in self.old.base }
         ensures var_names { self.new.var_names ≡ self.old.var_names }
     {
-        self.lines.push_reserved(line);
+        self.lines.keep();
         self.steps += 1;
     }
 
@@ -177,10 +163,10 @@ impl<'p, A: Allocator + Copy> Execution<'p, A> {
         ensures kept { OnErr result (Kept self.old self.new) }
         ensures room { OnErr result (vec_len self.new.stack < vec_capacity self.new.stack) }
     {
-        let Ok(line) = self.line_about(id, sym, &args, Told::Reactivates) else {
+        let Ok(()) = self.draft(id, sym, &args, About::Reactivates) else {
             return Err(Elem::Known(id, sym, args));
         };
-        self.log(line);
+        self.log();
         self.put(Elem::Active(id, 1, sym, args));
         Ok(())
     }
@@ -200,27 +186,16 @@ impl<'p, A: Allocator + Copy> Execution<'p, A> {
         ensures room { OnErr result (vec_len self.new.stack < vec_capacity self.new.stack) }
     {
         let next = self.base.store().next();
-        let Ok(text) = self.scribe().known(sym, &args, next) else {
-            return Err(Elem::Goal(Goal::Chr(sym, args)));
-        };
-        let Ok(line) = self.scribe().activates(self.steps + 1, text.as_slice()) else {
+        let Ok(()) = self.draft(next, sym, &args, About::Activates) else {
             return Err(Elem::Goal(Goal::Chr(sym, args)));
         };
         let Ok(shared) = args.share() else {
             return Err(Elem::Goal(Goal::Chr(sym, args)));
         };
-        let Ok(()) = self.lines.reserve(1) else {
-            return Err(Elem::Goal(Goal::Chr(sym, args)));
-        };
         match self.base.add(sym, args) {
             Err((args, _)) => Err(Elem::Goal(Goal::Chr(sym, args))),
             Ok(id) => {
-                self.shown = Shown {
-                    id,
-                    text,
-                    is_right: true,
-                };
-                self.log(line);
+                self.log();
                 self.put(Elem::Active(id, 1, sym, shared));
                 Ok(())
             }
@@ -248,10 +223,10 @@ impl<'p, A: Allocator + Copy> Execution<'p, A> {
         ensures kept { OnErr result (Kept self.old self.new) }
         ensures room { OnErr result (vec_len self.new.stack < vec_capacity self.new.stack) }
     {
-        let Ok(line) = self.line_about(id, sym, &args, Told::Drops(number)) else {
+        let Ok(()) = self.draft(id, sym, &args, About::Drops(number)) else {
             return Err(Elem::Active(id, number, sym, args));
         };
-        self.log(line);
+        self.log();
         self.settle();
         Ok(())
     }
@@ -278,10 +253,10 @@ impl<'p, A: Allocator + Copy> Execution<'p, A> {
         ensures kept { OnErr result (Kept self.old self.new) }
         ensures room { OnErr result (vec_len self.new.stack < vec_capacity self.new.stack) }
     {
-        let Ok(line) = self.line_about(id, sym, &args, Told::Defaults(number)) else {
+        let Ok(()) = self.draft(id, sym, &args, About::Defaults(number)) else {
             return Err(Elem::Active(id, number, sym, args));
         };
-        self.log(line);
+        self.log();
         self.put(Elem::Active(id, number + 1, sym, args));
         Ok(())
     }

@@ -1,6 +1,6 @@
 //! Which constraints a Solve wakes.
 ghost use Rattle.chr_semantics.specs.declared.limits.TheConstants.{MAX_TRANSITIONS};
-ghost use Rattle.std.specs.Prelude.{◌≡◌, ◌<◌, ◌≤◌, ◌+◌, ◌++◌, ◌∷◌, [], IfOk, OnOk, map, vec_capacity, vec_len};
+ghost use Rattle.std.specs.Prelude.{◌≡◌, ℕ, ◌<◌, ◌≤◌, ◌+◌, ◌++◌, ◌∷◌, [], IfOk, List, OnOk, Some, is_some, map, true, vec_capacity, vec_len};
 ghost use Rattle.chr_semantics.specs.Changes.{woken};
 ghost use Rattle.chr_semantics.specs.Footprint.{Ascends};
 ghost use Rattle.chr_semantics.specs.State.{status_at};
@@ -11,7 +11,6 @@ ghost use Rattle.chr_rules.specs.ProgramView.{names_of};
 ghost use Rattle.chr_rules.specs.RuleView.{goal_view};
 ghost use Rattle.chr_store.specs.Numbers.{numbers};
 ghost use Rattle.chr_trace.specs.State.{elem_view, stack_view, status_view};
-ghost use Rattle.chr_trace.specs.Texts.{texts};
 ghost use Rattle.chr_resume.specs.ResumingView.{base_in, program_in};
 ghost use Rattle.chr_machine.specs.Model.{model_of, state_in};
 ghost use Rattle.chr_machine.specs.Solving.{shown};
@@ -19,16 +18,16 @@ ghost use Rattle.chr_machine.specs.Step.{IsReady, Kept};
 ghost use Rattle.chr_machine.specs.Waking.{element_at, elements_at};
 
 use crate::state::Execution;
+use crate::steps::scribe_of;
 use chr_rules::Goal;
 use chr_store::Id;
 use chr_term::Memory;
-use chr_trace::Elem;
+use chr_trace::{Elem, Status};
 use std::alloc::Allocator;
 
-/// What a Solve that holds has made ready: its line, and the constraints that wake, by ascending identity, and as elements of the stack.
+/// What a Solve that holds has made ready beside its line: the constraints that wake, by ascending identity, and as elements of the stack.
 #[derive(Drop)]
 pub struct Waking<A: Allocator> {
-    pub line: Vec<u8, A>,
     pub ids: Vec<Id, A>,
     pub elems: Vec<Elem<A>, A>,
 }
@@ -77,13 +76,12 @@ impl<'p, A: Allocator + Copy> Execution<'p, A> {
             (base_in self.old.base).store.next_id }
         requires room { vec_len self.old.stack < vec_capacity self.old.stack }
         ensures kept { Kept self.old self.new }
-        ensures lines { OnOk result (vec_len self.new.lines < vec_capacity self.new.lines) }
         ensures stack { IfOk result (λ waking. vec_len self.new.stack + vec_len waking.elems + 1
             ≤ vec_capacity self.new.stack) }
         ensures room { vec_len self.new.stack < vec_capacity self.new.stack }
-        ensures line { IfOk result (λ waking. waking.line.items
-            ≡ line_text (names_of (program_in self.old.base)) self.old.var_names (self.old.steps + 1)
-            (solves (shown (model_of self.old) (goal_view goal.now)))) }
+        ensures line { OnOk result (self.new.lines.draft ≡ Some
+            (line_text (names_of (program_in self.old.base)) self.old.var_names (self.old.steps + 1)
+            (solves (shown (model_of self.old) (goal_view goal.now))))) }
         ensures ids { IfOk result (λ waking. numbers waking.ids.items
             ≡ woken (base_in self.old.base).store (base_in self.old.base).subst) }
         ensures elems { IfOk result
@@ -91,22 +89,25 @@ impl<'p, A: Allocator + Copy> Execution<'p, A> {
     {
         let ids = self.base.refresh()?;
         let elems = self.elements(ids.as_slice())?;
-        let line = self.scribe().solves(self.steps + 1, goal)?;
-        self.lines.reserve(1)?;
+        let scribe = scribe_of(&self.base, &self.var_names);
+        let number = self.steps + 1;
+        self.lines
+            .draft_solve(&scribe, number, goal, Status::Running)?;
         self.stack.reserve(elems.len() + 1)?;
-        Ok(Waking { line, ids, elems })
+        Ok(Waking { ids, elems })
     }
 
-    /// A Solve holds that was made ready: its line is there, and the constraints are on the stack, the first on top.
-    pub fn wake(&mut self, line: Vec<u8, A>, elems: Vec<Elem<A>, A>)
+    /// A Solve holds that was made ready: its line is kept, and the constraints are on the stack, the first on top.
+    pub fn wake(&mut self, elems: Vec<Elem<A>, A>)
         requires few { self.old.steps < MAX_TRANSITIONS }
         requires stack { vec_len self.old.stack + vec_len elems ≤ vec_capacity self.old.stack }
-        requires lines { vec_len self.old.lines < vec_capacity self.old.lines }
+        requires drafted { is_some self.old.lines.draft ≡ true }
         ensures stack { stack_view self.new.stack.items
             ≡ map elem_view elems.items ++ stack_view self.old.stack.items }
         ensures status { status_view self.new.status
             ≡ status_at (map elem_view elems.items ++ stack_view self.old.stack.items) }
-        ensures lines { texts self.new.lines.items ≡ texts self.old.lines.items ++ line.items ∷ [] }
+        ensures lines { (line : List ℕ) → self.old.lines.draft ≡ Some line →
+            self.new.lines.made ≡ self.old.lines.made ++ line ∷ [] }
         ensures steps { self.new.steps ≡ self.old.steps + 1 }
         ensures base { self.new.base ≡ self.old.base }
         ensures program { program_in self.new.base ≡ program_in self.old.base }
@@ -114,7 +115,7 @@ impl<'p, A: Allocator + Copy> Execution<'p, A> {
         ensures ready { IsReady self.new }
     {
         put_elems(&mut self.stack, elems);
-        self.log(line);
+        self.log();
         self.settle();
     }
 }

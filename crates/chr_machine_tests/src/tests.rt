@@ -53,7 +53,7 @@ fn task(goal: u64, occurrence: u32) -> Task {
 fn assert_lines<A: Allocator + Copy>(rt: &impl Abort, machine: &Machine<A>, text: &str) {
     assert_eq!(rt; machine.lines().len() as u64, machine.steps());
     for (line, wanted) in machine.lines().iter().zip(text.split('\n')) {
-        assert_eq!(rt; line.as_slice(), wanted.as_bytes());
+        assert_eq!(rt; line, wanted.as_bytes());
     }
 }
 

@@ -1,6 +1,5 @@
 -- A run that has ended stays as it is, so that a budget above its transitions gives the same text.
 use Rattle.std.proofs.Common.{◌≡◌, ◌≢◌, ◌⊎◌, inl, inr, ◌∙◌, ℕ, zero, suc, ◌+◌, ◌-◌, ◌<◌, ◌≤◌, ◌++◌, [], ◌∷◌, List, length, length-append, drop, take, refl, ap, sym, arith, append-nil, append_assoc, None}
-use Rattle.std.proofs.lemmas.Grind.{flat_map-append}
 use Rattle.std.proofs.lemmas.List.{take-append-drop}
 use Rattle.chr_semantics.specs.Names.{Names, VarNames}
 use Rattle.chr_semantics.specs.Program.{Program, Query}
@@ -11,6 +10,7 @@ use Rattle.chr_semantics.specs.Text.{line_texts, trace, outcome, lines_text, tex
 use Rattle.chr_semantics.proofs.Counts.{after-add}
 use Rattle.chr_machine.specs.MachineView.{Starts, Further}
 use Rattle.chr_machine.specs.Model.{Model, state_in}
+use Rattle.chr_trace.proofs.Bodies.{lines_text-append}
 use Rattle.chr_run.specs.Sending.{end_lines, rest_text}
 
 pub step_ended : (p : Program) (s : State) (w : Status) → w ≢ running → step_at p s w ≡ s
@@ -87,9 +87,6 @@ has_run names p q k old new at far = record {
 covers_performed : (p : Program) (s : State) (k n : ℕ) (m : Model) → state_in m ≡ after p s k → k ≤ n → (k ≡ n) ⊎ (m.status ≢ running) → Covers p s k n
 covers_performed p s k n m is within (inl e) = covers_same p s k n e
 covers_performed p s k n m is within (inr ended) = covers_ended p s k n within (λ e. ended (ap (λ (t : State). t.status) is ∙ e))
-
-pub lines_text-append : (ls ms : List (List ℕ)) → lines_text (ls ++ ms) ≡ lines_text ls ++ lines_text ms
-lines_text-append ls ms = flat_map-append (λ (l : List ℕ). l ++ 10 ∷ []) ls ms
 
 -- some lines are no empty text
 lines_some : (ls : List (List ℕ)) → 0 < length ls → 0 < length (lines_text ls)

@@ -6,7 +6,6 @@ use Rattle.std.specs.Io.KnownBytes.{Appends}
 use Rattle.chr_semantics.specs.Text.{lines_text}
 use Rattle.chr_machine.specs.Model.{Model}
 use Rattle.std.specs.Prelude.{IfErr, OnErr, OnOk, Result, Ok, Err, Vec}
-use Rattle.chr_trace.specs.Texts.{texts}
 use Rattle.chr_shelf.specs.declared.run.Run.{Ghosts}
 use Rattle.chr_policy.specs.CoordinatorView.{IsAtRest, machine_by}
 use Rattle.chr_policy.specs.declared.coordinator.Coordinator.{Coordinator}
@@ -14,7 +13,8 @@ use Rattle.chr_run.specs.Output.{AppendsLess, AppendsPart, IsOut}
 use Rattle.chr_run.specs.Sending.{AreOut, IsCut, rest_text, whole_text}
 use Rattle.chr_run.specs.Turns.{IsOfRun, IsThrough, SendsTurns}
 use Rattle.chr_run.specs.declared.error.TextError.{TextError}
-use Rattle.chr_run.proofs.Ends.{lines_text-append, sent_and_rest}
+use Rattle.chr_trace.proofs.Bodies.{lines_text-append}
+use Rattle.chr_run.proofs.Ends.{sent_and_rest}
 use Rattle.chr_run.proofs.Parts.{appends-both, appends-none, less_back, out-more, part-more}
 
 -- nothing is out yet
@@ -50,13 +50,6 @@ module _ (old mid new : Option (List ℕ)) (lines : List (List ℕ)) (sent : ℕ
       let longer : sent ≤ length others = subst (λ (ls : List (List ℕ)). sent ≤ length ls) (sym e) (omega (arith, few, length-append lines more)) in
       let same : take sent lines ≡ take sent others = sym (take-append-le sent lines more few) ∙ ap (take sent) (sym e) in
       record { few = longer; appends = subst (λ (ls : List (List ℕ)). Appends old mid (lines_text ls)) same h.appends }
-
--- the lines of the machine, as they are lent
-pub rest_is : {A : Type 0} (lent : List (Vec ℕ A)) (lines : List (List ℕ)) → texts lent ≡ lines → (sent : ℕ) → lines_text (texts (take (length lent - sent) (drop sent lent))) ≡ lines_text (drop sent lines)
-rest_is {A = A} lent lines is sent =
-    let counted = length-drop sent lent in
-    ap (λ (ls : List (Vec ℕ A)). lines_text (texts ls)) (take_all (length lent - sent) (drop sent lent) (omega (arith, counted)))
-    ∙ ap lines_text (sym (drop-map (λ (l : Vec ℕ A). l.items) sent lent) ∙ ap (drop sent) is)
 
 -- the end goes out after the first lines
 module _ (old mid new : Option (List ℕ)) (m : Model) (sent : ℕ) (h : AreOut old mid m.lines sent) where

@@ -7,7 +7,6 @@ ghost use Rattle.chr_semantics.specs.Text.{lines_text, outcome as outcome_lines}
 ghost use Rattle.chr_rules.specs.ProgramView.{names_of, rules_of};
 ghost use Rattle.chr_rules.specs.RuleView.{query_view};
 ghost use Rattle.chr_schedule.specs.EventView.{events_view};
-ghost use Rattle.chr_trace.specs.Texts.{texts as lines_of};
 ghost use Rattle.chr_machine.specs.OutcomeView.{ended_in};
 ghost use Rattle.chr_run.specs.Replays.{IsReplayed, IsTextReplay, IsUnread, IsUnsent};
 
@@ -30,10 +29,10 @@ fn send_outcome<A: Allocator + Copy, W: Write>(
     writer: &mut W,
 ) -> Result<(), TextError>
     ensures ok { OnOk result (Appends (W.contents writer.old) (W.contents writer.new)
-        (lines_text (lines_of outcome.now.lines.items ++ outcome_lines (names_of program.now)
+        (lines_text (outcome.now.lines.made ++ outcome_lines (names_of program.now)
         outcome.now.var_names (rules_of program.now) (ended_in outcome.now)))) }
     ensures err { IfErr result (IsUnsent
-        (lines_text (lines_of outcome.now.lines.items ++ outcome_lines (names_of program.now)
+        (lines_text (outcome.now.lines.made ++ outcome_lines (names_of program.now)
         outcome.now.var_names (rules_of program.now) (ended_in outcome.now)))
         (W.contents writer.old) (W.contents writer.new)) }
 {

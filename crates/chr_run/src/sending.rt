@@ -15,7 +15,7 @@ use chr_board::{Board, Gate};
 use chr_machine::{Machine, Stepped};
 use chr_policy::Coordinator;
 use chr_shelf::{Run as Name, Shelf};
-use chr_trace::{Ending, write_lines};
+use chr_trace::Ending;
 use std::alloc::Allocator;
 use std::io::Write;
 use std::sync::Wait;
@@ -43,19 +43,17 @@ fn write_further<A: Allocator + Copy>(
     ensures ok { OnOk result (buffer.new.items ≡ lines_text (drop sent (machine_view machine.now).lines)) }
     ensures err { IfErr result IsCut }
 {
-    let lines = machine.lines();
     buffer.clear();
-    match write_lines(&lines[sent..], buffer) {
+    match buffer.extend_from_slice(machine.lines().text_from(sent)) {
         Ok(()) => Ok(()),
         Err(_) => Err(TextError::Run(RunError::Memory)),
     }
 }
 
-/// Sends out the lines from the `sent`-th on, or a first part of them. The answer is how many lines there are. The buffer is used for it.
+/// Sends out the lines from the `sent`-th on, or a first part of them. The answer is how many lines there are.
 fn send_further<A: Allocator + Copy, W: Write>(
     machine: &Machine<'_, A>,
     sent: usize,
-    buffer: &mut Vec<u8, A>,
     writer: &mut W,
 ) -> Result<usize, TextError>
     requires { sent ≤ length (machine_view machine.now).lines }
@@ -66,9 +64,9 @@ fn send_further<A: Allocator + Copy, W: Write>(
         (lines_text (drop sent (machine_view machine.now).lines))) }
     ensures err { IfErr result IsCut }
 {
-    write_further(machine, sent, buffer)?;
-    send_bytes(buffer.as_slice(), writer)?;
-    Ok(machine.lines().len())
+    let lines = machine.lines();
+    send_bytes(lines.text_from(sent), writer)?;
+    Ok(lines.len())
 }
 
 /// Makes the first n transitions, or as many as there are. Each line is out before the next transition; the answer is how many are out.
@@ -79,7 +77,6 @@ fn perform<J: Name, A: Allocator + Copy, G: Gate, W: Write>(
     board: &Board<J, A>,
     gate: &G,
     n: u64,
-    buffer: &mut Vec<u8, A>,
     writer: &mut W,
 ) -> Result<usize, TextError>
     requires name { shelf.now ≡ J.shelf }
@@ -97,7 +94,7 @@ fn perform<J: Name, A: Allocator + Copy, G: Gate, W: Write>(
     let mut sent = 0;
     let mut made = 0;
     while made < n {
-        sent = send_further(coordinator.machine(), sent, buffer, writer)?;
+        sent = send_further(coordinator.machine(), sent, writer)?;
         match coordinator.turn(rt, shelf, board, gate) {
             Err(_) => return Err(TextError::Run(RunError::Memory)),
             Ok(Stepped::Moved) => made += 1,
@@ -170,7 +167,7 @@ pub(crate) fn send_turns<J: Name, A: Allocator + Copy, G: Gate, W: Write>(
     requires limit { n ≤ MAX_TRANSITIONS }
     ensures { SendsTurns n coordinator.old coordinator.new (W.contents writer.old) (W.contents writer.new) result }
 {
-    match perform(rt, coordinator, shelf, board, gate, n, buffer, writer) {
+    match perform(rt, coordinator, shelf, board, gate, n, writer) {
         Err(error) => Err(error),
         Ok(sent) => finish(coordinator.machine(), sent, buffer, writer),
     }

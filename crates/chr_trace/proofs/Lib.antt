@@ -6,3 +6,4 @@ pub mod Sides
 pub mod Bound
 pub mod StoreRows
 pub mod KnownLines
+pub mod Lined

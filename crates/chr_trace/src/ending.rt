@@ -51,7 +51,6 @@ impl<'a, A: Allocator + Copy> Ending<'a, A> {
         ensures kept { IsExtension out.old.items out.new.items }
     {
         let scribe = Scribe {
-            alloc: *out.allocator(),
             names: self.program.names(),
             var_names: self.var_names,
             bindings: self.bindings,

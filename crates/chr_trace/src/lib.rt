@@ -1,7 +1,9 @@
 //! The elements of the goal stack and the status of a run, the lines of its trace, and the text of its end.
 #![tactic(auto, using(chr_term::proofs::Extensions::extended_on, chr_term::proofs::Extensions::taken_back))]
 
+mod about;
 mod ending;
+mod line_iter;
 mod lines;
 mod parts;
 mod resolved;
@@ -9,9 +11,11 @@ mod scribe;
 mod state;
 mod writing;
 
+pub use about::About;
 pub use chr_bind::Fault;
 pub use chr_term::Memory;
 pub use ending::Ending;
-pub use lines::write_lines;
+pub use line_iter::LineIter;
+pub use lines::Lines;
 pub use scribe::Scribe;
 pub use state::{Elem, Status};

@@ -58,7 +58,7 @@ impl<'a, A: Allocator + Copy> Scribe<'a, A> {
     }
 
     /// Writes a constraint with its identity.
-    pub(crate) fn write_known(
+    pub fn write_known(
         &self,
         sym: Sym,
         args: &Args<A>,

@@ -3,7 +3,7 @@ use Rattle.chr_semantics.specs.Changes.{Entries, Store}
 use Rattle.chr_semantics.specs.Text.{lines_text, outcome}
 use Rattle.chr_machine.specs.MachineView.{machine_view}
 use Rattle.chr_run.specs.Sending.{end_lines}
-use Rattle.chr_run.proofs.Ends.{lines_text-append}
+use Rattle.chr_trace.proofs.Bodies.{lines_text-append}
 use Rattle.chr_run.proofs.sending.write_rest.Goals as goal
 
 pub returns-in-Ok-clause-ok : goal.returns-in-Ok-clause-ok

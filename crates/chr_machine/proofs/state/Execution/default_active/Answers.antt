@@ -12,8 +12,7 @@ returns-clause-ok g c =
     let i = c.args.id.0 in
     let a = atom_over c.args.sym c.args.args in
     let log = c.log.ensures in
-    let line = c.in-Ok.ensures.line in
     record {
-      makes = defaulted m (model_of c.put.new.self) i c.args.number a c.requires.none (after_kept c.args.self.now c.line_about.new.self c.log.new.self c.put.new.self (λ es. active i (c.args.number + 1) a ∷ es) (λ es. running) c.in-Ok.line.items _ c.line_about.ensures.kept line log.stack log.base log.lines log.steps log.program log.var_names c.put.ensures.below c.put.ensures.stack c.put.ensures.status);
+      makes = defaulted m (model_of c.put.new.self) i c.args.number a c.requires.none (after_kept c.args.self.now c.draft.new.self c.log.new.self c.put.new.self (λ es. active i (c.args.number + 1) a ∷ es) (λ es. running) _ c.draft.ensures.kept log.stack log.base (log.lines _ c.in-Ok.ensures.line) log.steps log.program log.var_names c.put.ensures.below c.put.ensures.stack c.put.ensures.status);
       ready = c.put.ensures.ready;
     }

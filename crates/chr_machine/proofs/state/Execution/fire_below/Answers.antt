@@ -7,7 +7,6 @@ use Rattle.chr_semantics.specs.Step.{body_of}
 use Rattle.chr_rules.specs.ProgramView.{names_of}
 use Rattle.chr_rules.specs.RuleView.{rule_view}
 use Rattle.chr_term.specs.TermView.{atom_over}
-use Rattle.chr_trace.specs.Texts.{texts}
 use Rattle.chr_base.specs.BaseView.{BaseModel}
 use Rattle.chr_base.specs.Searching.{rows_of}
 use Rattle.chr_resume.specs.ResumingView.{base_in, program_in}
@@ -27,10 +26,8 @@ returns-clause-ok g c =
     let r = rule_view s.rule.now in
     let a = resolved_atom m.base.subst (atom_over c.args.sym c.args.args.now) in
     let ids = c.args.ids.now in
-    let kept = c.line_about.ensures.kept in
-    let line : c.in_ok-line.line.items ≡ line_in m (firing_line s.id.0 c.args.number a r s.place ids) =
-    c.in_ok-line.ensures.line ∙ ap (λ l. line_in m (firing_line s.id.0 c.args.number a (record r { label = l }) s.place ids)) c.as_str.ensures.value
-    in
+    let kept = c.draft.ensures.kept in
+    let line = ap (λ l. line_in m (firing_line s.id.0 c.args.number a (record r { label = l }) s.place ids)) c.as_str.ensures.value in
     record {
       base =
           ap base_in c.log.ensures.base
@@ -38,7 +35,7 @@ returns-clause-ok g c =
       goals_are = λ f.
           c.in_ok-goals.ensures f.rows f.ids_are (subst (λ (b : BaseModel). All (λ (row : Row). atom_of (rows_of b) row.0 ≡ Some row.1) f.rows) (sym kept.base) f.standing) f.matched f.fit
           ∙ ap (λ (b : BaseModel). body_of r f.rows b.next_var) kept.base;
-      lines = c.log.ensures.lines ∙ (λ k. texts (kept.lines k) ++ line k ∷ []);
+      lines = c.log.ensures.lines _ c.in_ok-draft.ensures.line ∙ (λ k. kept.lines k ++ line k ∷ []);
       stack = ap (λ v. v.items) c.log.ensures.stack ∙ (c.reserve.ensures.items ∙ kept.stack);
       status = c.log.ensures.status ∙ kept.status;
       steps = c.log.ensures.steps ∙ ap (λ n. n + 1) kept.steps;
@@ -47,24 +44,24 @@ returns-clause-ok g c =
     }
 
 pub fire-requires-clause-found : goal.fire-requires-clause-found
-fire-requires-clause-found g c = (kept_firing c.args.self.now c.line_about.new.self c.args.active.now c.args.number (atom_over c.args.sym c.args.args.now) c.args.ids.now c.line_about.ensures.kept c.requires.fires).first
+fire-requires-clause-found g c = (kept_firing c.args.self.now c.draft.new.self c.args.active.now c.args.number (atom_over c.args.sym c.args.args.now) c.args.ids.now c.draft.ensures.kept c.requires.fires).first
 
 pub invariant_of-self-2 : goal.invariant_of-self-2
 invariant_of-self-2 g c =
-    let t = c.line_about.new.self in
+    let t = c.draft.new.self in
     let b = base_in t.base in
     let s = c.args.active.now in
     let ids = c.args.ids.now in
     record {
       shows = λ right.
           shown_tried c.fire.result (names_of (program_in t.base)) (names_of (program_in c.fire.new.self)) t.var_names b (base_in c.fire.new.self) t.shown.id.0 t.shown.text.items _ _ (drop s.rule.now.kept ids)
-          (subst (λ (m : BaseModel). Ascends 0 m.store.rows m.store.next_id) (sym c.line_about.ensures.kept.base) c.requires.ascends) (ap names_of c.fire.ensures.program) c.fire.ensures.ok c.fire.ensures.err (t.shows right);
+          (subst (λ (m : BaseModel). Ascends 0 m.store.rows m.store.next_id) (sym c.draft.ensures.kept.base) c.requires.ascends) (ap names_of c.fire.ensures.program) c.fire.ensures.ok c.fire.ensures.err (t.shows right);
     }
 
 -- a growth that is refused
 pub returns-in_err-reserve-clause-err : goal.returns-in_err-reserve-clause-err
 returns-in_err-reserve-clause-err g c =
-    let k = c.line_about.ensures.kept in
+    let k = c.draft.ensures.kept in
     on_err c.from_residual-in_err-reserve.result (record {
       stack = c.reserve.ensures.items ∙ k.stack;
       room = λ r. omega (arith, c.reserve.ensures.len, c.reserve.ensures.capacity, k.room r);
@@ -77,11 +74,11 @@ returns-in_err-reserve-clause-err g c =
     })
 
 pub returns-in_err-reserve-clause-room : goal.returns-in_err-reserve-clause-room
-returns-in_err-reserve-clause-room g c = on_err c.from_residual-in_err-reserve.result (omega (arith, c.reserve.ensures.len, c.reserve.ensures.capacity, c.line_about.ensures.kept.room c.requires.room))
+returns-in_err-reserve-clause-room g c = on_err c.from_residual-in_err-reserve.result (omega (arith, c.reserve.ensures.len, c.reserve.ensures.capacity, c.draft.ensures.kept.room c.requires.room))
 
 pub returns-in_err-fire-clause-err : goal.returns-in_err-fire-clause-err
 returns-in_err-fire-clause-err g c =
-    let k = c.line_about.ensures.kept in
+    let k = c.draft.ensures.kept in
     on_err c.from_residual-in_err-fire.result (record {
       stack = c.reserve.ensures.items ∙ k.stack;
       room = λ r. omega (arith, c.reserve.ensures.len, c.reserve.ensures.capacity, k.room r);

@@ -6,14 +6,13 @@ use Rattle.chr_rules.specs.RuleView.{goal_view}
 use Rattle.chr_semantics.specs.State.{status_at}
 use Rattle.chr_store.specs.Numbers.{numbers}
 use Rattle.chr_trace.specs.State.{elem_view, stack_view}
-use Rattle.chr_trace.specs.Texts.{texts}
 use Rattle.chr_term.specs.TermView.{view}
 use Rattle.chr_base.specs.BaseView.{BaseModel}
 use Rattle.chr_resume.specs.ResumingView.{base_in}
 use Rattle.chr_base.specs.Told.{IsTold}
 use Rattle.chr_machine.specs.Model.{model_of}
 use Rattle.chr_machine.proofs.Models.{kept_twice}
-use Rattle.chr_machine.proofs.Solved.{after_woken, clash_fails, clash_kept, told_bound, told_same}
+use Rattle.chr_machine.proofs.Solved.{after_woken, clash_fails, clash_kept, solved_line, told_bound, told_same}
 use Rattle.chr_machine.proofs.state.Execution.tell.Goals as goal
 
 pub returns-in-Same-clause-ok : goal.returns-in-Same-clause-ok
@@ -28,10 +27,10 @@ returns-in-Same-clause-ok g c =
     let ids_are = ap numbers c.as_slice.ensures.value ∙ c.in_ok-waking.ensures.ids in
     let beside = c.bind.ensures.beside in
     let at = λ (b : BaseModel) (base : base_in c.wake.new.self.base ≡ b).
-    after_woken old c.prepare.new.self c.wake.new.self w c.in_ok-waking.waking.elems.items c.in_ok-waking.waking.line.items b kept c.in_ok-waking.ensures.elems
+    after_woken old c.prepare.new.self c.wake.new.self w c.in_ok-waking.waking.elems.items b kept c.in_ok-waking.ensures.elems
     (c.wake.ensures.stack ∙ (λ k. map elem_view c.in_ok-waking.waking.elems.items ++ stack_view (beside.stack k).items))
     (c.wake.ensures.status ∙ (λ k. status_at (map elem_view c.in_ok-waking.waking.elems.items ++ stack_view (beside.stack k).items))) base
-    (c.wake.ensures.lines ∙ (λ k. texts (beside.lines k).items ++ c.in_ok-waking.waking.line.items ∷ [])) c.in_ok-waking.ensures.line (c.wake.ensures.steps ∙ ap (λ (n : ℕ). n + 1) beside.steps) (c.wake.ensures.program ∙ beside.program) (c.wake.ensures.var_names ∙ beside.var_names)
+    (c.wake.ensures.lines _ (ap (λ ls. ls.draft) beside.lines ∙ c.in_ok-waking.ensures.line) ∙ ap (λ ls. ls.made ++ solved_line (model_of old) (model_of c.wake.new.self) w ∷ []) beside.lines) (c.wake.ensures.steps ∙ ap (λ (n : ℕ). n + 1) beside.steps) (c.wake.ensures.program ∙ beside.program) (c.wake.ensures.var_names ∙ beside.var_names)
     in
     let told = subst (λ (b : BaseModel). IsTold t u ids c.in_ok-bind.field-0 b after) kept.base c.in_ok-bind.ensures.told in (
       elim c.in-Same.is [
@@ -49,7 +48,7 @@ returns-in-Clash-clause-ok g c =
     let u = view c.args.right.now in
     let ready = c.prepare.new.self in
     let clash = subst (λ (v : Unified). IsTold t u (numbers c.as_slice.result.now) v (base_in ready.base) (base_in c.bind.new.self.base)) c.in-Clash.is c.in_ok-bind.ensures.told in
-    clash_fails c.args.self.now ready c.bind.new.self c.fail.new.self (goal_view c.args.goal.now) t u c.in_ok-waking.ensures.kept c.bind.ensures.beside clash c.fail.result c.fail.ensures.ends c.fail.ensures.ok
+    clash_fails c.args.self.now ready c.bind.new.self c.end.new.self (goal_view c.args.goal.now) t u c.in_ok-waking.ensures.kept c.bind.ensures.beside clash c.end.result c.end.ensures.ends c.end.ensures.ok
 
 pub returns-in-Clash-clause-err : goal.returns-in-Clash-clause-err
 returns-in-Clash-clause-err g c =
@@ -59,4 +58,4 @@ returns-in-Clash-clause-err g c =
     let ready = c.prepare.new.self in
     let mid = c.bind.new.self in
     let clash = subst (λ (v : Unified). IsTold t u (numbers c.as_slice.result.now) v (base_in ready.base) (base_in mid.base)) c.in-Clash.is c.in_ok-bind.ensures.told in
-    on_err_weaker c.fail.result (kept_twice old mid c.fail.new.self (clash_kept old ready mid c.fail.new.self (goal_view c.args.goal.now) t u c.in_ok-waking.ensures.kept c.bind.ensures.beside clash)) c.fail.ensures.err
+    on_err_weaker c.end.result (kept_twice old mid c.end.new.self (clash_kept old ready mid c.end.new.self (goal_view c.args.goal.now) t u c.in_ok-waking.ensures.kept c.bind.ensures.beside clash)) c.end.ensures.err
