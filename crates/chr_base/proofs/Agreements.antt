@@ -6,12 +6,11 @@ use Rattle.std.proofs.lemmas.Bool.{and_from, and_parts, leb-false, lt-leb, ne_eq
 use Rattle.std.proofs.lemmas.Bool.Decides.{Decides-ltb}
 use Rattle.chr_semantics.specs.Changes.{Entries, Store, added, empty_store, no_entries, rebound}
 use Rattle.chr_semantics.specs.Program.{Atom}
-use Rattle.chr_semantics.specs.Search.{atom_of, fired_before}
+use Rattle.chr_semantics.specs.Search.{atom_of}
 use Rattle.chr_semantics.specs.State.{resolved_atom}
 use Rattle.chr_semantics.specs.Subst.{IsSolved, Solves, Subst, instances, value_at}
 use Rattle.chr_semantics.specs.Tree.{Trees, none, more}
 use Rattle.chr_semantics.proofs.Instances.{instance-solves}
-use Rattle.chr_semantics.proofs.Lists.{list_all-more}
 use Rattle.chr_semantics.proofs.SolvedLaw.{nothing_solved, solved_law}
 use Rattle.chr_find.specs.Shown.{Rises}
 use Rattle.chr_semantics.specs.Match.{Row}
@@ -42,11 +41,11 @@ under_none s (Some a) e = absurd (some_none (resolved_atom s a) e)
     some_none a e = cc
 
 -- at the start
-pub agrees_empty : (m : Store) (h : Entries) (s : Subst) (at : ℕ → Option Atom) (fired : ℕ → List ℕ → Bool) → m ≡ empty_store → h ≡ no_entries → s ≡ [] → ((i : ℕ) → at i ≡ None) → ((r : ℕ) (ids : List ℕ) → fired r ids ≡ false) → Agrees m h s at fired false
-agrees_empty m h s at fired store entries subst_is nothing f =
-    subst (λ (n : Store). Agrees n h s at fired false) (sym store)
-    (subst (λ (k : Entries). Agrees empty_store k s at fired false) (sym entries)
-    (subst (λ (r : Subst). Agrees empty_store no_entries r at fired false) (sym subst_is)
+pub agrees_empty : (m : Store) (h : Entries) (s : Subst) (at : ℕ → Option Atom) → m ≡ empty_store → h ≡ no_entries → s ≡ [] → ((i : ℕ) → at i ≡ None) → Agrees m h s at false
+agrees_empty m h s at store entries subst_is nothing =
+    subst (λ (n : Store). Agrees n h s at false) (sym store)
+    (subst (λ (k : Entries). Agrees empty_store k s at false) (sym entries)
+    (subst (λ (r : Subst). Agrees empty_store no_entries r at false) (sym subst_is)
     (record {
       rises = tt;
       given = λ i le. refl;
@@ -54,24 +53,22 @@ agrees_empty m h s at fired store entries subst_is nothing f =
       solved = nothing_solved;
       shown = λ i. ap (under []) (nothing i);
       resolved = λ e i. nothing i;
-      alike = λ r ids short live. f r ids;
     })))
 
-module _ (m : Store) (h : Entries) (s : Subst) (at : ℕ → Option Atom) (fired : ℕ → List ℕ → Bool) (stale : Bool) (agrees : Agrees m h s at fired stale) where
+module _ (m : Store) (h : Entries) (s : Subst) (at : ℕ → Option Atom) (stale : Bool) (agrees : Agrees m h s at stale) where
   -- where the table shows the same
-  pub agrees_same : (new : ℕ → Option Atom) (news : ℕ → List ℕ → Bool) → ((i : ℕ) → new i ≡ at i) → ((r : ℕ) (ids : List ℕ) → news r ids ≡ fired r ids) → Agrees m h s new news stale
-  agrees_same new news same f = record {
+  pub agrees_same : (new : ℕ → Option Atom) → ((i : ℕ) → new i ≡ at i) → Agrees m h s new stale
+  agrees_same new same = record {
     rises = agrees.rises;
     given = agrees.given;
     entered = agrees.entered;
     solved = agrees.solved;
     shown = λ i. ap (under s) (same i) ∙ agrees.shown i;
     resolved = λ e i. same i ∙ agrees.resolved e i;
-    alike = λ r ids short live. f r ids ∙ agrees.alike r ids short live;
   }
 
   -- where the store has the same constraints and the same next identity
-  pub agrees_store : (n : Store) → n.rows ≡ m.rows → n.next_id ≡ m.next_id → Agrees n h s at fired stale
+  pub agrees_store : (n : Store) → n.rows ≡ m.rows → n.next_id ≡ m.next_id → Agrees n h s at stale
   agrees_store n same next = record {
     rises = subst Rises (sym same) agrees.rises;
     given = λ i le. ap (λ (rows : List Row). atom_of rows i) same ∙ agrees.given i (subst (λ (k : ℕ). k ≤ i) next le);
@@ -79,16 +76,15 @@ module _ (m : Store) (h : Entries) (s : Subst) (at : ℕ → Option Atom) (fired
     solved = agrees.solved;
     shown = λ i. agrees.shown i ∙ ap (λ (rows : List Row). under s (atom_of rows i)) (sym same);
     resolved = λ e i. agrees.resolved e i ∙ ap (λ (rows : List Row). under s (atom_of rows i)) (sym same);
-    alike = λ r ids short live. agrees.alike r ids short (list_all-more (is_not_dead n) (is_not_dead m) ids (λ i e. ap (λ (rows : List Row). is_some (atom_of rows i) || nat_le m.next_id i) (sym same) ∙ (ap (λ (k : ℕ). is_some (atom_of n.rows i) || nat_le k i) (sym next) ∙ e)) live);
   }
 
   -- where symbols are touched
-  pub agrees_touched : (ids : List ℕ) → Agrees (rebound m ids) h s at fired stale
+  pub agrees_touched : (ids : List ℕ) → Agrees (rebound m ids) h s at stale
   agrees_touched [] = agrees
   agrees_touched (i ∷ ids) = agrees_store (rebound m (i ∷ ids)) refl refl
 
   -- where more is bound
-  pub agrees_bound : (r : Subst) → IsSolved r → Solves (value_at r) s → Agrees m h r at fired true
+  pub agrees_bound : (r : Subst) → IsSolved r → Solves (value_at r) s → Agrees m h r at true
   agrees_bound r solved again = record {
     rises = agrees.rises;
     given = agrees.given;
@@ -96,19 +92,17 @@ module _ (m : Store) (h : Entries) (s : Subst) (at : ℕ → Option Atom) (fired
     solved = solved;
     shown = λ i. sym (under_again r s again (at i)) ∙ (ap (under r) (agrees.shown i) ∙ under_again r s again (atom_of m.rows i));
     resolved = λ e i. absurd (true≢false e);
-    alike = agrees.alike;
   }
 
   -- where the bindings are applied
-  pub agrees_fresh : (new : ℕ → Option Atom) (news : ℕ → List ℕ → Bool) → ((i : ℕ) → new i ≡ under s (at i)) → ((r : ℕ) (ids : List ℕ) → news r ids ≡ fired r ids) → Agrees m h s new news false
-  agrees_fresh new news same f = record {
+  pub agrees_fresh : (new : ℕ → Option Atom) → ((i : ℕ) → new i ≡ under s (at i)) → Agrees m h s new false
+  agrees_fresh new same = record {
     rises = agrees.rises;
     given = agrees.given;
     entered = agrees.entered;
     solved = agrees.solved;
     shown = λ i. ap (under s) (same i) ∙ (under_twice s agrees.solved (at i) ∙ agrees.shown i);
     resolved = λ e i. same i ∙ agrees.shown i;
-    alike = λ r ids short live. f r ids ∙ agrees.alike r ids short live;
   }
 
   -- nothing stands where the store has nothing
@@ -147,7 +141,8 @@ module _ (m : Store) (h : Entries) (s : Subst) (at : ℕ → Option Atom) (fired
         let more : nat_lt i (n + 1) ≡ true = (Decides-ltb i (n + 1)).1 (omega (arith, lt)) in
         and_from (nat_lt i (n + 1)) (list_all (λ j. nat_lt j (n + 1)) ids) more (below_more ids parts.1)
 
-    was_not_dead : (i : ℕ) → is_not_dead (added m a) i ≡ true → is_not_dead m i ≡ true
+    -- who is dead then was dead before
+    pub was_not_dead : (i : ℕ) → is_not_dead (added m a) i ≡ true → is_not_dead m i ≡ true
     was_not_dead i e = by_test (nat_le n i) refl
       where
         by_test : (b : Bool) → nat_le n i ≡ b → (is_alive m i || b) ≡ true
@@ -163,13 +158,12 @@ module _ (m : Store) (h : Entries) (s : Subst) (at : ℕ → Option Atom) (fired
             ap (λ (c : Bool). is_some (cond c (Some a) (atom_of m.rows i)) || false) (sym here) ∙ (ap (λ (o : Option Atom). is_some o || false) (sym (looked i)) ∙ (ap (λ (c : Bool). is_alive (added m a) i || c) (sym later) ∙ e))
 
     -- a constraint is added
-    pub agrees_added : (new : ℕ → Option Atom) (news : ℕ → List ℕ → Bool) → ((i : ℕ) → new i ≡ atoms_with at n (Some (resolved_atom s a)) i) → ((r : ℕ) (ids : List ℕ) → news r ids ≡ fired r ids) → Agrees (added m a) h s new news stale
-    agrees_added new news same f = record {
+    pub agrees_added : (new : ℕ → Option Atom) → ((i : ℕ) → new i ≡ atoms_with at n (Some (resolved_atom s a)) i) → Agrees (added m a) h s new stale
+    agrees_added new same = record {
       rises = rises_guest n a m.rows agrees.rises agrees.given;
       given = λ i le. looked i ∙ (ap (λ (b : Bool). cond b (Some a) (atom_of m.rows i)) (later i le) ∙ agrees.given i (omega (arith, le)));
       entered = λ r ids e. below_more ids (agrees.entered r ids e);
       solved = agrees.solved;
       shown = λ i. ap (under s) (same i) ∙ (under_conds (i == n) (at i) (atom_of m.rows i) (agrees.shown i) ∙ ap (under s) (sym (looked i)));
       resolved = λ e i. same i ∙ (ap (λ (o : Option Atom). cond (i == n) (Some (resolved_atom s a)) o) (agrees.resolved e i) ∙ (sym (under_cond (i == n) (atom_of m.rows i)) ∙ ap (under s) (sym (looked i))));
-      alike = λ r ids short live. f r ids ∙ agrees.alike r ids short (list_all-more (is_not_dead (added m a)) (is_not_dead m) ids was_not_dead live);
     }

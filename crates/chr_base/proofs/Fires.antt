@@ -9,7 +9,7 @@ use Rattle.chr_semantics.proofs.Tests.{eqb_sym}
 use Rattle.chr_semantics.specs.Changes.{Entries, Store, entered, removed, removed_as}
 use Rattle.chr_semantics.specs.Match.{Row}
 use Rattle.chr_semantics.specs.Program.{Atom}
-use Rattle.chr_semantics.specs.Search.{History, atom_of, fired_before, has_number, same_ids}
+use Rattle.chr_semantics.specs.Search.{History, atom_of, fired_before, same_ids}
 use Rattle.chr_semantics.specs.State.{resolved_atom}
 use Rattle.chr_semantics.specs.Subst.{Subst}
 use Rattle.chr_find.specs.Shown.{Rises}
@@ -19,7 +19,7 @@ use Rattle.chr_find.proofs.Lookups.{atom_if, filter_looked, rises_filter}
 use Rattle.chr_base.specs.Agreement.{Agrees, is_alive, is_not_dead, under}
 
 -- the list of entries with one more
-before_last : (l : History) (r : ℕ) (ids : List ℕ) (q : ℕ) (others : List ℕ) → fired_before (l ++ (r, ids) ∷ []) q others ≡ (fired_before l q others || r == q && same_ids ids others)
+pub before_last : (l : History) (r : ℕ) (ids : List ℕ) (q : ℕ) (others : List ℕ) → fired_before (l ++ (r, ids) ∷ []) q others ≡ (fired_before l q others || r == q && same_ids ids others)
 before_last [] r ids q others = or_false (r == q && same_ids ids others)
   where
     or_false : (b : Bool) → (b || false) ≡ b
@@ -48,10 +48,10 @@ and_right : (b c : Bool) → (b && c) ≡ true → c ≡ true
 and_right true c e = e
 and_right false c e = absurd (true≢false (sym e))
 
-tests_turned : (q r : ℕ) (others ids : List ℕ) → (q == r && same_ids others ids) ≡ (r == q && same_ids ids others)
+pub tests_turned : (q r : ℕ) (others ids : List ℕ) → (q == r && same_ids others ids) ≡ (r == q && same_ids ids others)
 tests_turned q r others ids = (λ k. eqb_sym q r k && same_turned others ids k)
 
-module _ (m : Store) (h : Entries) (s : Subst) (at : ℕ → Option Atom) (fired : ℕ → List ℕ → Bool) (stale : Bool) (agrees : Agrees m h s at fired stale) where
+module _ (m : Store) (h : Entries) (s : Subst) (at : ℕ → Option Atom) (stale : Bool) (agrees : Agrees m h s at stale) where
   alive_below : (i : ℕ) → is_alive m i ≡ true → nat_lt i m.next_id ≡ true
   alive_below i alive = by_test (nat_lt i m.next_id) refl
     where
@@ -73,16 +73,14 @@ module _ (m : Store) (h : Entries) (s : Subst) (at : ℕ → Option Atom) (fired
         subst (λ (l : List ℕ). list_all (λ i. nat_lt i m.next_id) l ≡ true) same (list_all-more (is_alive m) (λ i. nat_lt i m.next_id) ids alive_below alive)
 
     -- a firing is entered
-    pub agrees_entered : (news : ℕ → List ℕ → Bool) → ((q : ℕ) (others : List ℕ) → news q others ≡ (fired q others || q == r && same_ids others ids)) → Agrees m (entered h r ids) s at news stale
-    agrees_entered news f = record {
+    pub agrees_entered : Agrees m (entered h r ids) s at stale
+    agrees_entered = record {
       rises = agrees.rises;
       given = agrees.given;
       entered = λ q others e. all_below q others (or_cases (fired_before h.list q others) (r == q && same_ids ids others) (sym (before_last h.list r ids q others) ∙ (ap (λ (l : History). fired_before l q others) (sym list_is) ∙ e)));
       solved = agrees.solved;
       shown = agrees.shown;
       resolved = agrees.resolved;
-      alike = λ q others short live. f q others ∙ (cc (agrees.alike q others short live, tests_turned q r others ids)
-          ∙ (sym (before_last h.list r ids q others) ∙ ap (λ (l : History). fired_before l q others) (sym list_is)));
     }
 
   module _ (i : ℕ) (a : Atom) (there : atom_of m.rows i ≡ Some a) where
@@ -121,7 +119,7 @@ module _ (m : Store) (h : Entries) (s : Subst) (at : ℕ → Option Atom) (fired
     some_either false o e = e
 
     -- the others are dead then if they were
-    was_not_dead : (j : ℕ) → is_not_dead (removed m i) j ≡ true → is_not_dead m j ≡ true
+    pub was_not_dead : (j : ℕ) → is_not_dead (removed m i) j ≡ true → is_not_dead m j ≡ true
     was_not_dead j e = or_more (is_alive (removed m i) j) (is_alive m j) (nat_le m.next_id j) (λ alive. some_either (j == i) (atom_of m.rows j) (ap is_some (sym (looked j)) ∙ alive)) (ap (λ (k : ℕ). is_alive (removed m i) j || nat_le k j) (sym next_is) ∙ e)
       where
         or_more : (b c d : Bool) → (b ≡ true → c ≡ true) → (b || d) ≡ true → (c || d) ≡ true
@@ -137,15 +135,14 @@ module _ (m : Store) (h : Entries) (s : Subst) (at : ℕ → Option Atom) (fired
         ∙ (ap (λ (b : Bool). is_some (cond b None (atom_of m.rows i)) || nat_le (removed m i).next_id i) (eq-eqb i i refl) ∙ (ap (λ (k : ℕ). nat_le k i) next_is ∙ lt-leb m.next_id i lt))
 
     -- a constraint of the store is removed
-    pub agrees_removed : (new : ℕ → Option Atom) (news : ℕ → List ℕ → Bool) → ((j : ℕ) → new j ≡ atoms_with at i None j) → ((r : ℕ) (ids : List ℕ) → list_all (is_not_dead (removed m i)) ids ≡ true → news r ids ≡ fired r ids) → Agrees (removed m i) h s new news stale
-    agrees_removed new news same f = record {
+    pub agrees_removed : (new : ℕ → Option Atom) → ((j : ℕ) → new j ≡ atoms_with at i None j) → Agrees (removed m i) h s new stale
+    agrees_removed new same = record {
       rises = subst Rises (sym rows_are) (rises_filter (λ (r : Row). not (r.0 == i)) m.rows agrees.rises);
       given = λ j le. looked j ∙ none_given (j == i) (atom_of m.rows j) (agrees.given j (subst (λ (k : ℕ). k ≤ j) next_is le));
       entered = λ r ids e. subst (λ (k : ℕ). list_all (λ j. nat_lt j k) ids ≡ true) (sym next_is) (agrees.entered r ids e);
       solved = agrees.solved;
       shown = λ j. ap (under s) (same j) ∙ (under_either (j == i) (at j) (atom_of m.rows j) (agrees.shown j) ∙ ap (under s) (sym (looked j)));
       resolved = λ e j. same j ∙ (ap (λ (o : Option Atom). cond (j == i) None o) (agrees.resolved e j) ∙ (under_cond (j == i) (atom_of m.rows j) ∙ ap (under s) (sym (looked j))));
-      alike = λ r ids short live. f r ids live ∙ agrees.alike r ids short (list_all-more (is_not_dead (removed m i)) (is_not_dead m) ids was_not_dead live);
     }
 
 -- what stands in the table stands in the store

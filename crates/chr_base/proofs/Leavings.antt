@@ -1,9 +1,9 @@
 -- Constraints that leave one after another.
-use Rattle.std.proofs.Common.{◌≡◌, ◌∙◌, ◌≢◌, ◌<◌, ◌≤◌, ◌+◌, ◌-◌, ◌==◌, ◌&&◌, ◌||◌, ℕ, zero, suc, Bool, true, false, true≢false, cond, List, [], ◌∷◌, ◌++◌, Option, Some, None, ap, refl, subst, sym, get_or, drop, take, length, map, min, nat_lt, arith}
+use Rattle.std.proofs.Common.{◌≡◌, ◌∙◌, ◌≢◌, ◌<◌, ◌≤◌, ◌+◌, ◌==◌, ◌&&◌, ◌||◌, ℕ, zero, suc, Bool, true, false, true≢false, cond, List, [], ◌∷◌, ◌++◌, Option, Some, None, ap, refl, subst, sym, get_or, drop, length, map, min, nat_lt, arith}
 use Rattle.std.specs.Prelude.{All, AllPairs, is_some, reverse}
 use Rattle.std.specs.List.{list_all}
 use Rattle.std.proofs.lemmas.Bool.{and_parts, eq-eqb, ne_eqb}
-use Rattle.std.proofs.lemmas.List.{length-append, length-drop, reverse-append}
+use Rattle.std.proofs.lemmas.List.{length-append, length-drop, length-map, length-reverse, reverse-append}
 use Rattle.std.proofs.lemmas.List.Elements.{All-head, All-tail}
 use Rattle.chr_semantics.proofs.Lists.{AllPairs-head, AllPairs-tail}
 use Rattle.chr_semantics.specs.Changes.{Entries, Store, removed, removed_as}
@@ -49,8 +49,8 @@ different_drop (suc k) [] h = h
 different_drop (suc k) (i ∷ ids) h = different_drop k ids (AllPairs-tail (λ i j. i ≢ j) i ids h)
 
 -- what is in the store stands in the table
-pub standing_alive : (m : Store) (h : Entries) (s : Subst) (at : ℕ → Option Atom) (fired : ℕ → List ℕ → Bool) (stale : Bool) → Agrees m h s at fired stale → (i : ℕ) → is_alive m i ≡ true → at i ≡ None → ⊥
-standing_alive m h s at fired stale agrees i alive e = by (atom_of m.rows i) alive (sym (agrees.shown i) ∙ ap (under s) e)
+pub standing_alive : (m : Store) (h : Entries) (s : Subst) (at : ℕ → Option Atom) (stale : Bool) → Agrees m h s at stale → (i : ℕ) → is_alive m i ≡ true → at i ≡ None → ⊥
+standing_alive m h s at stale agrees i alive e = by (atom_of m.rows i) alive (sym (agrees.shown i) ∙ ap (under s) e)
   where
     by : (o : Option Atom) → is_some o ≡ true → under s o ≡ None → ⊥
     by None some e = true≢false (sym some)
@@ -107,13 +107,7 @@ drop_past zero (i ∷ ids) h = absurd (omega (arith, h))
 drop_past (suc k) [] h = refl
 drop_past (suc k) (i ∷ ids) h = drop_past k ids (omega (arith, h))
 
-take_whole : (n : ℕ) (ids : List ℕ) → n ≡ length ids → take n ids ≡ ids
-take_whole zero [] e = refl
-take_whole zero (i ∷ ids) e = absurd (omega (arith, e))
-take_whole (suc n) [] e = refl
-take_whole (suc n) (i ∷ ids) e = ap (λ (l : List ℕ). i ∷ l) (take_whole n ids (omega (arith, e)))
-
-drop_least : (k n : ℕ) (ids : List ℕ) → n ≡ min k (length ids) → drop n ids ≡ drop k ids
+pub drop_least : (k n : ℕ) (ids : List ℕ) → n ≡ min k (length ids) → drop n ids ≡ drop k ids
 drop_least k n ids e = by (nat_lt k (length ids)) refl
   where
     by : (b : Bool) → nat_lt k (length ids) ≡ b → drop n ids ≡ drop k ids
@@ -123,8 +117,11 @@ drop_least k n ids e = by (nat_lt k (length ids)) refl
         let past : length ids ≤ k = grind (arith, ge) in
         drop_past n ids (omega (arith, same)) ∙ sym (drop_past k ids past)
 
-pub from_kept : (k n : ℕ) (ids : List ℕ) → n ≡ min k (length ids) → take (length ids - n) (drop n ids) ≡ drop k ids
-from_kept k n ids e = take_whole (length ids - n) (drop n ids) (sym (length-drop n ids)) ∙ drop_least k n ids e
+-- of at most so many no more leave
+pub few_leave : {A : Type 0} (ls : List (Leaving A)) (ids : List ℕ) (k : ℕ) → leaving_ids ls ≡ drop k ids → length ids ≤ 8 → length ls ≤ 8
+few_leave ls ids k is few =
+    let all : length (leaving_ids ls) ≡ length ls = length-map (reverse ls) (λ (l : Leaving _). l.id.0) ∙ length-reverse ls in
+    omega (arith, all, ap length is, length-drop k ids, few)
 
 -- in a table that shows the same
 pub standing_same : {A : Type 0} (at new : ℕ → Option Atom) (ls : List (Leaving A)) → ((j : ℕ) → new j ≡ at j) → AreStanding at ls → AreStanding new ls

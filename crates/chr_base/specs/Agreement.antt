@@ -1,4 +1,4 @@
--- How a table stands to the constraints, their bindings and the history of a run.
+-- How a table stands to the constraints and their bindings.
 use Rattle.std.specs.Prelude.{◌≡◌, ◌≤◌, ◌||◌, ℕ, Bool, true, false, nat_le, nat_lt, List, [], ◌∷◌, Option, None, is_some, option_map}
 use Rattle.std.specs.Coded.{×_prop, Unit-prop, le_prop}
 use Rattle.std.specs.List.{list_all}
@@ -8,7 +8,6 @@ use Rattle.chr_semantics.specs.Program.{Atom}
 use Rattle.chr_semantics.specs.Search.{atom_of, fired_before}
 use Rattle.chr_semantics.specs.State.{resolved_atom}
 use Rattle.chr_semantics.specs.Subst.{IsSolved, Subst}
-use Rattle.chr_find.specs.Firings.{fits}
 use Rattle.chr_find.specs.AtomCode.{atoms}
 use Rattle.chr_find.specs.Shown.{AllOver, Rises}
 use Rattle.chr_semantics.specs.Match.{Row}
@@ -26,15 +25,14 @@ abbrev pub under : Subst → Option Atom → Option Atom
 under s = option_map (resolved_atom s)
 
 -- The identities of the store ascend and are below the next one, and so are those of the history. The table has the constraints, which
--- the bindings bring to what the store has, and has brought there already unless it is stale; and what has fired, but for the dead.
-pub record Agrees (m : Store) (h : Entries) (s : Subst) (at : ℕ → Option Atom) (fired : ℕ → List ℕ → Bool) (stale : Bool) : Type 0 where
+-- the bindings bring to what the store has, and has brought there already unless it is stale.
+pub record Agrees (m : Store) (h : Entries) (s : Subst) (at : ℕ → Option Atom) (stale : Bool) : Type 0 where
   pub rises : Rises m.rows
   pub given : (i : ℕ) → m.next_id ≤ i → atom_of m.rows i ≡ None
   pub entered : (r : ℕ) (ids : List ℕ) → fired_before h.list r ids ≡ true → list_all (λ i. nat_lt i m.next_id) ids ≡ true
   pub solved : IsSolved s
   pub shown : (i : ℕ) → under s (at i) ≡ under s (atom_of m.rows i)
   pub resolved : stale ≡ false → (i : ℕ) → at i ≡ under s (atom_of m.rows i)
-  pub alike : (r : ℕ) (ids : List ℕ) → fits ids ≡ true → list_all (is_not_dead m) ids ≡ true → fired r ids ≡ fired_before h.list r ids
 
 -- each of these facts has one proof at most
 AllOver-prop : (n : ℕ) (rows : List Row) → IsProp (AllOver n rows)

@@ -1,6 +1,11 @@
 pub mod Agreement
 pub mod BaseView
-pub mod Taking
-pub mod Told
+pub mod Bookmarks
+pub mod Entering
 pub mod Leaving
+pub mod Lending
+pub mod Model
 pub mod Searching
+pub mod Sharing
+pub mod Standing
+pub mod Told

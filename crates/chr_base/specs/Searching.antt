@@ -1,21 +1,17 @@
 -- What a search of a base finds.
-use Rattle.std.specs.Prelude.{◌≡◌, ℕ, All, List, Option, Some, length, map, take}
+use Rattle.std.specs.Prelude.{◌≡◌, ℕ, All, List, Option, Some}
 use Rattle.chr_rules.specs.RuleView.{rule_view}
 use Rattle.chr_semantics.specs.Cursor.{IsSpent}
 use Rattle.chr_semantics.specs.Match.{Row, fits}
 use Rattle.chr_semantics.specs.Program.{Atom, Rule}
 use Rattle.chr_semantics.specs.Search.{atom_of, ids_of}
-use Rattle.chr_semantics.specs.State.{Element, resolved_atom}
+use Rattle.chr_semantics.specs.State.{Element}
 use Rattle.chr_semantics.specs.Step.{body_of}
 use Rattle.chr_semantics.specs.Subst.{Subst}
 use Rattle.chr_find.specs.First.{IsFirst}
 use Rattle.chr_find.specs.declared.active.Active.{Active}
 use Rattle.chr_find.specs.declared.active.Cursor.{Cursor}
-use Rattle.chr_base.specs.BaseView.{BaseModel}
-
--- the constraints with the bindings applied
-abbrev pub rows_of : BaseModel → List Row
-rows_of b = map (λ (r : Row). (r.0, resolved_atom b.subst r.1)) b.store.rows
+use Rattle.chr_base.specs.Model.{BaseModel, rows_of}
 
 module _ {A : Type 0} (b : BaseModel) (s : Active A) where
   -- for the active constraint, where it lives
@@ -24,13 +20,13 @@ module _ {A : Type 0} (b : BaseModel) (s : Active A) where
 
   -- the first tuple that can fire
   abbrev pub FindsFirst : Option (List ℕ) → Type 0
-  FindsFirst found = ForOwn (λ a. IsFirst (rows_of b) b.entries.list s.number (rule_view s.rule.now) s.place a (length (rule_view s.rule.now).heads) found)
+  FindsFirst found = ForOwn (λ a. IsFirst (rows_of b) b.entries.list s.number (rule_view s.rule.now) s.place a found)
 
   -- the same tuple, where the tuples that can fire lie ahead of the cursor
   abbrev pub FindsNext : Cursor → Option (List ℕ) → Type 0
   FindsNext c found =
-      ForOwn (λ a. IsSpent (rows_of b) b.entries.list s.number (rule_view s.rule.now) s.place a (take (length (rule_view s.rule.now).heads) c.after) c.from
-      → IsFirst (rows_of b) b.entries.list s.number (rule_view s.rule.now) s.place a (length (rule_view s.rule.now).heads) found)
+      ForOwn (λ a. IsSpent (rows_of b) b.entries.list s.number (rule_view s.rule.now) s.place a c.after c.from
+      → IsFirst (rows_of b) b.entries.list s.number (rule_view s.rule.now) s.place a found)
 
 -- the goals are those of the rule's body, where the constraints with these identities fit its heads
 abbrev pub IsBodyFor : BaseModel → Rule → List ℕ → List Element → Type 0

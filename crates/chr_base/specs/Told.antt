@@ -5,7 +5,7 @@ use Rattle.chr_bind.specs.declared.bindings.Unified.TheVariants.{Same, Bound, Cl
 use Rattle.chr_semantics.specs.Changes.{rebound}
 use Rattle.chr_semantics.specs.Mgu.{mgu}
 use Rattle.chr_semantics.specs.Tree.{Tree}
-use Rattle.chr_base.specs.BaseView.{BaseModel}
+use Rattle.chr_base.specs.Model.{BaseModel}
 
 -- they stood for one term already, or they do by new bindings, which touch the constraints with these identities, or nothing makes them equal
 abbrev pub IsTold : Tree → Tree → List ℕ → Unified → BaseModel → BaseModel → Type 0

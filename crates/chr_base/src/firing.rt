@@ -1,59 +1,58 @@
 //! What a firing changes.
-ghost use Rattle.std.specs.Prelude.{◌≡◌, ◌≢◌, ◌≤◌, ◌<◌, ◌+◌, All, AllPairs, IfOk, ℕ, OnErr, OnOk, drop, false, length, reverse, true};
+ghost use Rattle.std.specs.Prelude.{◌≡◌, ◌≢◌, ◌≤◌, ◌<◌, ◌+◌, AllPairs, IfOk, ℕ, OnErr, OnOk, Some, drop, false, length, reverse, slice_get, true, vec_capacity, vec_len};
 ghost use Rattle.std.specs.List.{fold, list_all};
 ghost use Rattle.chr_semantics.specs.Changes.{entered, removed};
 ghost use Rattle.chr_semantics.specs.Search.{fired_before, has_number};
-ghost use Rattle.chr_semantics.specs.declared.limits.TheConstants.{MAX_CHANGES};
-ghost use Rattle.chr_store.specs.Numbers.{numbers};
+ghost use Rattle.chr_semantics.specs.declared.limits.TheConstants.{MAX_CHANGES, MAX_HEADS};
 ghost use Rattle.chr_store.specs.Rows.{row_atom};
 ghost use Rattle.chr_store.specs.StoreView.{store_view};
+ghost use Rattle.chr_rules.specs.ProgramView.{rules_of};
+ghost use Rattle.chr_rules.specs.RuleView.{rule_view};
 ghost use Rattle.chr_find.specs.TableView.{HasRoom, IsSettled, atom_at, atoms_with};
 ghost use Rattle.chr_base.specs.Agreement.{is_alive};
+ghost use Rattle.chr_base.specs.Bookmarks.{IsAhead};
+ghost use Rattle.chr_base.specs.Entering.{CanEnter};
 ghost use Rattle.chr_base.specs.Leaving.{AreStanding, leaving_ids};
+ghost use Rattle.chr_base.specs.Lending.{HasPlace};
+ghost use Rattle.chr_base.specs.Searching.{FindsFirst};
 
 use crate::Memory;
 use crate::base::Base;
-use chr_map::{Pointer, Share};
-use chr_store::{Fired, Id, Row};
+use crate::bookmark::Bookmark;
+use crate::sharing::{note, room_to_note};
+use chr_find::{Active, Cursor};
+use chr_map::Share;
+use chr_store::{Fired, HeadIds, Id, Row};
 use std::alloc::Allocator;
 
 /// A constraint that is to be removed, with its row of the table.
 #[derive(Drop)]
 pub(crate) struct Leaving<A: Allocator> {
     pub(crate) id: Id,
-    pub(crate) row: Pointer<Row<A>, A>,
+    pub(crate) row: Row<A>,
 }
 
-/// The numbers as identities.
-fn identities<A: Allocator + Copy>(alloc: A, ids: &[u64]) -> Result<Vec<Id, A>, Memory>
-    ensures { IfOk result (λ list. numbers list.items ≡ ids.now) }
-{
-    let mut list = Vec::with_capacity(alloc, ids.len())?;
-    for id in ids {
-        list.push(Id(*id))?;
-    }
-    Ok(list)
-}
+impl<'p, A: Allocator + Copy> Base<'p, A> {
+    ghost use Rattle.chr_base.specs.BaseView.{base_view, program_of};
 
-impl<A: Allocator + Copy> Base<A> {
-    ghost use Rattle.chr_base.specs.BaseView.{base_view};
-
-    /// The constraints with these identities and their rows, the last one first.
-    fn leaving(&self, ids: &[u64]) -> Result<Vec<Leaving<A>, A>, Memory>
+    /// The constraints that leave, those behind the first `kept`, with their rows, the last one first.
+    fn leaving(&self, ids: &HeadIds, kept: usize) -> Result<Vec<Leaving<A>, A>, Memory>
         requires settled { IsSettled self.now.table }
         requires alive { list_all (is_alive (store_view self.now.store)) ids.now ≡ true }
-        ensures ids { IfOk result (λ leaving. leaving_ids leaving.items ≡ ids.now) }
+        ensures ids { IfOk result (λ leaving. leaving_ids leaving.items ≡ drop kept ids.now) }
         ensures there { IfOk result
             (λ leaving. AreStanding (atom_at self.now.table) (reverse leaving.items)) }
+        ensures few { IfOk result (λ leaving. length leaving.items ≤ MAX_HEADS) }
     {
-        let mut leaving = Vec::with_capacity(self.alloc, ids.len())?;
         let mut left = ids.len();
-        while left > 0 {
+        let mut leaving = Vec::with_capacity(self.alloc, left.saturating_sub(kept))?;
+        while left > kept {
             left -= 1;
-            let id = Id(ids[left]);
-            if let Some(row) = self.table.row(id) {
-                let row = row.share()?;
-                leaving.push(Leaving { id, row })?;
+            if let Some(id) = ids.get(left) {
+                if let Some(row) = self.table.row(id) {
+                    let row = row.share()?;
+                    leaving.push(Leaving { id, row })?;
+                }
             }
         }
         Ok(leaving)
@@ -69,6 +68,8 @@ impl<A: Allocator + Copy> Base<A> {
         ensures atoms { (i : ℕ) → atom_at self.new.table i
             ≡ atoms_with (atom_at self.old.table) leaving.id.0 None i }
         ensures room { (n : ℕ) → HasRoom (n + 1) self.old.table → HasRoom n self.new.table }
+        ensures program { program_of self.new ≡ program_of self.old }
+        ensures bookmarks { self.new.bookmarks ≡ self.old.bookmarks }
     {
         let Leaving { id, row } = leaving;
         self.store.remove(id);
@@ -81,11 +82,13 @@ impl<A: Allocator + Copy> Base<A> {
         requires room { HasRoom (length leaving.items) self.old.table }
         requires there { AreStanding (atom_at self.old.table) (reverse leaving.items) }
         requires different { AllPairs (λ i j. i ≢ j) (leaving_ids leaving.items) }
-        ensures { base_view self.new
+        ensures base { base_view self.new
             ≡ record (base_view self.old) {
               store = fold removed (base_view self.old).store
                   (leaving_ids leaving.items);
             } }
+        ensures program { program_of self.new ≡ program_of self.old }
+        ensures bookmarks { self.new.bookmarks ≡ self.old.bookmarks }
     {
         while let Some(next) = leaving.pop() {
             self.take_out(next);
@@ -93,59 +96,57 @@ impl<A: Allocator + Copy> Base<A> {
     }
 
     /// Enters a firing, and makes so many variables, for which there is room.
-    fn enter(&mut self, rule: usize, ids: &[u64], variables: usize) -> Result<(), Memory>
-        requires few { length ids.now ≤ 8 }
-        requires alive { list_all (is_alive (base_view self.old).store) ids.now ≡ true }
-        requires is_new { fired_before (base_view self.old).entries.list rule ids.now ≡ false }
+    fn enter(&mut self, fired: &Fired, variables: usize) -> Result<(), Memory>
+        requires alive { list_all (is_alive (base_view self.old).store) fired.now.ids ≡ true }
+        requires is_new { fired_before (base_view self.old).entries.list fired.now.rule fired.now.ids ≡ false }
         requires spare { variables ≤ self.old.bindings.spare }
-        requires room { HasRoom 1 self.old.table }
+        requires place { HasPlace self.old.firings }
         ensures ok { OnOk result (base_view self.new
             ≡ record (base_view self.old) {
-              entries = entered (base_view self.old).entries rule ids.now;
+              entries = entered (base_view self.old).entries fired.now.rule fired.now.ids;
               next_var = (base_view self.old).next_var + variables;
             }) }
         ensures err { OnErr result (base_view self.new ≡ base_view self.old) }
-        ensures atoms { (i : ℕ) → atom_at self.new.table i ≡ atom_at self.old.table i }
-        ensures room { OnOk result ((n : ℕ) → HasRoom (n + 1) self.old.table → HasRoom n self.new.table) }
+        ensures program { program_of self.new ≡ program_of self.old }
+        ensures bookmarks { self.new.bookmarks ≡ self.old.bookmarks }
     {
-        let entry = identities(self.alloc, ids)?;
-        self.history.put(Fired { rule, ids: entry })?;
+        self.history.put(*fired)?;
         match self.bindings.fresh(variables) {
             Ok(_) => {}
             Err(_) => unreachable!(),
         }
-        self.table.fire(rule as u64, ids);
+        note(&mut self.firings, fired);
         Ok(())
     }
 
-    /// The same where one of the constraints is removed: what fired with it is then not in the table, so it is never put there.
+    /// The same where one of the constraints is removed: no snapshot asks for what fired with it, so it is never noted.
     fn enter_without(
         &mut self,
-        rule: usize,
-        ids: &[u64],
+        fired: &Fired,
         variables: usize,
         leaving: Leaving<A>,
     ) -> Result<(), Memory>
-        requires alive { list_all (is_alive (base_view self.old).store) ids.now ≡ true }
-        requires is_new { fired_before (base_view self.old).entries.list rule ids.now ≡ false }
+        requires alive { list_all (is_alive (base_view self.old).store) fired.now.ids ≡ true }
+        requires is_new { fired_before (base_view self.old).entries.list fired.now.rule fired.now.ids ≡ false }
         requires spare { variables ≤ self.old.bindings.spare }
         requires few { (base_view self.old).store.changes < MAX_CHANGES }
         requires room { HasRoom 1 self.old.table }
         requires there { atom_at self.old.table leaving.id.0 ≡ Some (row_atom leaving.row) }
-        requires among { has_number ids.now leaving.id.0 ≡ true }
+        requires among { has_number fired.now.ids leaving.id.0 ≡ true }
         ensures ok { OnOk result (base_view self.new
             ≡ record (base_view self.old) {
               store = removed (base_view self.old).store leaving.id.0;
-              entries = entered (base_view self.old).entries rule ids.now;
+              entries = entered (base_view self.old).entries fired.now.rule fired.now.ids;
               next_var = (base_view self.old).next_var + variables;
             }) }
         ensures err { OnErr result (base_view self.new ≡ base_view self.old) }
         ensures atoms { OnOk result ((i : ℕ) → atom_at self.new.table i
             ≡ atoms_with (atom_at self.old.table) leaving.id.0 None i) }
         ensures room { OnOk result ((n : ℕ) → HasRoom (n + 1) self.old.table → HasRoom n self.new.table) }
+        ensures program { program_of self.new ≡ program_of self.old }
+        ensures bookmarks { self.new.bookmarks ≡ self.old.bookmarks }
     {
-        let entry = identities(self.alloc, ids)?;
-        self.history.put(Fired { rule, ids: entry })?;
+        self.history.put(*fired)?;
         match self.bindings.fresh(variables) {
             Ok(_) => {}
             Err(_) => unreachable!(),
@@ -159,64 +160,115 @@ impl<A: Allocator + Copy> Base<A> {
     /// Enters a firing, makes so many variables, and removes those of its constraints that leave, the last one first, with room for all.
     fn enter_all(
         &mut self,
-        rule: usize,
-        ids: &[u64],
+        fired: &Fired,
         variables: usize,
         mut leaving: Vec<Leaving<A>, A>,
     ) -> Result<(), Memory>
-        requires short { length ids.now ≤ 8 }
-        requires alive { list_all (is_alive (base_view self.old).store) ids.now ≡ true }
-        requires is_new { fired_before (base_view self.old).entries.list rule ids.now ≡ false }
+        requires alive { list_all (is_alive (base_view self.old).store) fired.now.ids ≡ true }
+        requires is_new { fired_before (base_view self.old).entries.list fired.now.rule fired.now.ids ≡ false }
         requires spare { variables ≤ self.old.bindings.spare }
         requires few { (base_view self.old).store.changes + length leaving.items ≤ MAX_CHANGES }
-        requires room { HasRoom (length leaving.items + 1) self.old.table }
+        requires room { HasRoom (length leaving.items) self.old.table }
+        requires place { HasPlace self.old.firings }
         requires there { AreStanding (atom_at self.old.table) (reverse leaving.items) }
         requires different { AllPairs (λ i j. i ≢ j) (leaving_ids leaving.items) }
-        requires among { list_all (has_number ids.now) (leaving_ids leaving.items) ≡ true }
+        requires among { list_all (has_number fired.now.ids) (leaving_ids leaving.items) ≡ true }
         ensures ok { OnOk result (base_view self.new
             ≡ record (base_view self.old) {
               store = fold removed (base_view self.old).store (leaving_ids leaving.items);
-              entries = entered (base_view self.old).entries rule ids.now;
+              entries = entered (base_view self.old).entries fired.now.rule fired.now.ids;
               next_var = (base_view self.old).next_var + variables;
             }) }
         ensures err { OnErr result (base_view self.new ≡ base_view self.old) }
+        ensures program { program_of self.new ≡ program_of self.old }
+        ensures bookmarks { self.new.bookmarks ≡ self.old.bookmarks }
     {
         match leaving.pop() {
-            None => self.enter(rule, ids, variables),
+            None => self.enter(fired, variables),
             Some(first) => {
-                self.enter_without(rule, ids, variables, first)?;
+                self.enter_without(fired, variables, first)?;
                 self.take_out_all(leaving);
                 Ok(())
             }
         }
     }
 
-    /// A rule fires with constraints, given in head order, of which the first `kept` stay and the others are removed; its body has so
-    /// many new variables. Where memory is refused, nothing changes.
-    pub fn fire(
-        &mut self,
-        rule: usize,
-        ids: &[u64],
-        kept: usize,
-        variables: usize,
-    ) -> Result<(), Memory>
-        requires few { length ids.now ≤ 8 }
-        requires alive { list_all (is_alive (base_view self.old).store) ids.now ≡ true }
-        requires different { AllPairs (λ i j. i ≢ j) ids.now }
-        requires is_new { fired_before (base_view self.old).entries.list rule ids.now ≡ false }
-        requires changes { (base_view self.old).store.changes + 8 ≤ MAX_CHANGES }
+    /// Enters a firing of which the first `kept` constraints stay and the others are removed, and makes so many variables. Where memory is
+    /// refused, nothing changes.
+    fn settle_fired(&mut self, fired: &Fired, kept: usize, variables: usize) -> Result<(), Memory>
+        requires can { CanEnter (base_view self.old) fired.now }
+        requires changes { (base_view self.old).store.changes + MAX_HEADS ≤ MAX_CHANGES }
         ensures ok { OnOk result (base_view self.new
             ≡ record (base_view self.old) {
-              store = fold removed (base_view self.old).store (drop kept ids.now);
-              entries = entered (base_view self.old).entries rule ids.now;
+              store = fold removed (base_view self.old).store (drop kept fired.now.ids);
+              entries = entered (base_view self.old).entries fired.now.rule fired.now.ids;
               next_var = (base_view self.old).next_var + variables;
             }) }
         ensures err { OnErr result (base_view self.new ≡ base_view self.old) }
+        ensures program { program_of self.new ≡ program_of self.old }
+        ensures bookmarks { self.new.bookmarks ≡ self.old.bookmarks }
     {
         self.table.settle()?;
-        let leaving = self.leaving(&ids[kept.min(ids.len())..])?;
-        self.table.room(leaving.len() + 1)?;
+        let leaving = self.leaving(&fired.ids, kept)?;
+        self.table.room(leaving.len())?;
+        room_to_note(&mut self.firings)?;
         self.bindings.room(variables)?;
-        self.enter_all(rule, ids, variables, leaving)
+        self.enter_all(fired, variables, leaving)
+    }
+
+    /// Takes a bookmark in, in place of the last one where that is of the same constraint. There is room for it.
+    fn put(&mut self, bookmark: Bookmark)
+        requires room { vec_len self.old.bookmarks < vec_capacity self.old.bookmarks }
+        requires ahead { IsAhead (rules_of (program_of self.old)) (base_view self.old) bookmark }
+        ensures base { base_view self.new ≡ base_view self.old }
+        ensures program { program_of self.new ≡ program_of self.old }
+    {
+        self.forget(bookmark.id);
+        self.bookmarks.push_reserved(bookmark);
+    }
+
+    /// The rule fires with the constraints that were found first for the active one, given in head order. Those behind the rule's kept
+    /// heads are removed; the body has so many new variables. Where memory is refused, nothing changes.
+    pub fn fire(
+        &mut self,
+        active: &Active<'_, A>,
+        ids: &HeadIds,
+        variables: usize,
+    ) -> Result<(), Memory>
+        requires changes { (base_view self.old).store.changes + MAX_HEADS ≤ MAX_CHANGES }
+        requires of_program { slice_get (rules_of (program_of self.old)) active.now.number
+            ≡ Some (rule_view active.now.rule.now) }
+        requires lives { is_alive (base_view self.old).store active.now.id.0 ≡ true }
+        requires found { FindsFirst (base_view self.old) active.now (Some ids.now) }
+        ensures ok { OnOk result (base_view self.new
+            ≡ record (base_view self.old) {
+              store = fold removed (base_view self.old).store (drop active.now.rule.now.kept ids.now);
+              entries = entered (base_view self.old).entries active.now.number ids.now;
+              next_var = (base_view self.old).next_var + variables;
+            }) }
+        ensures err { OnErr result (base_view self.new ≡ base_view self.old) }
+        ensures program { program_of self.new ≡ program_of self.old }
+    {
+        let fired = Fired {
+            rule: active.number,
+            ids: *ids,
+        };
+        let kept = active.rule.kept;
+        if active.place >= kept {
+            return self.settle_fired(&fired, kept, variables);
+        }
+        self.bookmarks.reserve(1)?;
+        let bookmark = Bookmark {
+            id: active.id,
+            number: active.number,
+            place: active.place,
+            cursor: Cursor {
+                after: *ids,
+                from: self.store.next().0,
+            },
+        };
+        self.settle_fired(&fired, kept, variables)?;
+        self.put(bookmark);
+        Ok(())
     }
 }

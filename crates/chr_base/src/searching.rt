@@ -1,28 +1,31 @@
-//! The search for partners.
-ghost use Rattle.std.specs.Prelude.{◌≡◌, IfOk, None, OnOk, map};
+//! The search for partners, which goes on where the last one for the same constraint at the same head ended.
+ghost use Rattle.std.specs.Prelude.{◌≡◌, ◌<◌, IfOk, None, OnOk, Some, map, slice_get, vec_capacity, vec_len};
 ghost use Rattle.chr_semantics.specs.Bounds.{IsBounded};
 ghost use Rattle.chr_semantics.specs.Search.{atom_of};
 ghost use Rattle.chr_semantics.specs.State.{goal};
+ghost use Rattle.chr_rules.specs.ProgramView.{rules_of};
 ghost use Rattle.chr_rules.specs.RuleView.{goal_view, rule_view};
 ghost use Rattle.chr_find.specs.SearchView.{IsSearchable};
 ghost use Rattle.chr_find.specs.TableView.{IsFor};
 
 use crate::Memory;
 use crate::base::Base;
-use chr_bodies::build_fired;
+use crate::heads::build_fired;
 use chr_find::{Active, Cursor};
 use chr_rules::{Goal, Rule};
-use chr_store::Id;
+use chr_store::{HeadIds, Id};
 use std::alloc::Allocator;
 
-impl<A: Allocator + Copy> Base<A> {
-    ghost use Rattle.chr_base.specs.BaseView.{IsFresh, base_view};
-    ghost use Rattle.chr_base.specs.Searching.{FindsFirst, FindsNext, IsBodyFor};
+impl<'p, A: Allocator + Copy> Base<'p, A> {
+    ghost use Rattle.chr_base.specs.BaseView.{IsFresh, IsSameBase, base_view, program_of};
+    ghost use Rattle.chr_base.specs.Bookmarks.{GoesOn};
+    ghost use Rattle.chr_base.specs.Searching.{FindsFirst, IsBodyFor};
 
     /// Makes the table ready to be searched. Contracts see the same base, after a refusal too.
     pub fn freshen(&mut self) -> Result<(), Memory>
         ensures same { base_view self.new ≡ base_view self.old }
         ensures fresh { OnOk result (IsFresh self.new) }
+        ensures program { program_of self.new ≡ program_of self.old }
     {
         if self.is_stale {
             self.refresh()?;
@@ -37,51 +40,97 @@ impl<A: Allocator + Copy> Base<A> {
         ensures same { base_view self.new ≡ base_view self.old }
         ensures fresh { OnOk result (IsFresh self.new) }
         ensures own { OnOk result (IsFor id.0 self.new.table) }
+        ensures program { program_of self.new ≡ program_of self.old }
     {
         self.freshen()?;
         self.table.settle_for(id)
     }
 
-    /// The identities of the first constraints with which the rule can fire, in head order: one for each head, and others that mean
-    /// nothing. Contracts see the same base, after a refusal too.
-    pub fn first(&mut self, active: &Active<'_, A>) -> Result<Option<[u64; 8]>, Memory>
-        requires { IsSearchable active.now.rule.now active.now.place }
+    /// Where the search for the active constraint goes on, if the last bookmark says so.
+    fn cursor(&self, active: &Active<'_, A>) -> Option<Cursor>
+        ensures { GoesOn (rules_of (program_of self.now)) (base_view self.now) active.now result }
+    {
+        match self.bookmarks.as_slice().last() {
+            None => None,
+            Some(bookmark) => {
+                if bookmark.is_of(active) {
+                    Some(bookmark.cursor)
+                } else {
+                    None
+                }
+            }
+        }
+    }
+
+    /// Drops the last bookmark, where it is one of this constraint.
+    pub(crate) fn forget(&mut self, id: Id)
+        ensures same { IsSameBase self.old self.new }
+        ensures room { vec_len self.old.bookmarks < vec_capacity self.old.bookmarks →
+            vec_len self.new.bookmarks < vec_capacity self.new.bookmarks }
+    {
+        let is_of = match self.bookmarks.as_slice().last() {
+            None => false,
+            Some(bookmark) => bookmark.id == id,
+        };
+        if is_of {
+            let _bookmark = self.bookmarks.pop();
+        }
+    }
+
+    /// Lets go of where the search for a constraint goes on, for one that is not searched for any more. Contracts see the same base.
+    pub fn end_search(&mut self, id: Id)
+        ensures same { base_view self.new ≡ base_view self.old }
+        ensures program { program_of self.new ≡ program_of self.old }
+    {
+        self.forget(id);
+    }
+
+    /// What the search finds in a table that is ready for the active constraint.
+    fn found(&self, active: &Active<'_, A>) -> Result<Option<HeadIds>, Memory>
+        requires searchable { IsSearchable active.now.rule.now active.now.place }
+        requires of_program { slice_get (rules_of (program_of self.now)) active.now.number
+            ≡ Some (rule_view active.now.rule.now) }
+        requires fresh { IsFresh self.now }
+        requires own { IsFor active.now.id.0 self.now.table }
+        ensures found { IfOk result (FindsFirst (base_view self.now) active.now) }
+        ensures dead { atom_of (base_view self.now).store.rows active.now.id.0 ≡ None →
+            IfOk result (λ found. found ≡ None) }
+    {
+        let mut tries = 0;
+        match self.cursor(active) {
+            None => self.table.first(active, &self.history, &mut tries),
+            Some(cursor) => self.table.next(active, &self.history, &cursor, &mut tries),
+        }
+    }
+
+    /// The identities of the first constraints with which the rule can fire, in head order. Contracts see the same base, after a refusal
+    /// too.
+    pub fn first(&mut self, active: &Active<'_, A>) -> Result<Option<HeadIds>, Memory>
+        requires searchable { IsSearchable active.now.rule.now active.now.place }
+        requires of_program { slice_get (rules_of (program_of self.old)) active.now.number
+            ≡ Some (rule_view active.now.rule.now) }
         ensures same { base_view self.new ≡ base_view self.old }
         ensures fresh { OnOk result (IsFresh self.new) }
         ensures found { IfOk result (FindsFirst (base_view self.old) active.now) }
         ensures dead { atom_of (base_view self.old).store.rows active.now.id.0 ≡ None →
             IfOk result (λ found. found ≡ None) }
+        ensures program { program_of self.new ≡ program_of self.old }
     {
         self.ready(active.id)?;
-        let mut tries = 0;
-        self.table.first(active, &mut tries)
-    }
-
-    /// The same where each list that can fire is ahead of the cursor: no other is looked at.
-    pub fn next(
-        &mut self,
-        active: &Active<'_, A>,
-        cursor: &Cursor,
-    ) -> Result<Option<[u64; 8]>, Memory>
-        requires { IsSearchable active.now.rule.now active.now.place }
-        ensures same { base_view self.new ≡ base_view self.old }
-        ensures fresh { OnOk result (IsFresh self.new) }
-        ensures found { IfOk result (FindsNext (base_view self.old) active.now cursor.now) }
-        ensures dead { atom_of (base_view self.old).store.rows active.now.id.0 ≡ None →
-            IfOk result (λ found. found ≡ None) }
-    {
-        self.ready(active.id)?;
-        let mut tries = 0;
-        self.table.next(active, cursor, &mut tries)
+        let found = self.found(active)?;
+        if found.is_none() {
+            self.forget(active.id);
+        }
+        Ok(found)
     }
 
     /// The goals of the body of a rule that fires with constraints, given in head order, whose heads fit them.
-    pub fn body(&self, rule: &Rule<A>, ids: &[u64]) -> Result<Vec<Goal<A>, A>, Memory>
+    pub fn body(&self, rule: &Rule<A>, ids: &HeadIds) -> Result<Vec<Goal<A>, A>, Memory>
         requires fresh { IsFresh self.now }
         requires bounded { IsBounded (rule_view rule.now) }
         ensures { IfOk result (λ built. IsBodyFor (base_view self.now) (rule_view rule.now) ids.now (map (λ g. goal (goal_view g)) built.items)) }
     {
         let next = self.bindings.len();
-        build_fired(self.alloc, &self.table, rule, ids, next)
+        build_fired(self.alloc, &self.table, rule, ids.as_slice(), next)
     }
 }

@@ -1,9 +1,7 @@
 -- A kept answer, as the laws have it.
-use Rattle.std.specs.Prelude.{option_map}
 use Rattle.chr_rounds.specs.Kept.{Answered}
-use Rattle.chr_find.specs.FewView.{few_ids}
 use Rattle.chr_find.specs.SnapshotView.{task_view}
 use Rattle.chr_core.specs.declared.kept.Kept.{Kept}
 
 abbrev pub kept_view : Kept → Answered
-kept_view k = record { round = k.round; index = k.index; task = task_view k.task; ids = option_map few_ids k.ids }
+kept_view k = record { round = k.round; index = k.index; task = task_view k.task; ids = k.ids }

@@ -4,13 +4,12 @@ ghost use Rattle.chr_semantics.specs.Tasks as semantics;
 ghost use Rattle.chr_semantics.specs.Tasks.{same_task};
 ghost use Rattle.chr_find.specs.SnapshotView.{task_view};
 ghost use Rattle.chr_rounds.specs.Kept.{Answered};
-ghost use Rattle.chr_store.specs.Numbers.{numbers};
 
 use crate::Memory;
 use crate::kept::Kept;
 use chr_find::Task;
 use chr_spots::{Key, Spots};
-use chr_store::Id;
+use chr_store::HeadIds;
 use std::alloc::Allocator;
 
 /// The kept answers in the order in which they came, and where those to a task stand among them.
@@ -76,14 +75,10 @@ impl<A: Allocator> Answers<A> {
     }
 
     /// What was found for the answer at a place: nothing also where there is none.
-    pub(crate) fn ids(&self, place: usize) -> Option<&[Id]>
-        ensures { option_map (λ list. numbers list.now) result
-            ≡ option_and_then (λ (k : Answered). k.ids) (slice_get (answers_in self.now) place) }
+    pub(crate) fn ids(&self, place: usize) -> Option<HeadIds>
+        ensures { result ≡ option_and_then (λ (k : Answered). k.ids) (slice_get (answers_in self.now) place) }
     {
-        match &self.get(place)?.ids {
-            None => None,
-            Some(ids) => Some(ids.as_slice()),
-        }
+        self.get(place)?.ids
     }
 
     /// The place of the newest answer to a stored constraint's task.

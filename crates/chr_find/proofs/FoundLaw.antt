@@ -1,5 +1,5 @@
 -- What a search of a table answers, in the definitions.
-use Rattle.std.proofs.Common.{◌≡◌, ◌∙◌, ◌≤◌, ◌+◌, ℕ, List, ap, arith, length, refl, sym, subst, take}
+use Rattle.std.proofs.Common.{◌≡◌, ◌∙◌, ◌≤◌, ◌+◌, ℕ, List, ap, arith, refl, sym, subst}
 use Rattle.std.specs.Prelude.{Option, Some, None, option_map, slice_get}
 use Rattle.chr_rules.specs.Index.{pair_of, pair_view}
 use Rattle.chr_rules.specs.declared.index.Occurrence.{Occurrence}
@@ -35,8 +35,8 @@ capped_less : (m n : ℕ) → m ≤ n → capped m ≤ capped n
 capped_less m n le = omega (arith, le)
 
 module _ (p : Program) (rows : List semantics.Row) (h : History) (i j : ℕ) (a : Atom) (at : atom_of rows i ≡ Some a) (o : program.Occurrence) (is : occurrence p a.sym j ≡ Some o) where
-  pub first_found : (n : ℕ) (result : Option (List ℕ)) → IsFirst rows h o.number o.rule o.place (i, a) n result → option_map (take n) result ≡ first p rows h i j
-  first_found n result e = e ∙ sym (look_law.first p rows h i j a o at is)
+  pub first_found : (result : Option (List ℕ)) → IsFirst rows h o.number o.rule o.place (i, a) result → result ≡ first p rows h i j
+  first_found result e = e ∙ sym (look_law.first p rows h i j a o at is)
 
   bounds_are : tries_bounds p rows h i j ≡ bounds_for rows h i a (Some o)
   bounds_are = ap (bounds_of p rows h i j) at ∙ ap (bounds_for rows h i a) is
@@ -48,17 +48,17 @@ module _ (p : Program) (rows : List semantics.Row) (h : History) (i j : ℕ) (a 
       subst (λ (b : ℕ × ℕ). (b.0 ≤ tries) × (tries ≤ b.1)) (sym bounds_are) (omega (arith, e), omega (arith, e, le))
 
   -- the search with an active constraint at the occurrence
-  pub answered : (number : ℕ) (rule : Rule) (place id heads tries : ℕ) (result : Option (List ℕ)) → number ≡ o.number → rule ≡ o.rule → place ≡ o.place → id ≡ i → heads ≡ length rule.heads
-      → IsFirst rows h number rule place (id, a) (length rule.heads) result → tries ≡ capped (0 + tried_tuples rows h number rule place (id, a))
-      → (option_map (take heads) result ≡ first p rows h i j) × (((tries_bounds p rows h i j).0 ≤ tries) × (tries ≤ (tries_bounds p rows h i j).1))
-  answered number rule place id heads tries result en er ep ei counted f e =
+  pub answered : (number : ℕ) (rule : Rule) (place id tries : ℕ) (result : Option (List ℕ)) → number ≡ o.number → rule ≡ o.rule → place ≡ o.place → id ≡ i
+      → IsFirst rows h number rule place (id, a) result → tries ≡ capped (0 + tried_tuples rows h number rule place (id, a))
+      → (result ≡ first p rows h i j) × (((tries_bounds p rows h i j).0 ≤ tries) × (tries ≤ (tries_bounds p rows h i j).1))
+  answered number rule place id tries result en er ep ei f e =
       let own = head_there o.rule.heads o.place (occurrence_below p a.sym j o is) in
-      let f1 = subst (λ (n : ℕ). IsFirst rows h n rule place (id, a) (length rule.heads) result) en f in
-      let f2 = subst (λ (r : Rule). IsFirst rows h o.number r place (id, a) (length r.heads) result) er f1 in
-      let f3 = subst (λ (k : ℕ). IsFirst rows h o.number o.rule k (id, a) (length o.rule.heads) result) ep f2 in
-      let f4 = subst (λ (m : ℕ). IsFirst rows h o.number o.rule o.place (m, a) (length o.rule.heads) result) ei f3 in
+      let f1 = subst (λ (n : ℕ). IsFirst rows h n rule place (id, a) result) en f in
+      let f2 = subst (λ (r : Rule). IsFirst rows h o.number r place (id, a) result) er f1 in
+      let f3 = subst (λ (k : ℕ). IsFirst rows h o.number o.rule k (id, a) result) ep f2 in
+      let f4 = subst (λ (m : ℕ). IsFirst rows h o.number o.rule o.place (m, a) result) ei f3 in
       let e1 = subst (λ (n : ℕ). tries ≡ capped (0 + tried_tuples rows h n rule place (id, a))) en e in
       let e2 = subst (λ (r : Rule). tries ≡ capped (0 + tried_tuples rows h o.number r place (id, a))) er e1 in
       let e3 = subst (λ (k : ℕ). tries ≡ capped (0 + tried_tuples rows h o.number o.rule k (id, a))) ep e2 in
       let e4 = subst (λ (m : ℕ). tries ≡ capped (0 + tried_tuples rows h o.number o.rule o.place (m, a))) ei e3 in
-      (ap (λ (n : ℕ). option_map (take n) result) (counted ∙ ap (λ (r : Rule). length r.heads) er) ∙ first_found (length o.rule.heads) result f4, tries_within own.0 own.1 tries e4)
+      (first_found result f4, tries_within own.0 own.1 tries e4)

@@ -1,5 +1,5 @@
 -- What is found in lists that are put together.
-use Rattle.std.proofs.Common.{◌≡◌, ◌^◌, ◌<◌, ℕ, ◌+◌, Bool, true, false, cond, not, ◌&&◌, List, [], ◌∷◌, ◌++◌, map, Option, Some, None, option_map, take, ap, refl, ◌∙◌, sym, append_assoc, arith, subst}
+use Rattle.std.proofs.Common.{◌≡◌, ◌^◌, ◌<◌, ℕ, ◌+◌, Bool, true, false, cond, not, ◌&&◌, List, [], ◌∷◌, ◌++◌, map, Option, Some, None, option_map, ap, refl, ◌∙◌, sym, append_assoc, arith, subst}
 use Rattle.std.specs.Prelude.{is_some, find}
 use Rattle.std.specs.Option.{option_or}
 use Rattle.std.proofs.lemmas.List.Folds.{find-append}
@@ -66,22 +66,22 @@ capped_more a b c d e = omega (arith, e)
 capped_self : (n : ℕ) → n < 2 ^ 64 → n ≡ capped (n + 0)
 capped_self n h = omega (arith, h)
 
-module _ (h : History) (r : ℕ) (guard : List Test) (prefix : List ℕ) (n : ℕ) where
+module _ (h : History) (r : ℕ) (guard : List Test) (prefix : List ℕ) where
   -- nothing to look at
-  pub finds_none : (told : ℕ) → told < 2 ^ 64 → Finds h r guard prefix n [] None told told
+  pub finds_none : (told : ℕ) → told < 2 ^ 64 → Finds h r guard prefix [] None told told
   finds_none told small = record { found = refl; tries = capped_self told small }
 
   -- where one was found in the first part, the second is not looked at
-  pub finds_first_part : (xs ys : List Joined) (l : List ℕ) (told now : ℕ) → Finds h r guard prefix n xs (Some l) told now → Finds h r guard prefix n (xs ++ ys) (Some l) told now
+  pub finds_first_part : (xs ys : List Joined) (l : List ℕ) (told now : ℕ) → Finds h r guard prefix xs (Some l) told now → Finds h r guard prefix (xs ++ ys) (Some l) told now
   finds_first_part xs ys l told now f =
-      let there : is_some (find (entering h r guard prefix) xs) ≡ true = is_found prefix (find (entering h r guard prefix) xs) (take n l) (sym f.found) in
+      let there : is_some (find (entering h r guard prefix) xs) ≡ true = is_found prefix (find (entering h r guard prefix) xs) l (sym f.found) in
       record {
-        found = f.found ∙ (sym (option_or_some (best h r guard prefix xs) (best h r guard prefix ys) (take n l) (sym f.found)) ∙ sym (best-append h r guard prefix xs ys));
+        found = f.found ∙ (sym (option_or_some (best h r guard prefix xs) (best h r guard prefix ys) l (sym f.found)) ∙ sym (best-append h r guard prefix xs ys));
         tries = f.tries ∙ ap (λ (k : ℕ). capped (told + k)) (sym (tried-append (entering h r guard prefix) xs ys ∙ ap (λ (b : Bool). cond b (tried (entering h r guard prefix) xs) (tried (entering h r guard prefix) xs + tried (entering h r guard prefix) ys)) there));
       }
 
   -- and where none was, it is what is found in the second
-  pub finds_second_part : (xs ys : List Joined) (result : Option (List ℕ)) (told mid now : ℕ) → Finds h r guard prefix n xs None told mid → Finds h r guard prefix n ys result mid now → Finds h r guard prefix n (xs ++ ys) result told now
+  pub finds_second_part : (xs ys : List Joined) (result : Option (List ℕ)) (told mid now : ℕ) → Finds h r guard prefix xs None told mid → Finds h r guard prefix ys result mid now → Finds h r guard prefix (xs ++ ys) result told now
   finds_second_part xs ys result told mid now f g =
       let out : is_some (find (entering h r guard prefix) xs) ≡ false = is_not_found prefix (find (entering h r guard prefix) xs) (sym f.found) in
       record {
@@ -91,11 +91,11 @@ module _ (h : History) (r : ℕ) (guard : List Test) (prefix : List ℕ) (n : �
       }
 
   -- lists that are equal
-  pub finds_same : (xs ps : List Joined) (result : Option (List ℕ)) (told now : ℕ) → xs ≡ ps → Finds h r guard prefix n ps result told now → Finds h r guard prefix n xs result told now
-  finds_same xs ps result told now e f = subst (λ (x : List Joined). Finds h r guard prefix n x result told now) (sym e) f
+  pub finds_same : (xs ps : List Joined) (result : Option (List ℕ)) (told now : ℕ) → xs ≡ ps → Finds h r guard prefix ps result told now → Finds h r guard prefix xs result told now
+  finds_same xs ps result told now e f = subst (λ (x : List Joined). Finds h r guard prefix x result told now) (sym e) f
 
   -- one row in front
-  pub finds_after : (c : Row) (longer : List ℕ) (ps : List Joined) (result : Option (List ℕ)) (told now : ℕ) → longer ≡ prefix ++ c.0 ∷ [] → Finds h r guard longer n ps result told now → Finds h r guard prefix n (map (after_row c) ps) result told now
+  pub finds_after : (c : Row) (longer : List ℕ) (ps : List Joined) (result : Option (List ℕ)) (told now : ℕ) → longer ≡ prefix ++ c.0 ∷ [] → Finds h r guard longer ps result told now → Finds h r guard prefix (map (after_row c) ps) result told now
   finds_after c longer ps result told now at f = record {
     found = f.found ∙ (ap (λ (l : List ℕ). best h r guard l ps) at ∙ sym (best-after h r guard prefix c ps));
     tries = f.tries ∙ (ap (λ (l : List ℕ). capped (told + tried (entering h r guard l) ps)) at ∙ ap (λ (k : ℕ). capped (told + k)) (sym (tried-after h r guard prefix c ps)));

@@ -2,6 +2,7 @@
 use Rattle.std.proofs.Common.{◌≡◌, ℕ, ◌<◌, ◌≤◌, Bool, true, false, cond, ◌&&◌, ◌||◌, ◌==◌, nat_lt, List, [], ◌∷◌, ◌++◌, map, ap, refl, ◌∙◌, arith}
 use Rattle.std.specs.Prelude.{flat_map}
 use Rattle.std.specs.List.{list_any}
+use Rattle.std.proofs.lemmas.Bool.{eq-eqb, ne_eqb}
 use Rattle.std.proofs.lemmas.Bool.Decides.{nat_tests}
 use Rattle.chr_semantics.specs.Match.{Row}
 use Rattle.chr_semantics.specs.Search.{ids_of}
@@ -56,6 +57,21 @@ new_id from c le = let e : nat_lt c from ≡ false = grind (arith, nat_tests, le
 
 pub old_id : (from c : ℕ) → c < from → is_new from c ≡ false
 old_id from c lt = let e : nat_lt c from ≡ true = grind (arith, nat_tests) in rw e refl
+
+-- after a row that is not new
+pub on_later : (from b c : ℕ) (rest : List ℕ) → c < from → b < c → next_gate from (on (b ∷ rest)) c ≡ free
+on_later from b c rest old lt = let e : nat_lt b c ≡ true = grind (arith, nat_tests) in rw (old_id from c old, e) refl
+
+pub on_same : (from b c : ℕ) (rest : List ℕ) → c < from → b ≡ c → next_gate from (on (b ∷ rest)) c ≡ on rest
+on_same from b c rest old same =
+    let e : nat_lt b c ≡ false = grind (arith, nat_tests, same) in
+    rw (old_id from c old, e, eq-eqb b c same) refl
+
+pub on_before : (from b c : ℕ) (rest : List ℕ) → c < from → c < b → next_gate from (on (b ∷ rest)) c ≡ before
+on_before from b c rest old lt =
+    let e : nat_lt b c ≡ false = grind (arith, nat_tests, lt) in
+    let d : (b == c) ≡ false = ne_eqb b c (λ same. omega (arith, same, lt)) in
+    rw (old_id from c old, e, d) refl
 
 pub below_bound : (from : ℕ) (g : Gate) (c : ℕ) → c < gate_bound from g → next_gate from g c ≡ before
 below_bound from free c lt = absurd (omega (arith, lt))

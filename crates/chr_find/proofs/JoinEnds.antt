@@ -1,5 +1,5 @@
 -- The end of the join, its own head, and what it looks at.
-use Rattle.std.proofs.Common.{◌≡◌, ◌^◌, ◌<◌, ◌≤◌, ℕ, zero, suc, ◌+◌, Bool, true, false, cond, not, ◌&&◌, ◌==◌, List, [], ◌∷◌, ◌++◌, map, Option, Some, None, option_map, length, take, drop, ap, refl, ◌∙◌, sym, append-nil, arith, add-one}
+use Rattle.std.proofs.Common.{◌≡◌, ◌^◌, ◌<◌, ◌≤◌, ℕ, zero, suc, ◌+◌, Bool, true, false, cond, not, ◌&&◌, ◌==◌, List, [], ◌∷◌, ◌++◌, map, Option, Some, None, option_map, length, drop, ap, refl, ◌∙◌, sym, append-nil, arith, add-one}
 use Rattle.std.specs.Prelude.{filter, flat_map, slice_get}
 use Rattle.std.proofs.lemmas.List.{drop_all}
 use Rattle.chr_bind.specs.Matching.{AgreesWith}
@@ -17,6 +17,7 @@ use Rattle.chr_find.specs.Joins.{JoinIs, WalkIs, step_of}
 use Rattle.chr_find.proofs.FoundLists.{finds_after, finds_same}
 use Rattle.chr_find.proofs.Gates.{passed-after, passed-flat_map}
 use Rattle.chr_find.proofs.JoinSteps.{step_misfit, used_next}
+use Rattle.chr_find.proofs.SearchParts.{drop_at}
 
 end_picked : (t : Bool) (prefix : List ℕ) (m : Subst) → option_map (λ (p : Joined). prefix ++ ids_of p.0) (cond t (Some ([], m)) None) ≡ cond t (Some prefix) None
 end_picked true prefix m = ap (λ (l : List ℕ). Some l) (append-nil prefix)
@@ -43,8 +44,8 @@ tried_alone true = refl
 tried_alone false = omega arith
 
 module _ {A : Type 0} (rows : List Row) (h : History) (r : ℕ) (rule : Rule) (place own level : ℕ) (partners : List ℕ) (matching : Match A) (from quiet : ℕ) (gate : Gate) (told : ℕ) (past : length rule.heads ≤ level) where
-  end_is : (b d : Bool) → fired_before h r (take level partners) ≡ d → (m : Subst) → all_entailed m rule.guard ≡ b → best h r rule.guard (take level partners) (([], m) ∷ []) ≡ cond (b && not d) (Some (take level partners)) None
-  end_is b d fired m e = end_at b d h r rule.guard (take level partners) m e fired
+  end_is : (b d : Bool) → fired_before h r partners ≡ d → (m : Subst) → all_entailed m rule.guard ≡ b → best h r rule.guard partners (([], m) ∷ []) ≡ cond (b && not d) (Some partners) None
+  end_is b d fired m e = end_at b d h r rule.guard partners m e fired
 
   whole_is : (b : Bool) → admits from gate [] ≡ b → (a : Row) (used : List ℕ) (m : Subst) → passed from gate (joined rows a place (drop level rule.heads) used level m) ≡ cond b (([], m) ∷ []) []
   whole_is b opens a used m = ap (passed from gate) (joined_end rows a place (drop level rule.heads) used level m (drop_all level rule.heads past)) ∙ passed_one from gate b ([], m) opens
@@ -52,38 +53,28 @@ module _ {A : Type 0} (rows : List Row) (h : History) (r : ℕ) (rule : Rule) (p
   -- the gate does not admit the list
   pub end_closed : told < 2 ^ 64 → admits from gate [] ≡ false → JoinIs rows h r rule place own level partners matching from quiet gate None told told
   end_closed small closed a used m owns known agrees q =
-      finds_same h r rule.guard (take level partners) (length rule.heads) _ [] None told told (whole_is false closed a used m) (record { found = refl; tries = capped_plain told small })
+      finds_same h r rule.guard partners _ [] None told told (whole_is false closed a used m) (record { found = refl; tries = capped_plain told small })
 
-  open_end : admits from gate [] ≡ true → (a : Row) (used : List ℕ) (m : Subst) (result : Option (List ℕ)) (now : ℕ) → now ≡ capped (told + 1) → option_map (take (length rule.heads)) result ≡ best h r rule.guard (take level partners) (([], m) ∷ [])
-      → Finds h r rule.guard (take level partners) (length rule.heads) (passed from gate (joined rows a place (drop level rule.heads) used level m)) result told now
+  open_end : admits from gate [] ≡ true → (a : Row) (used : List ℕ) (m : Subst) (result : Option (List ℕ)) (now : ℕ) → now ≡ capped (told + 1) → result ≡ best h r rule.guard partners (([], m) ∷ [])
+      → Finds h r rule.guard partners (passed from gate (joined rows a place (drop level rule.heads) used level m)) result told now
   open_end opens a used m result now one e =
-      finds_same h r rule.guard (take level partners) (length rule.heads) _ (([], m) ∷ []) result told now (whole_is true opens a used m)
-      (record { found = e; tries = one ∙ ap (λ (k : ℕ). capped (told + k)) (sym (tried_alone (entering h r rule.guard (take level partners) ([], m)))) })
+      finds_same h r rule.guard partners _ (([], m) ∷ []) result told now (whole_is true opens a used m)
+      (record { found = e; tries = one ∙ ap (λ (k : ℕ). capped (told + k)) (sym (tried_alone (entering h r rule.guard partners ([], m)))) })
 
-  and_fired : (b : Bool) → ◌≡◌ {A = Option (List ℕ)} (cond (b && not true) (Some (take level partners)) None) None
+  and_fired : (b : Bool) → ◌≡◌ {A = Option (List ℕ)} (cond (b && not true) (Some partners) None) None
   and_fired true = refl
   and_fired false = refl
 
-  pub end_fired : (now : ℕ) → admits from gate [] ≡ true → now ≡ capped (told + 1) → fired_before h r (take level partners) ≡ true → JoinIs rows h r rule place own level partners matching from quiet gate None told now
+  pub end_fired : (now : ℕ) → admits from gate [] ≡ true → now ≡ capped (told + 1) → fired_before h r partners ≡ true → JoinIs rows h r rule place own level partners matching from quiet gate None told now
   end_fired now opens one fired a used m owns known agrees q = open_end opens a used m None now one (sym (end_is (all_entailed m rule.guard) true fired m refl ∙ and_fired (all_entailed m rule.guard)))
 
-  pub end_found : (now : ℕ) → level ≤ length rule.heads → admits from gate [] ≡ true → now ≡ capped (told + 1) → fired_before h r (take level partners) ≡ false → ((m : Subst) → AgreesWith matching m → true ≡ all_entailed m rule.guard)
+  pub end_found : (now : ℕ) → admits from gate [] ≡ true → now ≡ capped (told + 1) → fired_before h r partners ≡ false → ((m : Subst) → AgreesWith matching m → true ≡ all_entailed m rule.guard)
       → JoinIs rows h r rule place own level partners matching from quiet gate (Some partners) told now
-  end_found now inside opens one fired holds a used m owns known agrees q =
-      let same : length rule.heads ≡ level = omega (arith, past, inside) in
-      open_end opens a used m (Some partners) now one (ap (λ (n : ℕ). Some (take n partners)) same ∙ sym (end_is true false fired m (sym (holds m agrees))))
+  end_found now opens one fired holds a used m owns known agrees q =
+      open_end opens a used m (Some partners) now one (sym (end_is true false fired m (sym (holds m agrees))))
 
   pub end_unguarded : (now : ℕ) → admits from gate [] ≡ true → now ≡ capped (told + 1) → ((m : Subst) → AgreesWith matching m → false ≡ all_entailed m rule.guard) → JoinIs rows h r rule place own level partners matching from quiet gate None told now
-  end_unguarded now opens one holds a used m owns known agrees q = open_end opens a used m None now one (sym (end_is false (fired_before h r (take level partners)) refl m (sym (holds m agrees))))
-
-drop_one : (k : ℕ) (x : Head) (xs : List Head) → drop (k + 1) xs ≡ drop (suc k + 1) (x ∷ xs)
-drop_one k x xs = rw (add-one, add-one) refl
-
--- what is left at a head
-pub drop_at : (heads : List Head) (k : ℕ) (x : Head) → slice_get heads k ≡ Some x → drop k heads ≡ x ∷ drop (k + 1) heads
-drop_at [] k x e = cc
-drop_at (g ∷ heads) zero x e = let same : g ≡ x = cc in ap (λ (y : Head). y ∷ heads) same
-drop_at (g ∷ heads) (suc k) x e = drop_at heads k x e ∙ ap (λ (l : List Head). x ∷ l) (drop_one k g heads)
+  end_unguarded now opens one holds a used m owns known agrees q = open_end opens a used m None now one (sym (end_is false (fired_before h r partners) refl m (sym (holds m agrees))))
 
 -- at the own place the join goes on with the own row
 joined_own : (rows : List Row) (a : Row) (place : ℕ) (x : Head) (hs : List Head) (used : List ℕ) (k : ℕ) (m : Subst) (all : List Head) → all ≡ x ∷ hs → (k == place) ≡ true
@@ -104,16 +95,16 @@ flat_kept f p (x ∷ xs) out = by_test (p x) refl (flat_kept f p xs out)
     by_test false e go = go ∙ ap (λ l. l ++ flat_map f xs) (sym (out x e))
 
 module _ {A : Type 0} (rows : List Row) (h : History) (r : ℕ) (rule : Rule) (place own level : ℕ) (partners : List ℕ) (matching : Match A) (from quiet : ℕ) (gate : Gate) (x : Head) (at : slice_get rule.heads level ≡ Some x) where
-  pub at_own : (longer : List ℕ) (result : Option (List ℕ)) (told now : ℕ) → take (level + 1) longer ≡ take level partners ++ own ∷ [] → (level == place) ≡ true
+  pub at_own : (longer : List ℕ) (result : Option (List ℕ)) (told now : ℕ) → longer ≡ partners ++ own ∷ [] → (level == place) ≡ true
       → JoinIs rows h r rule place own (level + 1) longer matching from quiet (next_gate from gate own) result told now → JoinIs rows h r rule place own level partners matching from quiet gate result told now
   at_own longer result told now next here j a used m owns known agrees q =
       let hs : List Head = drop (level + 1) rule.heads in
-      let longer_is : take (level + 1) longer ≡ take level partners ++ a.0 ∷ [] = next ∙ ap (λ (i : ℕ). take level partners ++ i ∷ []) (sym owns) in
+      let longer_is : longer ≡ partners ++ a.0 ∷ [] = next ∙ ap (λ (i : ℕ). partners ++ i ∷ []) (sym owns) in
       let further : List Joined = joined rows a place hs (a.0 ∷ used) (level + 1) m in
-      finds_same h r rule.guard (take level partners) (length rule.heads) (passed from gate (joined rows a place (drop level rule.heads) used level m)) (map (after_row a) (passed from (next_gate from gate own) further)) result told now
+      finds_same h r rule.guard partners (passed from gate (joined rows a place (drop level rule.heads) used level m)) (map (after_row a) (passed from (next_gate from gate own) further)) result told now
       (ap (passed from gate) (joined_own rows a place x hs used level m (drop level rule.heads) (drop_at rule.heads level x at) here) ∙ (passed-after from gate a further ∙ ap (λ (i : ℕ). map (after_row a) (passed from (next_gate from gate i) further)) owns))
-      (finds_after h r rule.guard (take level partners) (length rule.heads) a (take (level + 1) longer) (passed from (next_gate from gate own) further) result told now longer_is
-      (j a (a.0 ∷ used) m owns (used_next used (take level partners) (take (level + 1) longer) a.0 longer_is known) agrees q))
+      (finds_after h r rule.guard partners a longer (passed from (next_gate from gate own) further) result told now longer_is
+      (j a (a.0 ∷ used) m owns (used_next used partners longer a.0 longer_is known) agrees q))
 
   -- the rows that some test keeps are enough
   pub from_walk : (keep : Row → Bool) (result : Option (List ℕ)) (told now : ℕ) → (level == place) ≡ false → ((m : Subst) → AgreesWith matching m → (c : Row) → keep c ≡ false → fit_atom x.atom c.1 m ≡ None)
@@ -122,7 +113,7 @@ module _ {A : Type 0} (rows : List Row) (h : History) (r : ℕ) (rule : Rule) (p
       let hs : List Head = drop (level + 1) rule.heads in
       let step : Row → List Joined = λ c. step_of rows a place hs used level m x.atom c in
       let f : Row → List Joined = λ c. passed from gate (step c) in
-      finds_same h r rule.guard (take level partners) (length rule.heads) (passed from gate (joined rows a place (drop level rule.heads) used level m)) (flat_map f (filter keep rows)) result told now
+      finds_same h r rule.guard partners (passed from gate (joined rows a place (drop level rule.heads) used level m)) (flat_map f (filter keep rows)) result told now
       (ap (passed from gate) (joined_here rows a place x hs used level m (drop level rule.heads) (drop_at rule.heads level x at) other)
       ∙ (passed-flat_map from gate step rows ∙ sym (flat_kept f keep rows (λ c out. ap (passed from gate) (step_misfit rows a place hs used level m x.atom c (enough m agrees c out))))))
       (w a used m owns known agrees q)

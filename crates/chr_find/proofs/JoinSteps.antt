@@ -55,22 +55,22 @@ known_as a own used prefix e h c = cc (e, h c)
 module _ {A : Type 0} (rows : List Row) (h : History) (r : ℕ) (rule : Rule) (place own level : ℕ) (partners : List ℕ) (matching : Match A) (from quiet : ℕ) (gate : Gate) (head : Atom) where
   -- no rows
   pub walk_none : (told : ℕ) → told < 2 ^ 64 → WalkIs rows h r rule place own level partners matching from quiet gate head [] None told told
-  walk_none told small a used m owns known agrees q = finds_none h r rule.guard (take level partners) (length rule.heads) told small
+  walk_none told small a used m owns known agrees q = finds_none h r rule.guard partners told small
 
   -- found among the first rows
   pub walk_first : (xs ys : List Row) (l : List ℕ) (told now : ℕ) → WalkIs rows h r rule place own level partners matching from quiet gate head xs (Some l) told now → WalkIs rows h r rule place own level partners matching from quiet gate head (xs ++ ys) (Some l) told now
   walk_first xs ys l told now w a used m owns known agrees q =
       let f : Row → List Joined = λ c. passed from gate (step_of rows a place (drop (level + 1) rule.heads) used level m head c) in
-      finds_same h r rule.guard (take level partners) (length rule.heads) (flat_map f (xs ++ ys)) (flat_map f xs ++ flat_map f ys) (Some l) told now (flat_map-append f xs ys)
-      (finds_first_part h r rule.guard (take level partners) (length rule.heads) (flat_map f xs) (flat_map f ys) l told now (w a used m owns known agrees q))
+      finds_same h r rule.guard partners (flat_map f (xs ++ ys)) (flat_map f xs ++ flat_map f ys) (Some l) told now (flat_map-append f xs ys)
+      (finds_first_part h r rule.guard partners (flat_map f xs) (flat_map f ys) l told now (w a used m owns known agrees q))
 
   -- not found there
   pub walk_second : (xs ys : List Row) (result : Option (List ℕ)) (told mid now : ℕ) → WalkIs rows h r rule place own level partners matching from quiet gate head xs None told mid → WalkIs rows h r rule place own level partners matching from quiet gate head ys result mid now
       → WalkIs rows h r rule place own level partners matching from quiet gate head (xs ++ ys) result told now
   walk_second xs ys result told mid now v w a used m owns known agrees q =
       let f : Row → List Joined = λ c. passed from gate (step_of rows a place (drop (level + 1) rule.heads) used level m head c) in
-      finds_same h r rule.guard (take level partners) (length rule.heads) (flat_map f (xs ++ ys)) (flat_map f xs ++ flat_map f ys) result told now (flat_map-append f xs ys)
-      (finds_second_part h r rule.guard (take level partners) (length rule.heads) (flat_map f xs) (flat_map f ys) result told mid now (v a used m owns known agrees q) (w a used m owns known agrees q))
+      finds_same h r rule.guard partners (flat_map f (xs ++ ys)) (flat_map f xs ++ flat_map f ys) result told now (flat_map-append f xs ys)
+      (finds_second_part h r rule.guard partners (flat_map f xs) (flat_map f ys) result told mid now (v a used m owns known agrees q) (w a used m owns known agrees q))
 
   -- the same for a match that is the same
   pub walk_same : (old : Match A) (xs : List Row) (result : Option (List ℕ)) (told now : ℕ) → IsSame old matching → WalkIs rows h r rule place own level partners matching from quiet gate head xs result told now
@@ -89,21 +89,21 @@ module _ {A : Type 0} (rows : List Row) (h : History) (r : ℕ) (rule : Rule) (p
   walk_on walked xs ys false l result told mid now is e v w = subst (λ (cs : List Row). WalkIs rows h r rule place own level partners matching from quiet gate head cs result told now) (sym is) (walk_second xs ys result told mid now v w)
 
   -- a row that is left out
-  pub row_out : (c : Row) (next : Match A) (told : ℕ) → told < 2 ^ 64 → TakesAs false (own ∷ take level partners) head c matching next → WalkIs rows h r rule place own level partners matching from quiet gate head (c ∷ []) None told told
+  pub row_out : (c : Row) (next : Match A) (told : ℕ) → told < 2 ^ 64 → TakesAs false (own ∷ partners) head c matching next → WalkIs rows h r rule place own level partners matching from quiet gate head (c ∷ []) None told told
   row_out c next told small t a used m owns known agrees q =
-      let e : step_of rows a place (drop (level + 1) rule.heads) used level m head c ≡ [] = left_out rows a place (drop (level + 1) rule.heads) used level m head c (own ∷ take level partners) (known_as a own used (take level partners) owns known c.0) (t m agrees) in
-      finds_same h r rule.guard (take level partners) (length rule.heads) (passed from gate (step_of rows a place (drop (level + 1) rule.heads) used level m head c) ++ []) [] None told told (ap (λ (l : List Joined). passed from gate l ++ []) e)
-      (finds_none h r rule.guard (take level partners) (length rule.heads) told small)
+      let e : step_of rows a place (drop (level + 1) rule.heads) used level m head c ≡ [] = left_out rows a place (drop (level + 1) rule.heads) used level m head c (own ∷ partners) (known_as a own used partners owns known c.0) (t m agrees) in
+      finds_same h r rule.guard partners (passed from gate (step_of rows a place (drop (level + 1) rule.heads) used level m head c) ++ []) [] None told told (ap (λ (l : List Joined). passed from gate l ++ []) e)
+      (finds_none h r rule.guard partners told small)
 
   -- a row that is taken
-  pub row_taken : (c : Row) (longer : List ℕ) (next : Match A) (result : Option (List ℕ)) (told now : ℕ) → take (level + 1) longer ≡ take level partners ++ c.0 ∷ [] → TakesAs true (own ∷ take level partners) head c matching next
+  pub row_taken : (c : Row) (longer : List ℕ) (next : Match A) (result : Option (List ℕ)) (told now : ℕ) → longer ≡ partners ++ c.0 ∷ [] → TakesAs true (own ∷ partners) head c matching next
       → JoinIs rows h r rule place own (level + 1) longer next from quiet (next_gate from gate c.0) result told now → WalkIs rows h r rule place own level partners matching from quiet gate head (c ∷ []) result told now
   row_taken c longer next result told now at t j a used m owns known agrees q =
       let hs : List Head = drop (level + 1) rule.heads in
-      let n : (n : Subst) × (has_number (own ∷ take level partners) c.0 ≡ false) × (fit_atom head c.1 m ≡ Some n) × AgreesWith next n = t m agrees in
+      let n : (n : Subst) × (has_number (own ∷ partners) c.0 ≡ false) × (fit_atom head c.1 m ≡ Some n) × AgreesWith next n = t m agrees in
       let further : List Joined = joined rows a place hs (c.0 ∷ used) (level + 1) n.0 in
-      let e : step_of rows a place hs used level m head c ≡ map (after_row c) further = step_fits rows a place hs used level m n.0 head c (known_as a own used (take level partners) owns known c.0 ∙ n.1) n.2 in
-      finds_same h r rule.guard (take level partners) (length rule.heads) (passed from gate (step_of rows a place hs used level m head c) ++ []) (map (after_row c) (passed from (next_gate from gate c.0) further)) result told now
+      let e : step_of rows a place hs used level m head c ≡ map (after_row c) further = step_fits rows a place hs used level m n.0 head c (known_as a own used partners owns known c.0 ∙ n.1) n.2 in
+      finds_same h r rule.guard partners (passed from gate (step_of rows a place hs used level m head c) ++ []) (map (after_row c) (passed from (next_gate from gate c.0) further)) result told now
       (append-nil (passed from gate (step_of rows a place hs used level m head c)) ∙ (ap (passed from gate) e ∙ passed-after from gate c further))
-      (finds_after h r rule.guard (take level partners) (length rule.heads) c (take (level + 1) longer) (passed from (next_gate from gate c.0) further) result told now at
-      (j a (c.0 ∷ used) n.0 owns (used_next used (take level partners) (take (level + 1) longer) c.0 at known) n.3 q))
+      (finds_after h r rule.guard partners c longer (passed from (next_gate from gate c.0) further) result told now at
+      (j a (c.0 ∷ used) n.0 owns (used_next used partners longer c.0 at known) n.3 q))

@@ -40,7 +40,7 @@ pub mod SearchParts
 pub mod Searchable
 pub mod ShownRows
 pub mod SnapshotGuest
-pub mod TableFired
+pub mod FiringNotes
 pub mod TableRows
 pub mod TableSame
 pub mod TableShown

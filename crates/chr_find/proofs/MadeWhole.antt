@@ -145,14 +145,14 @@ module _ {A : Type 0} (t : Table A) (whole : IsWhole t) (up : Ascends place_cmp 
   pub open_looked : (i : ℕ) → atom_of (walk Open t.noted.rows) i ≡ atom_in Open (positions_of t.noted.plan) (atom_at t i)
   open_looked i =
       walk_looked Open t.noted.rows i up
-      ∙ (ap (option_map row_atom) (sym (whole.settled.noted.rows (record { list = Open; id = record { 0 = i } })))
+      ∙ (ap (option_map row_atom) (sym (whole.settled.noted (record { list = Open; id = record { 0 = i } })))
       ∙ (t.shown (record { list = Open; id = record { 0 = i } }) ∙ ap (atom_in Open (positions_of t.noted.plan)) (sym (beside i))))
 
   pub all_rises : Rises (walk All t.noted.rows)
   all_rises = rises_walk All t.noted.rows up
 
   pub all_looked : (i : ℕ) → atom_of (walk All t.noted.rows) i ≡ atom_at t i
-  all_looked i = walk_looked All t.noted.rows i up ∙ (ap (option_map row_atom) (sym (whole.settled.noted.rows (record { list = All; id = record { 0 = i } }))) ∙ sym (beside i))
+  all_looked i = walk_looked All t.noted.rows i up ∙ (ap (option_map row_atom) (sym (whole.settled.noted (record { list = All; id = record { 0 = i } }))) ∙ sym (beside i))
 
   pub open_rows : (rows : List semantics.Row) → HasRows t rows → walk Open t.noted.rows ≡ rows_in_list Open (positions_of t.noted.plan) rows
   open_rows rows has = let shown = has_shown t rows whole.settled.noted has.rises (λ i. has.same i ∙ beside i) in walk_shown (positions_of t.noted.plan) Open t.noted.rows rows up shown.rises shown.shows

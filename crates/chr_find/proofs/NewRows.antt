@@ -17,7 +17,7 @@ use Rattle.chr_find.specs.contracts.list.ListOrd.TheImpl.{ghosts}
 use Rattle.chr_find.specs.declared.list.List.{List as Listing}
 use Rattle.chr_find.specs.declared.list.Place.{Place}
 use Rattle.chr_find.proofs.Gates.{old_id}
-use Rattle.chr_find.proofs.JoinEnds.{drop_at}
+use Rattle.chr_find.proofs.SearchParts.{drop_at}
 use Rattle.chr_find.proofs.WalkParts.{part_equal, part_passed, part_under}
 
 none_new : (from : ℕ) (rows : List semantics.Row) → AllUnder from rows → any_new from rows ≡ false

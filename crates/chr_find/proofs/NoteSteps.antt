@@ -1,16 +1,14 @@
--- What is noted of a table: rows and firings that are alike stay so.
+-- What is noted of a table: rows that are alike stay so.
 use Rattle.std.proofs.Common.{◌≡◌, ◌∙◌, Bool, true, false, cond, List, ap, refl}
 use Rattle.std.specs.Prelude.{Option}
 use Rattle.chr_store.specs.declared.row.Row.{Row}
-use Rattle.chr_find.specs.Firings.{same_firing}
-use Rattle.chr_find.specs.NoteView.{changed_at, fired_after, rows_after}
+use Rattle.chr_find.specs.NoteView.{changed_at, rows_after}
 use Rattle.chr_find.specs.Places.{AreKept, held, is_place, row_if}
 use Rattle.chr_find.specs.PlanView.{positions_of}
-use Rattle.chr_find.specs.declared.firings.Firing.{Firing}
 use Rattle.chr_find.specs.declared.list.Place.{Place}
 use Rattle.chr_find.specs.declared.lists.Change.{Change}
 use Rattle.chr_find.specs.declared.note.Note.{Note}
-use Rattle.chr_find.specs.declared.note.Note.TheVariants.{Changed, Entered, Replaced}
+use Rattle.chr_find.specs.declared.note.Note.TheVariants.{Changed, Replaced}
 use Rattle.chr_find.specs.declared.plan.Plan.{Plan}
 
 module _ {A : Type 0} where
@@ -20,12 +18,6 @@ module _ {A : Type 0} where
   pub rows_alike : (p : Plan A) (n : Note A) (f g : Place → Option (Row A)) (q : Place) → f q ≡ g q → rows_after p n f q ≡ rows_after p n g q
   rows_alike p (Changed c) f g q e = change_alike p c f g q e
   rows_alike p (Replaced c d) f g q e = change_alike p d (changed_at p c f) (changed_at p c g) q (change_alike p c f g q e)
-  rows_alike p (Entered x) f g q e = e
-
-  pub fired_alike : (n : Note A) (f g : Firing → Bool) (x : Firing) → f x ≡ g x → fired_after n f x ≡ fired_after n g x
-  fired_alike (Changed c) f g x e = e
-  fired_alike (Replaced c d) f g x e = e
-  fired_alike (Entered y) f g x e = ap (λ (b : Bool). cond (same_firing x y) true b) e
 
 replaced_at : {X : Type 0} (d c : Bool) (x r new mid old : X) → mid ≡ cond c r old → (d ≡ false → new ≡ mid) → cond d x (cond c r new) ≡ cond d x (cond c r old)
 replaced_at true c x r new mid old e h = refl

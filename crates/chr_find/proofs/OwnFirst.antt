@@ -18,24 +18,24 @@ use Rattle.chr_find.specs.Gate.{Gate, free, on, passed}
 use Rattle.chr_find.proofs.Barren.{joined_none}
 use Rattle.chr_find.proofs.FoundLists.{finds_none, finds_same}
 
-module _ (rows : List Row) (h : History) (r : ℕ) (rule : Rule) (place : ℕ) (own : Head) (a : Row) (n from : ℕ) where
+module _ (rows : List Row) (h : History) (r : ℕ) (rule : Rule) (place : ℕ) (own : Head) (a : Row) (from : ℕ) where
   -- after the match of the own head
-  pub own_found : (gate : Gate) (m : Subst) (result : Option (List ℕ)) (told now : ℕ) → fit_atom own.atom a.1 [] ≡ Some m → Finds h r rule.guard [] n (passed from gate (joined rows a place rule.heads [] 0 m)) result told now
-      → Finds h r rule.guard [] n (passed from gate (own_joined rows rule place own a)) result told now
+  pub own_found : (gate : Gate) (m : Subst) (result : Option (List ℕ)) (told now : ℕ) → fit_atom own.atom a.1 [] ≡ Some m → Finds h r rule.guard [] (passed from gate (joined rows a place rule.heads [] 0 m)) result told now
+      → Finds h r rule.guard [] (passed from gate (own_joined rows rule place own a)) result told now
   own_found gate m result told now fit f =
-      finds_same h r rule.guard [] n _ _ result told now (ap (λ (e : Option Subst). passed from gate (after_own (joined rows a place rule.heads [] 0) e)) fit) f
+      finds_same h r rule.guard [] _ _ result told now (ap (λ (e : Option Subst). passed from gate (after_own (joined rows a place rule.heads [] 0) e)) fit) f
 
   -- and where it does not match
-  pub own_apart : (gate : Gate) (told : ℕ) → told < 2 ^ 64 → fit_atom own.atom a.1 [] ≡ None → Finds h r rule.guard [] n (passed from gate (own_joined rows rule place own a)) None told told
+  pub own_apart : (gate : Gate) (told : ℕ) → told < 2 ^ 64 → fit_atom own.atom a.1 [] ≡ None → Finds h r rule.guard [] (passed from gate (own_joined rows rule place own a)) None told told
   own_apart gate told small fit =
-      finds_same h r rule.guard [] n _ [] None told told (ap (λ (e : Option Subst). passed from gate (after_own (joined rows a place rule.heads [] 0) e)) fit) (finds_none h r rule.guard [] n told small)
+      finds_same h r rule.guard [] _ [] None told told (ap (λ (e : Option Subst). passed from gate (after_own (joined rows a place rule.heads [] 0) e)) fit) (finds_none h r rule.guard [] told small)
 
   -- and where another head has no partner
   pub own_lacking : (gate : Gate) (m : Subst) (k : ℕ) (x : Head) (told : ℕ) → told < 2 ^ 64 → fit_atom own.atom a.1 [] ≡ Some m → slice_get rule.heads k ≡ Some x → (k == place) ≡ false → All (λ (c : Row). fit_atom x.atom c.1 m ≡ None) rows
-      → Finds h r rule.guard [] n (passed from gate (own_joined rows rule place own a)) None told told
+      → Finds h r rule.guard [] (passed from gate (own_joined rows rule place own a)) None told told
   own_lacking gate m k x told small fit at apart all =
       own_found gate m None told told fit
-      (finds_same h r rule.guard [] n _ [] None told told (ap (passed from gate) (joined_none rows a place rule.heads [] 0 m m k x at (ap (λ (i : ℕ). i == place) (zero-add k) ∙ apart) (Extends-itself m) all)) (finds_none h r rule.guard [] n told small))
+      (finds_same h r rule.guard [] _ [] None told told (ap (passed from gate) (joined_none rows a place rule.heads [] 0 m m k x at (ap (λ (i : ℕ). i == place) (zero-add k) ∙ apart) (Extends-itself m) all)) (finds_none h r rule.guard [] told small))
 
   all_pass : (ps : List Joined) → passed from free ps ≡ ps
   all_pass [] = refl
@@ -46,8 +46,8 @@ module _ (rows : List Row) (h : History) (r : ℕ) (rule : Rule) (place : ℕ) (
   in_ids (Some p) = refl
 
   -- where nothing is passed over it is the first tuple, and the tries are those of the definitions
-  pub free_first : (result : Option (List ℕ)) (told now : ℕ) → slice_get rule.heads place ≡ Some own → Finds h r rule.guard [] n (passed from free (own_joined rows rule place own a)) result told now
-      → IsFirst rows h r rule place a n result × (now ≡ capped (told + tried_tuples rows h r rule place a))
+  pub free_first : (result : Option (List ℕ)) (told now : ℕ) → slice_get rule.heads place ≡ Some own → Finds h r rule.guard [] (passed from free (own_joined rows rule place own a)) result told now
+      → IsFirst rows h r rule place a result × (now ≡ capped (told + tried_tuples rows h r rule place a))
   free_first result told now at f = (
     f.found ∙ (ap (λ (ps : List Joined). option_map (λ (p : Joined). ids_of p.0) (find (enters h r rule) ps)) (all_pass (own_joined rows rule place own a))
         ∙ (in_ids (find (enters h r rule) (own_joined rows rule place own a)) ∙ ap (option_map ids_of) (sym (join_law.all_rows rows h r rule place own a at)))),
@@ -56,7 +56,7 @@ module _ (rows : List Row) (h : History) (r : ℕ) (rule : Rule) (place : ℕ) (
 
   -- where the tuples that can fire lie ahead, going on finds the first one too
   pub next_first : (l : List ℕ) (result : Option (List ℕ)) (told now : ℕ) → slice_get rule.heads place ≡ Some own → IsSpent rows h r rule place a l from
-      → Finds h r rule.guard [] n (passed from (on l) (own_joined rows rule place own a)) result told now → IsFirst rows h r rule place a n result
+      → Finds h r rule.guard [] (passed from (on l) (own_joined rows rule place own a)) result told now → IsFirst rows h r rule place a result
   next_first l result told now at spent f =
       f.found ∙ (in_ids (find (enters h r rule) (passed from (on l) (own_joined rows rule place own a)))
       ∙ ap (option_map ids_of) (sym (gated_law.found (lies_ahead l from) rows h r rule place own a at) ∙ sym (cursor_law.next rows h r rule place a l from spent)))

@@ -20,10 +20,10 @@ use Rattle.chr_find.proofs.SearchParts.{found_so}
 
 module _ {P A : Type 0} (rows : List Row) (h : History) (s : Search P A) (x : Head) (own : Atom) (mode : Mode) where
   -- it is what the whole search finds
-  pub own_joins : (matching : Match A) (b d : Bool) (l : List ℕ) (told now : ℕ) → (m : Subst) × (fit_atom x.atom own [] ≡ Some m) × AgreesWith matching m → b ≡ d → IsQuiet rows (rule_view s.rule.now).heads s.place s.own s.from s.quiet
-      → JoinIs rows h s.number (rule_view s.rule.now) s.place s.own 0 [] matching s.from s.quiet (gate_of mode s.after.now) (if_found b l) told now
-      → Finds h s.number (rule_view s.rule.now).guard [] (length (rule_view s.rule.now).heads) (passed s.from (gate_of mode s.after.now) (own_joined rows (rule_view s.rule.now) s.place x (s.own, own))) (if_found d l) told now
+  pub own_joins : (matching : Match A) (b d : Bool) (l : List ℕ) (told now : ℕ) → (m : Subst) × (fit_atom x.atom own [] ≡ Some m) × AgreesWith matching m → b ≡ d → IsQuiet rows (rule_view s.rule.now).heads s.place s.own.0 s.from s.quiet
+      → JoinIs rows h s.number (rule_view s.rule.now) s.place s.own.0 0 [] matching s.from s.quiet (gate_of mode s.after.now) (if_found b l) told now
+      → Finds h s.number (rule_view s.rule.now).guard [] (passed s.from (gate_of mode s.after.now) (own_joined rows (rule_view s.rule.now) s.place x (s.own.0, own))) (if_found d l) told now
   own_joins matching b d l told now m known quiet join =
-      own_found rows h s.number (rule_view s.rule.now) s.place x (s.own, own) (length (rule_view s.rule.now).heads) s.from (gate_of mode s.after.now) m.0 (if_found d l) told now m.1
-      (found_so b d known l (λ (found : Option (List ℕ)). Finds h s.number (rule_view s.rule.now).guard [] (length (rule_view s.rule.now).heads) (passed s.from (gate_of mode s.after.now) (joined rows (s.own, own) s.place (rule_view s.rule.now).heads [] 0 m.0)) found told now)
-      (join (s.own, own) [] m.0 refl (λ i. refl) m.2 quiet))
+      own_found rows h s.number (rule_view s.rule.now) s.place x (s.own.0, own) s.from (gate_of mode s.after.now) m.0 (if_found d l) told now m.1
+      (found_so b d known l (λ (found : Option (List ℕ)). Finds h s.number (rule_view s.rule.now).guard [] (passed s.from (gate_of mode s.after.now) (joined rows (s.own.0, own) s.place (rule_view s.rule.now).heads [] 0 m.0)) found told now)
+      (join (s.own.0, own) [] m.0 refl (λ i. refl) m.2 quiet))

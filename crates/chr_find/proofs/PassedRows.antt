@@ -56,8 +56,8 @@ module _ {A : Type 0} (rows : List Row) (h : History) (r : ℕ) (rule : Rule) (p
   -- rows under the bound give nothing, where no row of a later head is new
   pub rows_passed : (xs : List Row) (least told : ℕ) → told < 2 ^ 64 → AllUnder least xs → least ≤ gate_bound from gate → (0 < least → quiet < level + 2) → WalkIs rows h r rule place own level partners matching from quiet gate head xs None told told
   rows_passed xs least told small under bound late a used m owns known agrees q =
-      finds_same h r rule.guard (take level partners) (length rule.heads) (flat_map (λ (c : Row). passed from gate (step_of rows a place (drop (level + 1) rule.heads) used level m head c)) xs) [] None told told (none xs under)
-      (finds_none h r rule.guard (take level partners) (length rule.heads) told small)
+      finds_same h r rule.guard partners (flat_map (λ (c : Row). passed from gate (step_of rows a place (drop (level + 1) rule.heads) used level m head c)) xs) [] None told told (none xs under)
+      (finds_none h r rule.guard partners told small)
     where
       none : (ys : List Row) → AllUnder least ys → flat_map (λ (c : Row). passed from gate (step_of rows a place (drop (level + 1) rule.heads) used level m head c)) ys ≡ []
       none [] u = refl

@@ -1,4 +1,4 @@
--- Histories that agree on the short lists of identities of the rows: a search comes to the same with either.
+-- Histories that agree on the identities of the rows: a search comes to the same with either.
 use Rattle.std.proofs.Common.{◌≡◌, ◌∙◌, ◌<◌, ◌≤◌, ◌+◌, ℕ, zero, suc, Bool, true, false, not, cond, ◌&&◌, List, [], ◌∷◌, ap, refl, sym, subst, arith, length, ◌⊎◌, inl, inr, Option, Some}
 use Rattle.std.specs.List.{list_all}
 use Rattle.std.specs.Prelude.{Contains, filter, find, option_map}
@@ -12,7 +12,6 @@ use Rattle.chr_semantics.specs.Program.{Rule}
 use Rattle.chr_semantics.specs.Search.{History, IsTuple, can_fire, fired_before, first_tuple, ids_of, passes_guard, tuples}
 use Rattle.chr_semantics.specs.Tries.{capped, fits_some, tried, tried_tuples}
 use Rattle.chr_find.specs.First.{IsFirst}
-use Rattle.chr_find.specs.Firings.{fits as is_short}
 use Rattle.chr_semantics.proofs.DeadEntriesLaw.{AllRows, tuples_all}
 use Rattle.chr_semantics.proofs.Lists.{contains_cases}
 use Rattle.chr_semantics.proofs.TuplesLaw.{tuples_law}
@@ -50,24 +49,15 @@ rows_contained test (x ∷ ts) t h c = by_case (rows_contained test ts t h.1) (c
     by_case go (inl e) = subst (λ (l : List Row). list_all test l ≡ true) e h.0
     by_case go (inr d) = go d
 
-module _ (rows : List Row) (h k : History) (r : ℕ) (rule : Rule) (place : ℕ) (a : Row) (live : ℕ → Bool) (few : length rule.heads ≤ 8) (own : live a.0 ≡ true) (all : list_all (λ (c : Row). live c.0) rows ≡ true)
-    (same : (ids : List ℕ) → is_short ids ≡ true → list_all live ids ≡ true → fired_before h r ids ≡ fired_before k r ids) where
+module _ (rows : List Row) (h k : History) (r : ℕ) (rule : Rule) (place : ℕ) (a : Row) (live : ℕ → Bool) (own : live a.0 ≡ true) (all : list_all (λ (c : Row). live c.0) rows ≡ true)
+    (same : (ids : List ℕ) → list_all live ids ≡ true → fired_before h r ids ≡ fired_before k r ids) where
   all_live : AllRows (λ (c : Row). live c.0) (tuples rows rule place a)
   all_live = tuples_all (λ (c : Row). live c.0) rows a place (length rule.heads) [] 0 own all
-
-  -- a tuple has one row for each head
-  short : (t : List Row) → Contains (tuples rows rule place a) t → is_short (ids_of t) ≡ true
-  short t c =
-      let tuple = All-contains (IsTuple rows rule place a) (tuples rows rule place a) t (tuples_law.are_tuples rows rule place a) c in
-      let counted : length (ids_of t) ≡ length t = length-map t (λ (x : Row). x.0) in
-      let one_each : length t ≡ length rule.heads = tuple.one_each in
-      let lt : length (ids_of t) < 9 = omega (arith, counted, one_each, few) in
-      (Decides-ltb (length (ids_of t)) 9).1 lt
 
   can_alike : (t : List Row) → Contains (tuples rows rule place a) t → can_fire h r rule t ≡ can_fire k r rule t
   can_alike t c =
       ap (λ (b : Bool). passes_guard rule (fits rule.heads t) && not b)
-      (same (ids_of t) (short t c) (ids_live live t (rows_contained (λ (d : Row). live d.0) (tuples rows rule place a) t all_live c)))
+      (same (ids_of t) (ids_live live t (rows_contained (λ (d : Row). live d.0) (tuples rows rule place a) t all_live c)))
 
   pub first_alike : first_tuple rows h r rule place a ≡ first_tuple rows k r rule place a
   first_alike = find_alike (can_fire h r rule) (can_fire k r rule) (tuples rows rule place a) can_alike
@@ -79,8 +69,8 @@ module _ (rows : List Row) (h k : History) (r : ℕ) (rule : Rule) (place : ℕ)
   spent_alike l from spent t c e = spent t c (can_alike t c ∙ e)
 
   -- what is found with the one is found with the other
-  pub first_too : (n : ℕ) (result : Option (List ℕ)) → IsFirst rows k r rule place a n result → IsFirst rows h r rule place a n result
-  first_too n result e = e ∙ ap (option_map ids_of) (sym first_alike)
+  pub first_too : (result : Option (List ℕ)) → IsFirst rows k r rule place a result → IsFirst rows h r rule place a result
+  first_too result e = e ∙ ap (option_map ids_of) (sym first_alike)
 
   pub tried_too : (told now : ℕ) → now ≡ capped (told + tried_tuples rows k r rule place a) → now ≡ capped (told + tried_tuples rows h r rule place a)
   tried_too told now e = e ∙ ap (λ (m : ℕ). capped (told + m)) (sym tried_alike)

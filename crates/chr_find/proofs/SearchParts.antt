@@ -1,5 +1,5 @@
 -- What the parts of a search answer.
-use Rattle.std.proofs.Common.{◌≡◌, Bool, ℕ, ◌+◌, ◌-◌, ◌*◌, ◌∙◌, ◌<◌, ◌≤◌, List, [], ◌∷◌, ◌++◌, Option, Some, length, drop, ap, refl, subst, arith, zero, suc}
+use Rattle.std.proofs.Common.{◌≡◌, Bool, ℕ, ◌+◌, ◌-◌, ◌*◌, ◌∙◌, ◌<◌, ◌≤◌, List, [], ◌∷◌, ◌++◌, Option, Some, None, add-one, length, drop, ap, refl, subst, arith, zero, suc}
 use Rattle.std.proofs.Math.Nat.{add-mul}
 use Rattle.std.proofs.lemmas.List.{length-append}
 use Rattle.std.specs.Prelude.{IfOk, Result, Ok, Err, slice_get}
@@ -21,6 +21,21 @@ ok_more P Q (Err e) f h = h
 pub found_so : (b d : Bool) → b ≡ d → (l : List ℕ) (P : Option (List ℕ) → Type 0) → P (if_found b l) → P (if_found d l)
 found_so b d e l P h = subst (λ (x : Bool). P (if_found x l)) e h
 
+drop_one : {X : Type 0} (k : ℕ) (x : X) (xs : List X) → drop (k + 1) xs ≡ drop (suc k + 1) (x ∷ xs)
+drop_one k x xs = rw (add-one, add-one) refl
+
+-- what is left of a list from an element on, and behind the last
+pub drop_at : {X : Type 0} (xs : List X) (k : ℕ) (x : X) → slice_get xs k ≡ Some x → drop k xs ≡ x ∷ drop (k + 1) xs
+drop_at [] k x e = cc
+drop_at {X} (y ∷ xs) zero x e = let same : y ≡ x = cc in ap (λ (z : X). z ∷ xs) same
+drop_at {X} (y ∷ xs) (suc k) x e = drop_at xs k x e ∙ ap (λ (l : List X). x ∷ l) (drop_one k y xs)
+
+pub drop_behind : {X : Type 0} (xs : List X) (k : ℕ) → slice_get xs k ≡ None → drop k xs ≡ []
+drop_behind [] zero e = refl
+drop_behind [] (suc k) e = refl
+drop_behind (y ∷ xs) zero e = cc
+drop_behind (y ∷ xs) (suc k) e = drop_behind xs k e
+
 -- there is a head at a level that is not the last
 pub head_there : (heads : List Head) (k : ℕ) → k < length heads → (x : Head) × (slice_get heads k ≡ Some x)
 head_there [] k lt = absurd (omega (arith, lt))
@@ -33,6 +48,9 @@ pub join_longer : {A : Type 0} (rows : List Row) (h : History) (r : ℕ) (rule :
 join_longer rows h r rule place own level longer_level longer next from quiet mode after gate result told now e g j =
     subst (λ (x : Gate). JoinIs rows h r rule place own (level + 1) longer next from quiet x result told now) g
     (subst (λ (k : ℕ). JoinIs rows h r rule place own k longer next from quiet (gate_of mode (drop k after)) result told now) e j)
+
+pub longer_length : (partners longer : List ℕ) (c : ℕ) → longer ≡ partners ++ c ∷ [] → length longer ≡ length partners + 1
+longer_length partners longer c is = ap length is ∙ length-append partners (c ∷ [])
 
 -- The measure falls where all entries are visited for a level, and where those after a middle are.
 pub level_less : (h l r n : ℕ) → l < h → n ≤ r → (h - l - 1) * (r + 4) + n + 3 < (h - l) * (r + 4)

@@ -81,7 +81,7 @@ module _ {A : Type 0} (n m : Noted A) where
 
   -- the same entries, where all changes are made
   pub rows_shared : (es : List (Place × Row A)) → ((q : Place) → row_at n q ≡ held es q) → es ≡ m.rows → IsSettled m → (q : Place) → row_at n q ≡ row_at m q
-  rows_shared es rows same settled q = rows q ∙ (ap (λ (fs : List (Place × Row A)). held fs q) same ∙ sym (settled.rows q))
+  rows_shared es rows same settled q = rows q ∙ (ap (λ (fs : List (Place × Row A)). held fs q) same ∙ sym (settled q))
 
 module _ {A : Type 0} (n : Noted A) (rows : (q : Place) → row_at n q ≡ None) where
   -- no constraint

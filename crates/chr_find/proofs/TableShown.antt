@@ -20,7 +20,7 @@ module _ {A : Type 0} where
   pub has_shown : (t : Table A) (rows : List semantics.Row) → IsSettled t.noted → Rises rows → ((i : ℕ) → atom_of rows i ≡ noted_atom t.noted i) → IsShown (positions_of t.noted.plan) t.noted.rows rows
   has_shown t rows settled up same = record {
     rises = up;
-    shows = λ q. ap (option_map row_atom) (sym (settled.rows q)) ∙ (t.shown q ∙ ap (atom_in q.list (positions_of t.noted.plan)) (sym (same q.id.0)));
+    shows = λ q. ap (option_map row_atom) (sym (settled q)) ∙ (t.shown q ∙ ap (atom_in q.list (positions_of t.noted.plan)) (sym (same q.id.0)));
   }
 
   -- for a constraint that it is ready for, they show rows that have the same join as all its constraints

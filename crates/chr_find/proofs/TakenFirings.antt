@@ -1,5 +1,6 @@
 -- The entries of a history that are taken, one after the other.
 use Rattle.std.proofs.Common.{◌≡◌, ◌∙◌, ◌==◌, ◌&&◌, ◌||◌, ℕ, Bool, true, false, cond, List, [], ◌∷◌, ◌++◌, ap, refl, sym}
+use Rattle.std.proofs.lemmas.Bool.{and_parts}
 use Rattle.std.proofs.lemmas.Bool.Decides.{Decides-like, same_from_decides}
 use Rattle.std.proofs.lemmas.List.Elements.{filter-append}
 use Rattle.std.specs.List.{list_all, list_any}
@@ -45,6 +46,30 @@ same_turned xs ys = same_from_decides _ _ (same_ids_Decides xs ys) (Decides-like
 none_more : (b : Bool) → (b || false) ≡ b
 none_more true = refl
 none_more false = refl
+
+pub all_kept : {X : Type 0} (p : X → Bool) (xs : List X) → ((x : X) → p x ≡ true) → filter p xs ≡ xs
+all_kept p [] h = refl
+all_kept {X = X} p (x ∷ xs) h = ap (λ (b : Bool). cond b (x ∷ filter p xs) (filter p xs)) (h x) ∙ ap (λ (l : List X). x ∷ l) (all_kept p xs h)
+
+and_no : (b c : Bool) → c ≡ false → (b && c) ≡ false
+and_no true c h = h
+and_no false c h = refl
+
+-- an entry is among the living ones where its identities all live
+pub fired_live : (rs : List semantics.Row) (h : History) (r : ℕ) (ids : List ℕ) → fired_before (live_entries rs h) r ids ≡ (fired_before h r ids && list_all (has_number (ids_of rs)) ids)
+fired_live rs [] r ids = refl
+fired_live rs (f ∷ h) r ids = by (list_all (has_number (ids_of rs)) f.1) (f.0 == r && same_ids f.1 ids) refl refl (fired_live rs h r ids)
+  where
+    alike : (f.0 == r && same_ids f.1 ids) ≡ true → list_all (has_number (ids_of rs)) f.1 ≡ list_all (has_number (ids_of rs)) ids
+    alike e = ap (list_all (has_number (ids_of rs))) ((same_ids_Decides f.1 ids).0 (and_parts (f.0 == r) (same_ids f.1 ids) e).1)
+
+    by : (a t : Bool) → list_all (has_number (ids_of rs)) f.1 ≡ a → (f.0 == r && same_ids f.1 ids) ≡ t
+        → fired_before (live_entries rs h) r ids ≡ (fired_before h r ids && list_all (has_number (ids_of rs)) ids)
+        → fired_before (cond a (f ∷ live_entries rs h) (live_entries rs h)) r ids ≡ ((t || fired_before h r ids) && list_all (has_number (ids_of rs)) ids)
+    by true true ea et go = ap (λ (b : Bool). b || fired_before (live_entries rs h) r ids) et ∙ sym (sym (alike et) ∙ ea)
+    by true false ea et go = ap (λ (b : Bool). b || fired_before (live_entries rs h) r ids) et ∙ go
+    by false true ea et go = let none = sym (alike et) ∙ ea in go ∙ and_no (fired_before h r ids) _ none ∙ sym none
+    by false false ea et go = go
 
 module _ {A : Type 0} (scope : Scope A) (rows : List semantics.Row) where
   one_entry : (f : ℕ × List ℕ) (r : ℕ) (ids : List ℕ) → fired_before (entries_kept scope rows (f ∷ [])) r ids ≡ (takes scope rows f && (r == f.0 && same_ids ids f.1))

@@ -18,21 +18,18 @@ use Rattle.chr_store.specs.StoreView.{store_view}
 use Rattle.chr_store.specs.declared.history.History.{History}
 use Rattle.chr_store.specs.declared.store.Store.{Store}
 use Rattle.chr_store.proofs.SlotRows.{Ascends-rows}
-use Rattle.chr_find.specs.Firings.{fits}
+use Rattle.chr_find.specs.Firings.{fired_in}
 use Rattle.chr_find.specs.ScopeView.{IsScope, entries_kept, keeps_row, keeps_rule, rows_kept, rows_under}
 use Rattle.chr_find.specs.Shown.{Rises}
 use Rattle.chr_find.specs.SnapshotView.{IsTaken}
-use Rattle.chr_find.specs.TableView.{atom_at, fired_at}
-use Rattle.chr_find.specs.Taking.{IsStateOf, IsTakenOf}
+use Rattle.chr_find.specs.TableView.{atom_at}
+use Rattle.chr_find.specs.Taking.{AreTakenOf, IsStateOf, IsTakenOf}
+use Rattle.chr_find.specs.declared.firings.Firings.{Firings}
 use Rattle.chr_find.specs.declared.scope.Scope.{Scope}
 use Rattle.chr_find.specs.declared.scope.Scope.TheVariants.{Nothing, Rule, Whole}
 use Rattle.chr_find.specs.declared.table.Table.{Table}
-use Rattle.chr_find.proofs.TakenFirings.{ids_under}
+use Rattle.chr_find.proofs.TakenFirings.{all_kept, ids_under}
 use Rattle.chr_find.proofs.TakenRows.{kept_ascends, none_past, rises}
-
-all_kept : {X : Type 0} (p : X → Bool) (xs : List X) → ((x : X) → p x ≡ true) → filter p xs ≡ xs
-all_kept p [] h = refl
-all_kept {X = X} p (x ∷ xs) h = ap (λ (b : Bool). cond b (x ∷ filter p xs) (filter p xs)) (h x) ∙ ap (λ (l : List X). x ∷ l) (all_kept p xs h)
 
 none_kept : {X : Type 0} (xs : List X) → filter (λ (x : X). false) xs ≡ []
 none_kept [] = refl
@@ -47,23 +44,23 @@ module _ {A : Type 0} (st : Store A) (m : Subst) (h : History A) where
       let n : 1 + length st.slots.items.items ≡ length st.slots.items.items + 1 = omega arith in
       subst (Ascends 1 stored) n (Ascends-rows 1 st.slots.items.items)
 
-  module _ (scope : Scope A) (t : Table A) (is : IsTakenOf scope m (store_view st).rows (entries_view h).list t) where
+  module _ (scope : Scope A) (t : Table A) (is : IsTakenOf scope m (store_view st).rows t) where
     -- the next identity is free, and all after it
     pub taken_free : (i : ℕ) → (store_view st).next_id ≤ i → atom_at t i ≡ None
     taken_free i le = is.atoms i ∙ none_past 1 ((store_view st).next_id) i (rows_kept scope m stored) (kept_ascends scope m 1 ((store_view st).next_id) stored ascending) le
 
-    -- it has the firings that are kept, and no others
-    pub taken_firings : (l : Entries) → l ≡ entries_kept scope stored (entries_view h).list → (r : ℕ) (ids : List ℕ) → fits ids ≡ true → fired_before l r ids ≡ fired_at t r ids
-    taken_firings l entries r ids short = ap (λ (l : Entries). fired_before l r ids) entries ∙ sym (is.fired r ids short)
+    -- the firings that are kept, and no others
+    pub taken_firings : (f : Firings A) → AreTakenOf scope stored (entries_view h).list f → (l : Entries) → l ≡ entries_kept scope stored (entries_view h).list → (r : ℕ) (ids : List ℕ) → fired_before l r ids ≡ fired_in f r ids
+    taken_firings f are l entries r ids = ap (λ (l : Entries). fired_before l r ids) entries ∙ sym (are r ids)
 
     -- it shows each snapshot of what is kept
-    pub taken_is : (n : ℕ) (ts : List Task) (g : Option Atom) (q : snapshots.Snapshot) → q.rows ≡ rows_kept scope m stored → q.history ≡ entries_kept scope stored (entries_view h).list → q.next_id ≡ n → q.tasks ≡ ts → q.guest ≡ g → IsTaken t n ts g q
-    taken_is n ts g q same entries next tasks guest = record {
+    pub taken_is : (f : Firings A) → AreTakenOf scope stored (entries_view h).list f → (n : ℕ) (ts : List Task) (g : Option Atom) (q : snapshots.Snapshot) → q.rows ≡ rows_kept scope m stored → q.history ≡ entries_kept scope stored (entries_view h).list → q.next_id ≡ n → q.tasks ≡ ts → q.guest ≡ g → IsTaken t (fired_in f) n ts g q
+    taken_is f are n ts g q same entries next tasks guest = record {
       rows = record {
         rises = subst Rises (sym same) (rises 1 ((store_view st).next_id) (rows_kept scope m stored) (kept_ascends scope m 1 ((store_view st).next_id) stored ascending));
         same = λ i. ap (λ (l : List semantics.Row). atom_of l i) same ∙ sym (is.atoms i);
       };
-      history = λ r ids short alive. taken_firings q.history entries r ids short;
+      history = λ r ids alive. taken_firings f are q.history entries r ids;
       next = next;
       tasks = tasks;
       guest = guest;

@@ -1,5 +1,5 @@
 -- What a search finds among the rows of a part that are in a list: before its middle, there, and after it.
-use Rattle.std.proofs.Common.{◌≡◌, ◌^◌, ◌<◌, ◌≤◌, ◌+◌, ℕ, Bool, true, false, List, [], ◌∷◌, ◌++◌, Option, Some, None, ap, refl, subst, sym}
+use Rattle.std.proofs.Common.{◌≡◌, ◌^◌, ◌<◌, ◌≤◌, ◌+◌, ℕ, Bool, true, false, List, [], ◌∷◌, ◌++◌, Option, Some, None, ap, length, refl, subst, sym}
 use Rattle.std.specs.declared.cmp.Ordering.TheVariants.{Equal}
 use Rattle.chr_map.specs.Order.{Ascends}
 use Rattle.chr_bind.specs.Matching.{IsSame}
@@ -27,19 +27,19 @@ module _ {P A : Type 0} (h : History) (s : Search P A) (p : Prefix) where
   pub finds_nothing : (old : Match A) (walked : List semantics.Row) (told : ℕ) → walked ≡ [] → told < 2 ^ 64 → WalkFinds h s p old walked None told told
   finds_nothing old walked told is small =
       subst (λ (cs : List semantics.Row). WalkFinds h s p old cs None told told) (sym is)
-      (λ x at rows shown. walk_none rows h s.number (rule_view s.rule.now) s.place s.own p.level p.partners old s.from s.quiet (gate_at h s p) x.atom told small)
+      (λ x at rows shown. walk_none rows h s.number (rule_view s.rule.now) s.place s.own.0 (length p.partners) p.partners old s.from s.quiet (gate_at h s p) x.atom told small)
 
   -- what is found among the first rows is found
   finds_first : (old : Match A) (walked xs ys : List semantics.Row) (b : Bool) (l : List ℕ) (told now : ℕ) → walked ≡ xs ++ ys → b ≡ true → WalkFinds h s p old xs (if_found b l) told now → WalkFinds h s p old walked (Some l) told now
   finds_first old walked xs ys b l told now is found w x at rows shown =
-      walk_found rows h s.number (rule_view s.rule.now) s.place s.own p.level p.partners old s.from s.quiet (gate_at h s p) x.atom walked xs ys b l told now is found (w x at rows shown)
+      walk_found rows h s.number (rule_view s.rule.now) s.place s.own.0 (length p.partners) p.partners old s.from s.quiet (gate_at h s p) x.atom walked xs ys b l told now is found (w x at rows shown)
 
   -- where nothing is found among them, it is what is found among those after them
   finds_second : (old next : Match A) (walked xs ys : List semantics.Row) (b : Bool) (l : List ℕ) (result : Option (List ℕ)) (told mid now : ℕ) → walked ≡ xs ++ ys → b ≡ false → WalkFinds h s p old xs (if_found b l) told mid → IsSame old next → WalkFinds h s p next ys result mid now
       → WalkFinds h s p old walked result told now
   finds_second old next walked xs ys b l result told mid now is none v same w x at rows shown =
-      walk_on rows h s.number (rule_view s.rule.now) s.place s.own p.level p.partners old s.from s.quiet (gate_at h s p) x.atom walked xs ys b l result told mid now is none (v x at rows shown)
-      (walk_same rows h s.number (rule_view s.rule.now) s.place s.own p.level p.partners next s.from s.quiet (gate_at h s p) x.atom old ys result mid now same (w x at rows shown))
+      walk_on rows h s.number (rule_view s.rule.now) s.place s.own.0 (length p.partners) p.partners old s.from s.quiet (gate_at h s p) x.atom walked xs ys b l result told mid now is none (v x at rows shown)
+      (walk_same rows h s.number (rule_view s.rule.now) s.place s.own.0 (length p.partners) p.partners next s.from s.quiet (gate_at h s p) x.atom old ys result mid now same (w x at rows shown))
 
   module _ (list : Listing) (part before : List (Place × Row A)) (m : Place × Row A) (after : List (Place × Row A)) (parts : part ≡ before ++ m ∷ after) (equal : ghosts.cmp list m.0.list ≡ Equal) where
     -- found before the middle
@@ -65,10 +65,10 @@ module _ {P A : Type 0} (h : History) (s : Search P A) (p : Prefix) where
         (finds_second next last (one ++ walk list after) one (walk list after) d l result mid late now refl neither there still u)
 
     -- after it, where all rows up to it may be passed over
-    pub found_past : (old : Match A) (least : ℕ) (result : Option (List ℕ)) (told now : ℕ) → Ascends place_cmp part → m.0.id.0 < least → told < 2 ^ 64 → least ≤ gate_bound s.from (gate_at h s p) → (0 < least → s.quiet < p.level + 2) → WalkFinds h s p old (walk list after) result told now
+    pub found_past : (old : Match A) (least : ℕ) (result : Option (List ℕ)) (told now : ℕ) → Ascends place_cmp part → m.0.id.0 < least → told < 2 ^ 64 → least ≤ gate_bound s.from (gate_at h s p) → (0 < least → s.quiet < (length p.partners) + 2) → WalkFinds h s p old (walk list after) result told now
         → WalkFinds h s p old (walk list part) result told now
     found_past old least result told now up lt small bound late w =
         let passed : List semantics.Row = walk list before ++ (m.0.id.0, row_atom m.1) ∷ [] in
         finds_second old old (walk list part) passed (walk list after) false [] result told told now (part_passed list part before m after parts equal) refl
-        (λ x at rows shown. rows_passed rows h s.number (rule_view s.rule.now) s.place s.own p.level p.partners old s.from s.quiet (gate_at h s p) x.atom passed least told small (part_under list part before m after least parts up equal lt) bound late)
+        (λ x at rows shown. rows_passed rows h s.number (rule_view s.rule.now) s.place s.own.0 (length p.partners) p.partners old s.from s.quiet (gate_at h s p) x.atom passed least told small (part_under list part before m after least parts up equal lt) bound late)
         (λ y. refl) w

@@ -1,5 +1,5 @@
 -- What the join finds for the heads from a level on.
-use Rattle.std.specs.Prelude.{◌≡◌, ◌<◌, ℕ, ◌+◌, true, false, ◌==◌, List, [], ◌∷◌, Option, flat_map, length, take, drop}
+use Rattle.std.specs.Prelude.{◌≡◌, ◌<◌, ℕ, ◌+◌, true, false, ◌==◌, List, [], ◌∷◌, Option, flat_map, drop}
 use Rattle.chr_bind.specs.Matching.{AgreesWith}
 use Rattle.chr_bind.specs.declared.matching.Match.{Match}
 use Rattle.chr_semantics.specs.Cursor.{is_new}
@@ -37,17 +37,17 @@ IsQuiet rows heads place own from quiet = (k : ℕ) → quiet < k + 1 → QuietF
 -- For each match that agrees with the code's, whose partners so far are the prefix, that is what lies behind them.
 abbrev pub ForMatches : {A : Type 0} → List Row → Rule → ℕ → ℕ → ℕ → List ℕ → Match A → ℕ → ℕ → (Row → List ℕ → Subst → Type 0) → Type 0
 ForMatches rows rule place own level partners matching from quiet P =
-    (a : Row) (used : List ℕ) (m : Subst) → a.0 ≡ own → ((c : ℕ) → has_number used c ≡ has_number (take level partners) c) → AgreesWith matching m → IsQuiet rows rule.heads place own from quiet → P a used m
+    (a : Row) (used : List ℕ) (m : Subst) → a.0 ≡ own → ((c : ℕ) → has_number used c ≡ has_number partners c) → AgreesWith matching m → IsQuiet rows rule.heads place own from quiet → P a used m
 
 -- The partners so far are the prefix, and the list is what the join finds behind it.
 abbrev pub JoinIs : {A : Type 0} → List Row → History → ℕ → Rule → ℕ → ℕ → ℕ → List ℕ → Match A → ℕ → ℕ → Gate → Option (List ℕ) → ℕ → ℕ → Type 0
 JoinIs rows h r rule place own level partners matching from quiet gate result told now =
     ForMatches rows rule place own level partners matching from quiet
-    (λ a used m. Finds h r rule.guard (take level partners) (length rule.heads) (passed from gate (joined rows a place (drop level rule.heads) used level m)) result told now)
+    (λ a used m. Finds h r rule.guard partners (passed from gate (joined rows a place (drop level rule.heads) used level m)) result told now)
 
 -- the same among the rows of a walk, for a head
 abbrev pub WalkIs : {A : Type 0} → List Row → History → ℕ → Rule → ℕ → ℕ → ℕ → List ℕ → Match A → ℕ → ℕ → Gate → Atom → List Row → Option (List ℕ) → ℕ → ℕ → Type 0
 WalkIs rows h r rule place own level partners matching from quiet gate head walked result told now =
     ForMatches rows rule place own level partners matching from quiet
-    (λ a used m. Finds h r rule.guard (take level partners) (length rule.heads)
+    (λ a used m. Finds h r rule.guard partners
     (flat_map (λ (c : Row). passed from gate (step_of rows a place (drop (level + 1) rule.heads) used level m head c)) walked) result told now)

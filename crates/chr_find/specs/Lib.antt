@@ -2,7 +2,6 @@ pub mod AnswerView
 pub mod AtomCode
 pub mod Barren
 pub mod Enough
-pub mod FewView
 pub mod Finding
 pub mod Finds
 pub mod Firings
@@ -14,6 +13,8 @@ pub mod ModeView
 pub mod Newest
 pub mod NoteView
 pub mod NotedView
+pub mod NotedFiringsView
+pub mod Past
 pub mod Places
 pub mod PlanView
 pub mod Rebinding
@@ -22,7 +23,6 @@ pub mod RootView
 pub mod ScopeView
 pub mod SearchIs
 pub mod SearchView
-pub mod SearchedView
 pub mod Shown
 pub mod SnapshotView
 pub mod TableView

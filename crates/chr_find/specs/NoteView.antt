@@ -1,14 +1,12 @@
 -- What stands in a table after what is noted.
-use Rattle.std.specs.Prelude.{Bool, true, cond, Option}
+use Rattle.std.specs.Prelude.{cond, Option}
 use Rattle.chr_store.specs.declared.row.Row.{Row}
-use Rattle.chr_find.specs.Firings.{same_firing}
 use Rattle.chr_find.specs.Places.{is_place, row_if}
 use Rattle.chr_find.specs.PlanView.{positions_of}
-use Rattle.chr_find.specs.declared.firings.Firing.{Firing}
 use Rattle.chr_find.specs.declared.list.Place.{Place}
 use Rattle.chr_find.specs.declared.lists.Change.{Change}
 use Rattle.chr_find.specs.declared.note.Note.{Note}
-use Rattle.chr_find.specs.declared.note.Note.TheVariants.{Changed, Entered, Replaced}
+use Rattle.chr_find.specs.declared.note.Note.TheVariants.{Changed, Replaced}
 use Rattle.chr_find.specs.declared.plan.Plan.{Plan}
 
 module _ {A : Type 0} where
@@ -20,10 +18,3 @@ module _ {A : Type 0} where
   abbrev pub rows_after : Plan A → Note A → (Place → Option (Row A)) → Place → Option (Row A)
   rows_after p (Changed c) f q = changed_at p c f q
   rows_after p (Replaced c d) f q = changed_at p d (changed_at p c f) q
-  rows_after p (Entered x) f q = f q
-
-  -- the firings after what is noted
-  abbrev pub fired_after : Note A → (Firing → Bool) → Firing → Bool
-  fired_after (Changed c) f x = f x
-  fired_after (Replaced c d) f x = f x
-  fired_after (Entered g) f x = cond (same_firing x g) true (f x)

@@ -1,15 +1,13 @@
 -- What stands in a table, as when all that is noted is made.
-use Rattle.std.specs.Prelude.{◌≡◌, ◌+◌, ◌≤◌, ℕ, Bool, Option, option_map, drop, vec_capacity, vec_len}
+use Rattle.std.specs.Prelude.{◌≡◌, ◌+◌, ◌≤◌, ℕ, Option, option_map, drop, vec_capacity, vec_len}
 use Rattle.chr_keys.specs.Notes.{after_all}
 use Rattle.chr_semantics.specs.Program.{Atom}
 use Rattle.chr_store.specs.Rows.{row_atom}
 use Rattle.chr_store.specs.declared.row.Row.{Row}
-use Rattle.chr_find.specs.Firings.{is_in}
-use Rattle.chr_find.specs.NoteView.{fired_after, rows_after}
+use Rattle.chr_find.specs.NoteView.{rows_after}
 use Rattle.chr_find.specs.Places.{held}
 use Rattle.chr_find.specs.PlanView.{positions_of}
 use Rattle.chr_find.specs.Shown.{Shows}
-use Rattle.chr_find.specs.declared.firings.Firing.{Firing}
 use Rattle.chr_find.specs.declared.list.List.TheVariants.{All}
 use Rattle.chr_find.specs.declared.list.Place.{Place}
 use Rattle.chr_find.specs.declared.noted.Noted.{Noted}
@@ -19,14 +17,9 @@ module _ {A : Type 0} where
   abbrev pub row_at : Noted A → Place → Option (Row A)
   row_at n q = after_all (rows_after n.plan) (drop n.made n.notes.items) (held n.rows) q
 
-  -- the firing is there
-  abbrev pub fired_in : Noted A → Firing → Bool
-  fired_in n x = after_all fired_after (drop n.made n.notes.items) (is_in n.fired.all) x
-
   -- all is made
-  pub record IsSettled (n : Noted A) : Type 0 where
-    pub rows : (q : Place) → row_at n q ≡ held n.rows q
-    pub fired : (x : Firing) → fired_in n x ≡ is_in n.fired.all x
+  abbrev pub IsSettled : Noted A → Type 0
+  IsSettled n = (q : Place) → row_at n q ≡ held n.rows q
 
   -- there is room for so many notes more
   abbrev pub HasRoom : ℕ → Noted A → Type 0

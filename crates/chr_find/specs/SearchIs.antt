@@ -27,24 +27,24 @@ module _ {P A : Type 0} (h : History) (s : Search P A) where
   abbrev pub OwnFinds : Atom → Mode → Option (List ℕ) → ℕ → ℕ → Type 0
   OwnFinds own mode found told now =
       (x : Head) → slice_get (rule_view s.rule.now).heads s.place ≡ Some x
-      → ForRows (positions_of s.plan.now) s.rows.now (λ rows. IsQuiet rows (rule_view s.rule.now).heads s.place s.own s.from s.quiet
-      → Finds h s.number (rule_view s.rule.now).guard [] (length (rule_view s.rule.now).heads) (passed s.from (gate_of mode s.after.now) (own_joined rows (rule_view s.rule.now) s.place x (s.own, own))) found told now)
+      → ForRows (positions_of s.plan.now) s.rows.now (λ rows. IsQuiet rows (rule_view s.rule.now).heads s.place s.own.0 s.from s.quiet
+      → Finds h s.number (rule_view s.rule.now).guard [] (passed s.from (gate_of mode s.after.now) (own_joined rows (rule_view s.rule.now) s.place x (s.own.0, own))) found told now)
 
 module _ {P A : Type 0} (h : History) (s : Search P A) (p : Prefix) where
   -- where the partners stand to the list after which the search goes on
   abbrev pub gate_at : Gate
-  gate_at = gate_of p.mode (drop p.level s.after.now)
+  gate_at = gate_of p.mode (drop (length p.partners) s.after.now)
 
   -- for the heads from the level on
   abbrev pub JoinFinds : Match A → Option (List ℕ) → ℕ → ℕ → Type 0
   JoinFinds matching found told now =
-      ForRows (positions_of s.plan.now) s.rows.now (λ rows. JoinIs rows h s.number (rule_view s.rule.now) s.place s.own p.level p.partners matching s.from s.quiet gate_at found told now)
+      ForRows (positions_of s.plan.now) s.rows.now (λ rows. JoinIs rows h s.number (rule_view s.rule.now) s.place s.own.0 (length p.partners) p.partners matching s.from s.quiet gate_at found told now)
 
   -- with these rows alone for the head at the level
   abbrev pub WalkFinds : Match A → List semantics.Row → Option (List ℕ) → ℕ → ℕ → Type 0
   WalkFinds matching walked found told now =
-      (x : Head) → slice_get (rule_view s.rule.now).heads p.level ≡ Some x
-      → ForRows (positions_of s.plan.now) s.rows.now (λ rows. WalkIs rows h s.number (rule_view s.rule.now) s.place s.own p.level p.partners matching s.from s.quiet gate_at x.atom walked found told now)
+      (x : Head) → slice_get (rule_view s.rule.now).heads (length p.partners) ≡ Some x
+      → ForRows (positions_of s.plan.now) s.rows.now (λ rows. WalkIs rows h s.number (rule_view s.rule.now) s.place s.own.0 (length p.partners) p.partners matching s.from s.quiet gate_at x.atom walked found told now)
 
   -- the same, with what the search has come to, and with the match as before where nothing is found
   abbrev pub JoinLeads : Match A → Match A → Reached → Reached → Bool → Type 0

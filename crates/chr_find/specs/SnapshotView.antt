@@ -11,8 +11,8 @@ use Rattle.chr_store.specs.Rows.{row_atom}
 use Rattle.chr_term.specs.TermView.{atom_over, atom_view}
 use Rattle.chr_term.specs.declared.term.Sym.{Sym}
 use Rattle.chr_term.specs.declared.term.Term.{Term}
-use Rattle.chr_find.specs.Firings.{fits}
-use Rattle.chr_find.specs.TableView.{HasRows, fired_at, lives}
+use Rattle.chr_find.specs.Firings.{fired_in}
+use Rattle.chr_find.specs.TableView.{HasRows, lives}
 use Rattle.chr_find.specs.declared.snapshot.Snapshot.{Snapshot}
 use Rattle.chr_find.specs.declared.snapshot.Task.{Task}
 use Rattle.chr_find.specs.declared.table.Table.{Table}
@@ -35,19 +35,19 @@ told_view g = option_map (λ p. atom_over p.0 p.1.now) g
 abbrev pub is_not_dead : {A : Type 0} → Table A → ℕ → ℕ → Bool
 is_not_dead t n i = lives t i || nat_le n i
 
--- these constraints, and the firings of which no constraint has died, as far as rules have heads, with the next identity, tasks and guest
-pub record IsTaken {A : Type 0} (t : Table A) (n : ℕ) (ts : List tasks.Task) (g : Option Atom) (q : semantics.Snapshot) : Type 0 where
+-- these constraints, and the firings of which no constraint has died, with the next identity, tasks and guest
+pub record IsTaken {A : Type 0} (t : Table A) (fired : ℕ → List ℕ → Bool) (n : ℕ) (ts : List tasks.Task) (g : Option Atom) (q : semantics.Snapshot) : Type 0 where
   pub rows : HasRows t q.rows
-  pub history : (r : ℕ) (ids : List ℕ) → fits ids ≡ true → list_all (is_not_dead t n) ids ≡ true → fired_before q.history r ids ≡ fired_at t r ids
+  pub history : (r : ℕ) (ids : List ℕ) → list_all (is_not_dead t n) ids ≡ true → fired_before q.history r ids ≡ fired r ids
   pub next : q.next_id ≡ n
   pub tasks : q.tasks ≡ ts
   pub guest : q.guest ≡ g
 
 -- what the snapshot shows
 abbrev pub IsSnapshot : {A : Type 0} → Snapshot A → semantics.Snapshot → Type 0
-IsSnapshot s q = IsTaken s.table s.next.0 (tasks_view s.tasks.items) (option_map row_atom s.guest) q
+IsSnapshot s q = IsTaken s.table (fired_in s.firings) s.next.0 (tasks_view s.tasks.items) (option_map row_atom s.guest) q
 
--- and it keeps no firings but these, as far as rules have heads
+-- and it keeps no firings but these
 pub record IsCopy {A : Type 0} (s : Snapshot A) (q : semantics.Snapshot) : Type 0 where
   pub shown : IsSnapshot s q
-  pub firings : (r : ℕ) (ids : List ℕ) → fits ids ≡ true → fired_before q.history r ids ≡ fired_at s.table r ids
+  pub firings : (r : ℕ) (ids : List ℕ) → fired_before q.history r ids ≡ fired_in s.firings r ids

@@ -1,12 +1,10 @@
 -- The constraints of a table.
-use Rattle.std.specs.Prelude.{◌≡◌, ℕ, Bool, true, cond, ◌&&◌, ◌==◌, List, Option, Some, is_some}
-use Rattle.std.specs.List.{list_all}
+use Rattle.std.specs.Prelude.{◌≡◌, ℕ, Bool, cond, ◌==◌, List, Option, Some, is_some}
 use Rattle.chr_semantics.specs.Match as semantics
 use Rattle.chr_semantics.specs.Program.{Atom}
-use Rattle.chr_semantics.specs.Search.{History, atom_of, fired_before}
-use Rattle.chr_find.specs.Firings.{firing_of, fits}
+use Rattle.chr_semantics.specs.Search.{atom_of}
 use Rattle.chr_find.specs.KeyedView as keyed
-use Rattle.chr_find.specs.NotedView.{fired_in, noted_atom}
+use Rattle.chr_find.specs.NotedView.{noted_atom}
 use Rattle.chr_find.specs.Newest.{with_newest}
 use Rattle.chr_find.specs.NotedView as noted
 use Rattle.chr_find.specs.Shown.{Rises}
@@ -24,10 +22,6 @@ module _ {A : Type 0} where
 
   abbrev pub lives : Table A → ℕ → Bool
   lives t i = is_some (atom_at t i)
-
-  -- the rule has fired with the identities
-  abbrev pub fired_at : Table A → ℕ → List ℕ → Bool
-  fired_at t r ids = fits ids && fired_in t.noted (firing_of r ids)
 
   -- all changes that were noted are made
   pub record IsSettled (t : Table A) : Type 0 where
@@ -59,7 +53,3 @@ module _ {A : Type 0} where
   pub record HasRows (t : Table A) (rows : List semantics.Row) : Type 0 where
     pub rises : Rises rows
     pub same : (i : ℕ) → atom_of rows i ≡ atom_at t i
-
-  -- the history has for living constraints what the table has, as far as rules have heads
-  abbrev pub HasHistory : Table A → History → Type 0
-  HasHistory t h = (r : ℕ) (ids : List ℕ) → fits ids ≡ true → list_all (lives t) ids ≡ true → fired_before h r ids ≡ fired_at t r ids

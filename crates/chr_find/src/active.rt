@@ -6,7 +6,7 @@ ghost use Rattle.chr_rules.specs.RuleView.{rule_view};
 ghost use Rattle.chr_find.specs.SearchView.{IsSearchable};
 
 use chr_rules::{Occurrence, Program, Rule};
-use chr_store::Id;
+use chr_store::{HeadIds, Id};
 use std::alloc::{Allocator, Global};
 
 /// A constraint that is active at a head of a rule.
@@ -15,7 +15,7 @@ pub struct Active<'a, A: Allocator = Global> {
     pub id: Id,
     pub rule: &'a Rule<A>,
     /// The number of the rule, from 0.
-    pub number: u64,
+    pub number: usize,
     /// The head, from 0.
     pub place: usize,
 }
@@ -35,7 +35,7 @@ impl<'a, A: Allocator> Active<'a, A> {
         Active {
             id,
             rule: program.rule(occurrence.rule),
-            number: occurrence.rule as u64,
+            number: occurrence.rule,
             place: occurrence.place,
         }
     }
@@ -44,8 +44,8 @@ impl<'a, A: Allocator> Active<'a, A> {
 /// Where a search goes on: after the list that the rule fired with last, and with the constraints that are new since.
 #[derive(Clone, Copy, Drop)]
 pub struct Cursor {
-    /// The identities of the list, one for each head of the rule; the others mean nothing.
-    pub after: [u64; 8],
+    /// The identities of the list.
+    pub after: HeadIds,
     /// From this identity on constraints are new.
     pub from: u64,
 }

@@ -1,15 +1,12 @@
 //! How long lists are, to choose the shortest. What is found does not depend on it.
 use crate::list::{List, Place};
 use crate::narrowed::narrowed;
-use chr_map::{Middle, Part, Pointer};
+use chr_map::{Middle, Part};
 use chr_store::Row;
 use std::alloc::Allocator;
 
 /// The number of rows in a list.
-pub(crate) fn count<A: Allocator + Copy>(
-    part: Part<'_, Place, Pointer<Row<A>, A>, A>,
-    list: &List,
-) -> u64 {
+pub(crate) fn count<A: Allocator + Copy>(part: Part<'_, Place, Row<A>, A>, list: &List) -> u64 {
     match narrowed(part, list).middle() {
         None => 0,
         Some(middle) => count_edge(middle.before, list, true)
@@ -20,7 +17,7 @@ pub(crate) fn count<A: Allocator + Copy>(
 
 /// The same in a part that begins in the list, or ends in it where `is_last`.
 fn count_edge<A: Allocator + Copy>(
-    part: Part<'_, Place, Pointer<Row<A>, A>, A>,
+    part: Part<'_, Place, Row<A>, A>,
     list: &List,
     is_last: bool,
 ) -> u64 {

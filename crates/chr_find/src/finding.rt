@@ -9,24 +9,27 @@ use crate::Memory;
 use crate::active::{Active, Cursor};
 use crate::join::Search;
 use crate::mode::Mode;
+use crate::past::Past;
 use crate::quiet::quiet_from;
 use crate::table::Table;
+use chr_store::HeadIds;
 use std::alloc::Allocator;
 
 impl<A: Allocator + Copy> Table<A> {
     /// The first list of partners, after a list or from the beginning, where no constraint for a head from `quiet` on is new.
-    fn found(
+    fn found<P: Past>(
         &self,
         active: &Active<'_, A>,
+        past: &P,
         mode: Mode,
-        after: &[u64],
+        after: &HeadIds,
         from: u64,
         quiet: usize,
         tries: &mut u64,
-    ) -> Result<Option<[u64; 8]>, Memory>
+    ) -> Result<Option<HeadIds>, Memory>
         requires settled { IsSettled self.now }
         requires searchable { IsSearchable active.now.rule.now active.now.place }
-        ensures found { IfOk result (λ found. FindsJoined self.now active.now from quiet
+        ensures found { IfOk result (λ found. FindsJoined (P.history past.now) self.now active.now from quiet
             (gate_of mode after.now) found tries.old tries.new) }
         ensures dead { atom_at self.now active.now.id.0 ≡ None →
             IfOk result (λ found. found ≡ None) }
@@ -34,17 +37,17 @@ impl<A: Allocator + Copy> Table<A> {
         let _so_far = *tries;
         let row = match self.row(active.id) {
             None => return Ok(None),
-            Some(row) => row.value(),
+            Some(row) => row,
         };
         let search = Search {
             alloc: self.alloc,
             plan: self.noted.plan.value(),
             rows: &self.noted.rows,
-            past: &self.noted.fired,
+            past,
             rule: active.rule,
             number: active.number,
             place: active.place,
-            own: active.id.0,
+            own: active.id,
             after,
             from,
             quiet,
@@ -54,38 +57,51 @@ impl<A: Allocator + Copy> Table<A> {
 
     /// The first list of partners with which the rule can fire, and one try more for each complete list that was looked at. A constraint
     /// that does not live has none. The table is ready to be searched for it.
-    pub fn first(&self, active: &Active<'_, A>, tries: &mut u64) -> Result<Option<[u64; 8]>, Memory>
+    pub fn first<P: Past>(
+        &self,
+        active: &Active<'_, A>,
+        past: &P,
+        tries: &mut u64,
+    ) -> Result<Option<HeadIds>, Memory>
         requires settled { IsSettled self.now }
         requires own { IsFor active.now.id.0 self.now }
         requires searchable { IsSearchable active.now.rule.now active.now.place }
-        ensures found { IfOk result (λ found. FindsFirst self.now active.now found tries.old
+        ensures found { IfOk result (λ found. FindsFirst (P.history past.now) self.now active.now found tries.old
             tries.new) }
         ensures dead { atom_at self.now active.now.id.0 ≡ None →
             IfOk result (λ found. found ≡ None) }
     {
         let _so_far = *tries;
         let quiet = active.rule.heads.len();
-        self.found(active, Mode::Free, &[], 0, quiet, tries)
+        self.found(active, past, Mode::Free, &HeadIds::new(), 0, quiet, tries)
     }
 
     /// The same where each list that can fire is ahead of the cursor: no other is looked at.
-    pub fn next(
+    pub fn next<P: Past>(
         &self,
         active: &Active<'_, A>,
+        past: &P,
         cursor: &Cursor,
         tries: &mut u64,
-    ) -> Result<Option<[u64; 8]>, Memory>
+    ) -> Result<Option<HeadIds>, Memory>
         requires settled { IsSettled self.now }
         requires own { IsFor active.now.id.0 self.now }
         requires searchable { IsSearchable active.now.rule.now active.now.place }
-        ensures found { IfOk result (λ found. FindsNext self.now active.now cursor.now found) }
+        ensures found { IfOk result (λ found. FindsNext (P.history past.now) self.now active.now cursor.now found) }
         ensures dead { atom_at self.now active.now.id.0 ≡ None →
             IfOk result (λ found. found ≡ None) }
     {
         let _so_far = *tries;
         let rows = &self.noted.rows;
         let quiet = quiet_from(rows, active.rule, active.place, active.id.0, cursor.from);
-        let after = &cursor.after[..active.rule.heads.len()];
-        self.found(active, Mode::On, after, cursor.from, quiet, tries)
+        self.found(
+            active,
+            past,
+            Mode::On,
+            &cursor.after,
+            cursor.from,
+            quiet,
+            tries,
+        )
     }
 }

@@ -1,31 +1,56 @@
-//! Firings, each of which counts once.
-ghost use Rattle.std.specs.Prelude.{◌≡◌, ◌≤◌, length};
+//! Firings in a map.
+ghost use Rattle.std.specs.Prelude.{◌≡◌, ◌||◌, ◌&&◌, ◌==◌, ℕ, IfOk, List, OnErr, OnOk, false};
+ghost use Rattle.chr_semantics.specs.Search.{same_ids};
 
-/// A rule and the identities that it fired with, in head order.
-#[derive(Clone, Copy, PartialEq, Eq, PartialOrd, Ord, Drop)]
-pub(crate) struct Firing {
-    /// The number of the rule, from 0.
-    pub(crate) rule: u64,
-    /// How many identities they are, at most eight.
-    pub(crate) heads: usize,
-    /// The identities, and 0 after them.
-    places: [u64; 8],
+use crate::Memory;
+use crate::past::Past;
+use chr_map::{Map, Share};
+use chr_store::Fired;
+use std::alloc::Allocator;
+
+/// Firings. One whose constraint has died stays: no search asks for it any more, and its identity never comes again.
+#[derive(Drop)]
+pub struct Firings<A: Allocator> {
+    all: Map<Fired, (), A>,
 }
 
-impl Firing {
-    ghost use Rattle.chr_find.specs.Firings.{firing_of};
+impl<A: Allocator + Copy> Firings<A> {
+    ghost use Rattle.chr_find.specs.Firings.{fired_in};
 
-    /// Of a rule with these identities.
-    pub(crate) fn new(rule: u64, ids: &[u64]) -> Firing
-        requires { length ids.now ≤ 8 }
-        ensures { result ≡ firing_of rule ids.now }
+    /// None.
+    pub(crate) fn new(alloc: A) -> Firings<A>
+        ensures { (r : ℕ) (ids : List ℕ) → fired_in result r ids ≡ false }
     {
-        let mut places = [0; 8];
-        places[..ids.len()].copy_from_slice(ids);
-        Firing {
-            rule,
-            heads: ids.len(),
-            places,
+        Firings {
+            all: Map::new(alloc),
         }
+    }
+
+    /// One more.
+    pub(crate) fn enter(&mut self, fired: Fired) -> Result<(), Memory>
+        ensures ok { OnOk result ((r : ℕ) (ids : List ℕ) → fired_in self.new r ids
+            ≡ (fired_in self.old r ids || (r == fired.rule && same_ids ids fired.ids))) }
+        ensures err { OnErr result ((r : ℕ) (ids : List ℕ) → fired_in self.new r ids ≡ fired_in self.old r ids) }
+    {
+        self.all.put(fired, ())
+    }
+
+    /// The same firings again, at the price of a pointer.
+    pub(crate) fn share(&self) -> Result<Firings<A>, Memory>
+        ensures { IfOk result (λ shared. (r : ℕ) (ids : List ℕ) → fired_in shared r ids ≡ fired_in self.now r ids) }
+    {
+        Ok(Firings {
+            all: self.all.share()?,
+        })
+    }
+}
+
+impl<A: Allocator + Copy> Past for Firings<A> {
+    ghost use Rattle.chr_find.specs.Firings.{history_of};
+
+    ghost history = { λ firings. history_of firings.all };
+
+    fn was_fired(&self, fired: &Fired) -> bool {
+        self.all.get(fired).is_some()
     }
 }

@@ -1,6 +1,7 @@
 //! The whole search of a rule: the own head first, and then the join.
 ghost use Rattle.std.specs.Prelude.{◌≡◌, ◌<◌, ◌≤◌, IfOk, Some, slice_get, true, vec_len};
 ghost use Rattle.chr_rules.specs.RuleView.{rule_view};
+ghost use Rattle.chr_semantics.specs.declared.limits.TheConstants.{MAX_HEADS};
 ghost use Rattle.chr_store.specs.Rows.{row_atom};
 ghost use Rattle.chr_semantics.specs.Program.{Head};
 ghost use Rattle.chr_find.specs.Barren.{IsBarren, LacksPartner};
@@ -16,7 +17,7 @@ use crate::past::Past;
 use crate::quiet::has_new;
 use crate::search::{fits, some_list_for};
 use chr_bind::Match;
-use chr_store::Row;
+use chr_store::{HeadIds, Row};
 use std::alloc::Allocator;
 
 impl<'a, P: Past, A: Allocator + Copy> Search<'a, P, A> {
@@ -50,8 +51,8 @@ impl<'a, P: Past, A: Allocator + Copy> Search<'a, P, A> {
         row: &'a Row<A>,
         mode: Mode,
         tries: &mut u64,
-    ) -> Result<Option<[u64; 8]>, Memory>
-        requires few { vec_len self.now.rule.now.heads ≤ 8 }
+    ) -> Result<Option<HeadIds>, Memory>
+        requires few { vec_len self.now.rule.now.heads ≤ MAX_HEADS }
         requires small { AreSmall (rule_view self.now.rule.now).heads }
         requires inside { self.now.place < vec_len self.now.rule.now.heads }
         ensures { IfOk result (λ found. OwnFinds (P.history self.now.past.now) self.now
@@ -67,12 +68,11 @@ impl<'a, P: Past, A: Allocator + Copy> Search<'a, P, A> {
             return Ok(None);
         }
         let start = Prefix {
-            level: 0,
-            partners: [0; 8],
+            partners: HeadIds::new(),
             mode,
         };
         let mut reached = Reached {
-            partners: [0; 8],
+            partners: HeadIds::new(),
             tries: *tries,
         };
         let is_found = self.join(&start, &mut matching, &mut reached)?;

@@ -1,10 +1,11 @@
 //! The join: the lists of partners for the heads of a rule, in order.
-ghost use Rattle.std.specs.Prelude.{◌≡◌, ◌+◌, ◌<◌, ◌≤◌, ◌^◌, ◌∷◌, ◌++◌, [], IfOk, drop, take, vec_len};
+ghost use Rattle.std.specs.Prelude.{◌≡◌, ◌+◌, ◌<◌, ◌≤◌, ◌^◌, ◌∷◌, ◌++◌, [], IfOk, drop, length, vec_len};
+ghost use Rattle.chr_semantics.specs.declared.limits.TheConstants.{MAX_HEADS};
 ghost use Rattle.chr_rules.specs.RuleView.{rule_view};
 ghost use Rattle.chr_store.specs.Rows.{row_atom};
 ghost use Rattle.chr_find.specs.Gate.{gate_bound, next_gate};
 ghost use Rattle.chr_find.specs.ModeView.{gate_of};
-ghost use Rattle.chr_find.specs.SearchIs.{JoinLeads, RowLeads, WalkLeads};
+ghost use Rattle.chr_find.specs.SearchIs.{JoinLeads, RowLeads, WalkLeads, gate_at};
 ghost use Rattle.chr_find.specs.SearchView.{AreSmall};
 ghost use Rattle.chr_find.specs.Shown.{walk};
 
@@ -17,9 +18,9 @@ use crate::past::Past;
 use crate::plan::Plan;
 use crate::search::{list_for, takes};
 use chr_bind::{Match, guard_holds};
-use chr_map::{Part, Pointer};
+use chr_map::Part;
 use chr_rules::Rule;
-use chr_store::Row;
+use chr_store::{Fired, HeadIds, Id, Row};
 use std::alloc::Allocator;
 use std::cmp::Ordering;
 
@@ -32,25 +33,23 @@ pub(crate) struct Search<'a, P, A: Allocator> {
     pub(crate) past: &'a P,
     pub(crate) rule: &'a Rule<A>,
     /// The number of the rule, from 0.
-    pub(crate) number: u64,
+    pub(crate) number: usize,
     /// The head that the own constraint stands at, from 0.
     pub(crate) place: usize,
     /// The identity of the own constraint.
-    pub(crate) own: u64,
+    pub(crate) own: Id,
     /// The list after which the search goes on.
-    pub(crate) after: &'a [u64],
+    pub(crate) after: &'a HeadIds,
     /// From this identity on constraints are new.
     pub(crate) from: u64,
     /// From this head on, counted from 0, no constraint for a head is new.
     pub(crate) quiet: usize,
 }
 
-/// The partners so far.
+/// The partners so far: the next one is for the head of that number.
 #[derive(Clone, Copy, Drop)]
 pub(crate) struct Prefix {
-    /// How many they are.
-    pub(crate) level: usize,
-    pub(crate) partners: [u64; 8],
+    pub(crate) partners: HeadIds,
     pub(crate) mode: Mode,
 }
 
@@ -58,38 +57,37 @@ pub(crate) struct Prefix {
 #[derive(Clone, Copy, Drop)]
 pub(crate) struct Reached {
     /// The partners, where they are found.
-    pub(crate) partners: [u64; 8],
+    pub(crate) partners: HeadIds,
     /// How many complete lists were looked at.
     pub(crate) tries: u64,
 }
 
 impl<'a, P: Past, A: Allocator + Copy> Search<'a, P, A> {
     /// With one more partner.
-    fn longer(&self, prefix: &Prefix, id: u64) -> Prefix
-        requires { prefix.now.level < 8 }
-        ensures level { result.level ≡ prefix.now.level + 1 }
-        ensures partners { take (prefix.now.level + 1) result.partners
-            ≡ take prefix.now.level prefix.now.partners ++ id ∷ [] }
-        ensures gate { gate_of result.mode (drop (prefix.now.level + 1) self.now.after.now)
-            ≡ next_gate self.now.from (gate_of prefix.now.mode (drop prefix.now.level self.now.after.now)) id }
+    fn longer(&self, prefix: &Prefix, id: Id) -> Prefix
+        requires { length prefix.now.partners < MAX_HEADS }
+        ensures partners { result.partners ≡ prefix.now.partners ++ id.0 ∷ [] }
+        ensures gate { gate_of result.mode (drop (length prefix.now.partners + 1) self.now.after.now)
+            ≡ next_gate self.now.from (gate_at (P.history self.now.past.now) self.now prefix.now) id.0 }
     {
+        let level = prefix.partners.len();
         let mut partners = prefix.partners;
-        partners[prefix.level] = id;
+        partners.push(id);
         Prefix {
-            level: prefix.level + 1,
             partners,
-            mode: prefix.mode.next(self.after, prefix.level, self.from, id),
+            mode: prefix.mode.next(self.after, level, self.from, id.0),
         }
     }
 
     /// Rows with lesser identities may be passed over for the next head.
     fn least(&self, prefix: &Prefix) -> u64
         ensures bound { result ≤ gate_bound self.now.from
-            (gate_of prefix.now.mode (drop prefix.now.level self.now.after.now)) }
-        ensures quiet { 0 < result → self.now.quiet < prefix.now.level + 2 }
+            (gate_at (P.history self.now.past.now) self.now prefix.now) }
+        ensures quiet { 0 < result → self.now.quiet < length prefix.now.partners + 2 }
     {
-        if self.quiet <= prefix.level.saturating_add(1) {
-            prefix.mode.bound(self.after, prefix.level, self.from)
+        let level = prefix.partners.len();
+        if self.quiet <= level + 1 {
+            prefix.mode.bound(self.after, level, self.from)
         } else {
             0
         }
@@ -104,19 +102,20 @@ impl<'a, P: Past, A: Allocator + Copy> Search<'a, P, A> {
         matching: &mut Match<'a, A>,
         reached: &mut Reached,
     ) -> Result<bool, Memory>
-        requires few { vec_len self.now.rule.now.heads ≤ 8 }
+        requires few { vec_len self.now.rule.now.heads ≤ MAX_HEADS }
         requires small { AreSmall (rule_view self.now.rule.now).heads }
-        requires inside { prefix.now.level ≤ vec_len self.now.rule.now.heads }
+        requires inside { length prefix.now.partners ≤ vec_len self.now.rule.now.heads }
         ensures { IfOk result (JoinLeads (P.history self.now.past.now) self.now prefix.now
             matching.old matching.new reached.old reached.new) }
     {
-        if prefix.level >= self.rule.heads.len() {
+        let level = prefix.partners.len();
+        if level >= self.rule.heads.len() {
             return self.try_list(prefix, matching, reached);
         }
-        if prefix.level == self.place {
+        if level == self.place {
             return self.join(&self.longer(prefix, self.own), matching, reached);
         }
-        let (sym, args) = &self.rule.heads[prefix.level];
+        let (sym, args) = &self.rule.heads[level];
         let list = list_for(self.plan, self.rows, *sym, args.as_slice(), matching);
         let least = self.least(prefix);
         let part = narrowed(self.rows.entries(), &list);
@@ -127,19 +126,19 @@ impl<'a, P: Past, A: Allocator + Copy> Search<'a, P, A> {
     #[cycle(join)]
     fn visit(
         &self,
-        part: &Part<'a, Place, Pointer<Row<A>, A>, A>,
+        part: &Part<'a, Place, Row<A>, A>,
         list: &List,
         least: u64,
         prefix: &Prefix,
         matching: &mut Match<'a, A>,
         reached: &mut Reached,
     ) -> Result<bool, Memory>
-        requires few { vec_len self.now.rule.now.heads ≤ 8 }
+        requires few { vec_len self.now.rule.now.heads ≤ MAX_HEADS }
         requires small { AreSmall (rule_view self.now.rule.now).heads }
-        requires inside { prefix.now.level < vec_len self.now.rule.now.heads }
+        requires inside { length prefix.now.partners < vec_len self.now.rule.now.heads }
         requires bound { least ≤ gate_bound self.now.from
-            (gate_of prefix.now.mode (drop prefix.now.level self.now.after.now)) }
-        requires quiet { 0 < least → self.now.quiet < prefix.now.level + 2 }
+            (gate_at (P.history self.now.past.now) self.now prefix.now) }
+        requires quiet { 0 < least → self.now.quiet < length prefix.now.partners + 2 }
         ensures { IfOk result (WalkLeads (P.history self.now.past.now) self.now prefix.now
             (walk list.now part.now) matching.old matching.new reached.old reached.new) }
     {
@@ -148,18 +147,18 @@ impl<'a, P: Past, A: Allocator + Copy> Search<'a, P, A> {
             None => return Ok(false),
             Some(middle) => middle,
         };
-        let id = middle.key.id.0;
+        let id = middle.key.id;
         match list.cmp(&middle.key.list) {
             Ordering::Less => self.visit(&middle.before, list, least, prefix, matching, reached),
             Ordering::Greater => self.visit(&middle.after, list, least, prefix, matching, reached),
             Ordering::Equal => {
-                if id < least {
+                if id.0 < least {
                     return self.visit(&middle.after, list, least, prefix, matching, reached);
                 }
                 if self.visit(&middle.before, list, least, prefix, matching, reached)? {
                     return Ok(true);
                 }
-                if self.try_row(id, middle.value.value(), prefix, matching, reached)? {
+                if self.try_row(id, middle.value, prefix, matching, reached)? {
                     return Ok(true);
                 }
                 self.visit(&middle.after, list, least, prefix, matching, reached)
@@ -171,17 +170,17 @@ impl<'a, P: Past, A: Allocator + Copy> Search<'a, P, A> {
     #[cycle(join)]
     fn try_row(
         &self,
-        id: u64,
+        id: Id,
         row: &'a Row<A>,
         prefix: &Prefix,
         matching: &mut Match<'a, A>,
         reached: &mut Reached,
     ) -> Result<bool, Memory>
-        requires few { vec_len self.now.rule.now.heads ≤ 8 }
+        requires few { vec_len self.now.rule.now.heads ≤ MAX_HEADS }
         requires small { AreSmall (rule_view self.now.rule.now).heads }
-        requires inside { prefix.now.level < vec_len self.now.rule.now.heads }
+        requires inside { length prefix.now.partners < vec_len self.now.rule.now.heads }
         ensures { IfOk result (WalkLeads (P.history self.now.past.now) self.now prefix.now
-            ((id, row_atom row.now) ∷ []) matching.old matching.new reached.old reached.new) }
+            ((id.0, row_atom row.now) ∷ []) matching.old matching.new reached.old reached.new) }
     {
         let marks = matching.marks();
         if self.join_row(id, row, prefix, matching, reached)? {
@@ -195,22 +194,21 @@ impl<'a, P: Past, A: Allocator + Copy> Search<'a, P, A> {
     #[cycle(join)]
     fn join_row(
         &self,
-        id: u64,
+        id: Id,
         row: &'a Row<A>,
         prefix: &Prefix,
         matching: &mut Match<'a, A>,
         reached: &mut Reached,
     ) -> Result<bool, Memory>
-        requires few { vec_len self.now.rule.now.heads ≤ 8 }
+        requires few { vec_len self.now.rule.now.heads ≤ MAX_HEADS }
         requires small { AreSmall (rule_view self.now.rule.now).heads }
-        requires inside { prefix.now.level < vec_len self.now.rule.now.heads }
+        requires inside { length prefix.now.partners < vec_len self.now.rule.now.heads }
         ensures { IfOk result (RowLeads (P.history self.now.past.now) self.now prefix.now
-            (id, row_atom row.now) matching.old matching.new reached.old reached.new) }
+            (id.0, row_atom row.now) matching.old matching.new reached.old reached.new) }
     {
         let _so_far = reached.tries;
-        let head = &self.rule.heads[prefix.level];
-        let used = &prefix.partners[..prefix.level];
-        if takes(self.own, used, head, id, row, matching) {
+        let head = &self.rule.heads[prefix.partners.len()];
+        if takes(self.own, &prefix.partners, head, id, row, matching) {
             self.join(&self.longer(prefix, id), matching, reached)
         } else {
             Ok(false)
@@ -224,8 +222,8 @@ impl<'a, P: Past, A: Allocator + Copy> Search<'a, P, A> {
         matching: &Match<'a, A>,
         reached: &mut Reached,
     ) -> Result<bool, Memory>
-        requires few { vec_len self.now.rule.now.heads ≤ 8 }
-        requires inside { prefix.now.level ≡ vec_len self.now.rule.now.heads }
+        requires few { vec_len self.now.rule.now.heads ≤ MAX_HEADS }
+        requires inside { length prefix.now.partners ≡ vec_len self.now.rule.now.heads }
         ensures { IfOk result (JoinLeads (P.history self.now.past.now) self.now prefix.now
             matching.now matching.now reached.old reached.new) }
     {
@@ -234,10 +232,11 @@ impl<'a, P: Past, A: Allocator + Copy> Search<'a, P, A> {
             return Ok(false);
         }
         reached.tries = reached.tries.saturating_add(1);
-        if self
-            .past
-            .was_fired(self.number, &prefix.partners[..prefix.level])
-        {
+        let fired = Fired {
+            rule: self.number,
+            ids: prefix.partners,
+        };
+        if self.past.was_fired(&fired) {
             return Ok(false);
         }
         if guard_holds(self.alloc, self.rule.guard.as_slice(), matching)? {

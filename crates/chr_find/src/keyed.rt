@@ -45,7 +45,7 @@ impl<A: Allocator + Copy> Keyed<A> {
         let mut keys = NotedKeys::new(alloc);
         for standing in rows {
             keys.room(1)?;
-            keys.note(standing.id, None, Some(standing.row.value()));
+            keys.note(standing.id, None, Some(&standing.row));
             keys.settle()?;
         }
         Ok(Keyed { keys: Some(keys) })

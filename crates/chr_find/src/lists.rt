@@ -5,18 +5,18 @@ ghost use Rattle.chr_find.specs.Places.{AreKept, AreSet, AreSetAt, held, row_if,
 use crate::Memory;
 use crate::list::{List, Place};
 use crate::root::Root;
-use chr_map::{Map, Pointer, Share};
+use chr_map::{Map, Share};
 use chr_store::{Id, Row};
 use std::alloc::Allocator;
 
 /// Rows at places.
-pub(crate) type Rows<A> = Map<Place, Pointer<Row<A>, A>, A>;
+pub(crate) type Rows<A> = Map<Place, Row<A>, A>;
 
 /// A row that is put at its places, or taken out there.
 #[derive(Drop)]
 pub(crate) struct Change<A: Allocator> {
     pub(crate) id: Id,
-    pub(crate) row: Pointer<Row<A>, A>,
+    pub(crate) row: Row<A>,
     pub(crate) is_there: bool,
 }
 
@@ -42,7 +42,7 @@ impl<A: Allocator + Copy> Change<A> {
             (AreSet [] self.now.id.0 self.now.row self.now.is_there rows.new rows.old) }
         ensures err { OnErr result (AreKept [] self.now.id.0 self.now.row rows.new rows.old) }
     {
-        let row = self.row.value();
+        let row = &self.row;
         self.set(rows, List::All)?;
         self.set(rows, List::Symbol(row.sym))?;
         if row.args.is_ground() {
@@ -57,7 +57,7 @@ impl<A: Allocator + Copy> Change<A> {
             (AreSetAt position self.now.id.0 self.now.row self.now.is_there rows.new rows.old) }
         ensures err { OnErr result (rows.new ≡ rows.old) }
     {
-        let row = self.row.value();
+        let row = &self.row;
         match Root::at(row.args.as_slice(), position as usize) {
             None => Ok(()),
             Some(root) => self.set(rows, List::At(row.sym, position, root)),

@@ -3,6 +3,8 @@ ghost use Rattle.std.specs.Prelude.{◌≡◌, ◌+◌, ℕ, List, [], drop};
 ghost use Rattle.chr_find.specs.Gate.{admits, gate_bound, next_gate};
 ghost use Rattle.chr_find.specs.ModeView.{gate_of};
 
+use chr_store::HeadIds;
+
 /// Where the partners so far stand to a list.
 #[derive(Clone, Copy, Drop)]
 pub(crate) enum Mode {
@@ -16,7 +18,7 @@ pub(crate) enum Mode {
 
 impl Mode {
     /// After one more partner at a level. A new one has an identity that is not below `from`.
-    pub(crate) fn next(self, after: &[u64], level: usize, from: u64, id: u64) -> Mode
+    pub(crate) fn next(self, after: &HeadIds, level: usize, from: u64, id: u64) -> Mode
         ensures { gate_of result (drop (level + 1) after.now)
             ≡ next_gate from (gate_of self (drop level after.now)) id }
     {
@@ -27,10 +29,10 @@ impl Mode {
             Mode::Free => Mode::Free,
             Mode::Before => Mode::Before,
             Mode::On => {
-                if level >= after.len() {
-                    return Mode::Free;
-                }
-                let bound = after[level];
+                let bound = match after.get(level) {
+                    None => return Mode::Free,
+                    Some(bound) => bound.0,
+                };
                 if bound < id {
                     Mode::Free
                 } else if bound == id {
@@ -43,18 +45,16 @@ impl Mode {
     }
 
     /// A partner at the level with a lesser identity leads to lists before that one, which a new row alone makes wanted.
-    pub(crate) fn bound(self, after: &[u64], level: usize, from: u64) -> u64
+    pub(crate) fn bound(self, after: &HeadIds, level: usize, from: u64) -> u64
         ensures { result ≡ gate_bound from (gate_of self (drop level after.now)) }
     {
         match self {
             Mode::Free => 0,
             Mode::Before => from,
-            Mode::On => {
-                if level >= after.len() {
-                    return 0;
-                }
-                after[level].min(from)
-            }
+            Mode::On => match after.get(level) {
+                None => 0,
+                Some(bound) => bound.0.min(from),
+            },
         }
     }
 

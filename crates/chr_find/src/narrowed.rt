@@ -3,16 +3,16 @@ ghost use Rattle.std.specs.Prelude.{◌≡◌, ◌≤◌, length};
 ghost use Rattle.chr_find.specs.Shown.{walk};
 
 use crate::list::{List, Place};
-use chr_map::{Middle, Part, Pointer};
+use chr_map::{Middle, Part};
 use chr_store::Row;
 use std::alloc::Allocator;
 use std::cmp::Ordering;
 
 /// The least part, on the way down, that has all rows of a list: the middle of that is one of them, or it is empty.
 pub(crate) fn narrowed<'a, A: Allocator + Copy>(
-    part: Part<'a, Place, Pointer<Row<A>, A>, A>,
+    part: Part<'a, Place, Row<A>, A>,
     list: &List,
-) -> Part<'a, Place, Pointer<Row<A>, A>, A>
+) -> Part<'a, Place, Row<A>, A>
     ensures rows { walk list.now result ≡ walk list.now part.entry }
     ensures short { length result ≤ length part.entry }
 {

@@ -1,15 +1,11 @@
 //! What is noted of a table, and made later.
 ghost use Rattle.std.specs.Prelude.{◌≡◌, OnErr, OnOk};
-ghost use Rattle.chr_find.specs.Firings.{is_in};
-ghost use Rattle.chr_find.specs.NoteView.{changed_at, fired_after, rows_after};
+ghost use Rattle.chr_find.specs.NoteView.{changed_at, rows_after};
 ghost use Rattle.chr_find.specs.Places.{AreKept, held};
 ghost use Rattle.chr_find.specs.PlanView.{positions_of};
-ghost use Rattle.chr_find.specs.declared.firings.Firing.{Firing};
 ghost use Rattle.chr_find.specs.declared.list.Place.{Place};
 
 use crate::Memory;
-use crate::fired::Fired;
-use crate::firings::Firing;
 use crate::lists::{Change, Rows};
 use crate::plan::Plan;
 use std::alloc::Allocator;
@@ -20,7 +16,6 @@ pub(crate) enum Note<A: Allocator> {
     Changed(Change<A>),
     /// A row is taken out, and another put in its place.
     Replaced(Change<A>, Change<A>),
-    Entered(Firing),
 }
 
 /// Makes a change of the rows.
@@ -34,28 +29,18 @@ fn make<A: Allocator + Copy>(
     ensures err { OnErr result (AreKept (positions_of plan.now change.now.row.sym.0) change.now.id.0
         change.now.row rows.new rows.old) }
 {
-    change.make(rows, plan.positions(change.row.value().sym))
+    change.make(rows, plan.positions(change.row.sym))
 }
 
 impl<A: Allocator + Copy> Note<A> {
     /// Makes what is noted. Where that is refused, it can be made again, and comes to the same.
-    pub(crate) fn make(
-        &self,
-        plan: &Plan<A>,
-        rows: &mut Rows<A>,
-        fired: &mut Fired<A>,
-    ) -> Result<(), Memory>
-        ensures rows { OnOk result ((q : Place) → held rows.new q
+    pub(crate) fn make(&self, plan: &Plan<A>, rows: &mut Rows<A>) -> Result<(), Memory>
+        ensures ok { OnOk result ((q : Place) → held rows.new q
             ≡ rows_after plan.now self.now (held rows.old) q) }
-        ensures fired { OnOk result ((f : Firing) → is_in fired.new.all f
-            ≡ fired_after self.now (is_in fired.old.all) f) }
-        ensures rows_again { OnErr result ((q : Place) → rows_after plan.now self.now (held rows.new) q
+        ensures again { OnErr result ((q : Place) → rows_after plan.now self.now (held rows.new) q
             ≡ rows_after plan.now self.now (held rows.old) q) }
-        ensures fired_again { OnErr result ((f : Firing) → fired_after self.now (is_in fired.new.all) f
-            ≡ fired_after self.now (is_in fired.old.all) f) }
     {
         match self {
-            Note::Entered(firing) => fired.enter(*firing),
             Note::Replaced(out, into) => {
                 make(out, plan, rows)?;
                 make(into, plan, rows)

@@ -1,21 +1,19 @@
-//! Rows by their lists, and firings, with changes that are noted first and made later.
+//! Rows by their lists, with changes that are noted first and made later.
 ghost use Rattle.std.specs.Prelude.{◌≡◌, ◌+◌, ◌≤◌, ℕ, OnOk, vec_len};
 
 use crate::Memory;
-use crate::fired::Fired;
 use crate::lists::Rows;
 use crate::note::Note;
 use crate::plan::Plan;
 use chr_map::Pointer;
 use std::alloc::Allocator;
 
-/// Rows by their lists, firings, and changes of them. A change is noted where there is room for it, which takes no memory, and is made by
+/// Rows by their lists, and changes of them. A change is noted where there is room for it, which takes no memory, and is made by
 /// `settle`. Contracts see what stands when all is made.
 #[derive(Drop)]
 pub(crate) struct Noted<A: Allocator> {
     pub(crate) plan: Pointer<Plan<A>, A>,
     pub(crate) rows: Rows<A>,
-    pub(crate) fired: Fired<A>,
     notes: Vec<Note<A>, A>,
     /// How many of the notes are made.
     made: usize,
@@ -23,29 +21,20 @@ pub(crate) struct Noted<A: Allocator> {
 }
 
 impl<A: Allocator + Copy> Noted<A> {
-    ghost use Rattle.chr_find.specs.declared.firings.Firing.{Firing};
     ghost use Rattle.chr_find.specs.declared.list.Place.{Place};
-    ghost use Rattle.chr_find.specs.Firings.{is_in};
-    ghost use Rattle.chr_find.specs.NoteView.{fired_after, rows_after};
+    ghost use Rattle.chr_find.specs.NoteView.{rows_after};
     ghost use Rattle.chr_find.specs.Places.{held};
-    ghost use Rattle.chr_find.specs.NotedView.{HasRoom, IsSettled, fired_in, row_at};
+    ghost use Rattle.chr_find.specs.NotedView.{HasRoom, IsSettled, row_at};
 
-    /// These rows and firings, and nothing noted.
-    pub(crate) fn new(
-        alloc: A,
-        plan: Pointer<Plan<A>, A>,
-        rows: Rows<A>,
-        fired: Fired<A>,
-    ) -> Noted<A>
+    /// These rows, and nothing noted.
+    pub(crate) fn new(alloc: A, plan: Pointer<Plan<A>, A>, rows: Rows<A>) -> Noted<A>
         ensures rows { (q : Place) → row_at result q ≡ held rows q }
-        ensures fired { (f : Firing) → fired_in result f ≡ is_in fired.all f }
         ensures settled { IsSettled result }
         ensures plan { result.plan ≡ plan }
     {
         Noted {
             plan,
             rows,
-            fired,
             notes: Vec::new(alloc),
             made: 0,
         }
@@ -54,7 +43,6 @@ impl<A: Allocator + Copy> Noted<A> {
     /// Makes room for so many notes.
     pub(crate) fn room(&mut self, more: usize) -> Result<(), Memory>
         ensures rows { (q : Place) → row_at self.new q ≡ row_at self.old q }
-        ensures fired { (f : Firing) → fired_in self.new f ≡ fired_in self.old f }
         ensures plan { self.new.plan ≡ self.old.plan }
         ensures ok { OnOk result (HasRoom more self.new) }
     {
@@ -67,7 +55,6 @@ impl<A: Allocator + Copy> Noted<A> {
         requires { HasRoom 1 self.now }
         ensures rows { (q : Place) → row_at self.new q
             ≡ rows_after self.old.plan note (row_at self.old) q }
-        ensures fired { (f : Firing) → fired_in self.new f ≡ fired_after note (fired_in self.old) f }
         ensures plan { self.new.plan ≡ self.old.plan }
         ensures room { (n : ℕ) → HasRoom (n + 1) self.old → HasRoom n self.new }
     {
@@ -77,12 +64,11 @@ impl<A: Allocator + Copy> Noted<A> {
     /// Makes all that is noted. Where that is refused, some of it may be made in part, and stays noted.
     pub(crate) fn settle(&mut self) -> Result<(), Memory>
         ensures rows { (q : Place) → row_at self.new q ≡ row_at self.old q }
-        ensures fired { (f : Firing) → fired_in self.new f ≡ fired_in self.old f }
         ensures plan { self.new.plan ≡ self.old.plan }
         ensures ok { OnOk result (IsSettled self.new) }
     {
         while let Some(note) = self.notes.get(self.made) {
-            note.make(self.plan.value(), &mut self.rows, &mut self.fired)?;
+            note.make(self.plan.value(), &mut self.rows)?;
             self.made += 1;
         }
         self.made = 0;

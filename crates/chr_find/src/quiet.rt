@@ -7,7 +7,7 @@ ghost use Rattle.chr_find.specs.Shown.{ForAllRows, any_new, walk};
 
 use crate::list::{List, Place};
 use crate::lists::Rows;
-use chr_map::{Middle, Part, Pointer};
+use chr_map::{Middle, Part};
 use chr_rules::Rule;
 use chr_store::Row;
 use std::alloc::Allocator;
@@ -15,7 +15,7 @@ use std::cmp::Ordering;
 
 /// Whether a list has a row with an identity that is not below `from`.
 pub(crate) fn has_new<A: Allocator + Copy>(
-    part: Part<'_, Place, Pointer<Row<A>, A>, A>,
+    part: Part<'_, Place, Row<A>, A>,
     list: &List,
     from: u64,
 ) -> bool

@@ -13,7 +13,7 @@ use crate::resolving::resolved;
 use crate::standing::{Standing, collect};
 use crate::table::{Table, is_open};
 use chr_bind::Bindings;
-use chr_map::{Pointer, Share};
+use chr_map::Share;
 use chr_store::{Id, Row};
 use std::alloc::{Allocator, Global};
 
@@ -21,8 +21,8 @@ use std::alloc::{Allocator, Global};
 #[derive(Drop)]
 pub(crate) struct Replaced<A: Allocator> {
     pub(crate) id: Id,
-    pub(crate) old: Pointer<Row<A>, A>,
-    pub(crate) new: Pointer<Row<A>, A>,
+    pub(crate) old: Row<A>,
+    pub(crate) new: Row<A>,
 }
 
 /// What bindings change in a table.
@@ -58,14 +58,14 @@ impl<A: Allocator + Copy> Rebound<A> {
         ensures { OnOk result (Adds bindings.now.subst standing.now self.old.replaced.items
             self.old.woken.items self.new.replaced.items self.new.woken.items) }
     {
-        let new = match resolved(alloc, bindings, standing.row.value())? {
+        let new = match resolved(bindings, &standing.row)? {
             None => {
                 self.woken.push(standing.id)?;
                 return Ok(());
             }
             Some(new) => new,
         };
-        if !new.value().args.is_ground() {
+        if !new.args.is_ground() {
             self.woken.push(standing.id)?;
         }
         self.replaced.push(Replaced {
@@ -80,13 +80,12 @@ impl<A: Allocator + Copy> Rebound<A> {
 impl<A: Allocator + Copy> Table<A> {
     ghost use Rattle.chr_find.specs.Rebinding.{Replaces, new_rows, open_ids, over};
     ghost use Rattle.chr_find.specs.Rebound.{IsRebound};
-    ghost use Rattle.chr_find.specs.TableView.{HasRoom, HasRows, IsForAll, IsWhole, atom_at, atoms_with, fired_at};
+    ghost use Rattle.chr_find.specs.TableView.{HasRoom, HasRows, IsForAll, IsWhole, atom_at, atoms_with};
 
     /// What bindings change: the constraints that have variables, with the bindings applied. Makes the room to note it.
     fn rebound(&mut self, bindings: &Bindings<A>) -> Result<Rebound<A>, Memory>
         requires { IsWhole self.old }
         ensures same { (i : ℕ) → atom_at self.new i ≡ atom_at self.old i }
-        ensures fired { (r : ℕ) (ids : List ℕ) → fired_at self.new r ids ≡ fired_at self.old r ids }
         ensures all { IsForAll self.new }
         ensures ok { IfOk result (IsRebound bindings.now.subst self.new) }
     {
@@ -108,13 +107,12 @@ impl<A: Allocator + Copy> Table<A> {
         requires there { atom_at self.old replaced.id.0 ≡ Some (row_atom replaced.old) }
         ensures atoms { (i : ℕ) → atom_at self.new i
             ≡ atoms_with (atom_at self.old) replaced.id.0 (Some (row_atom replaced.new)) i }
-        ensures fired { (r : ℕ) (ids : List ℕ) → fired_at self.new r ids ≡ fired_at self.old r ids }
         ensures room { (n : ℕ) → HasRoom (n + 1) self.old → HasRoom n self.new }
         ensures all { IsForAll self.new }
     {
         let Replaced { id, old, new } = replaced;
-        self.keyed.replace(id, old.value(), new.value());
-        self.may_open = self.may_open | is_open(new.value());
+        self.keyed.replace(id, &old, &new);
+        self.may_open = self.may_open | is_open(&new);
         let out = Change {
             id,
             row: old,
@@ -133,8 +131,7 @@ impl<A: Allocator + Copy> Table<A> {
         requires all { IsForAll self.old }
         requires room { HasRoom (vec_len left) self.old }
         requires there { Replaces (atom_at self.old) left.items }
-        ensures atoms { (i : ℕ) → atom_at self.new i ≡ over (new_rows left.items) (atom_at self.old) i }
-        ensures fired { (r : ℕ) (ids : List ℕ) → fired_at self.new r ids ≡ fired_at self.old r ids }
+        ensures { (i : ℕ) → atom_at self.new i ≡ over (new_rows left.items) (atom_at self.old) i }
     {
         while let Some(replaced) = left.pop() {
             self.replace(replaced);
@@ -148,7 +145,6 @@ impl<A: Allocator + Copy> Table<A> {
             ≡ option_map (resolved_atom bindings.now.subst) (atom_at self.old i)) }
         ensures woken { IfOk result (λ ids. (rows : List semantics.Row) → HasRows self.old rows →
             numbers ids.items ≡ open_ids bindings.now.subst rows) }
-        ensures fired { (r : ℕ) (ids : List ℕ) → fired_at self.new r ids ≡ fired_at self.old r ids }
         ensures err { OnErr result ((i : ℕ) → atom_at self.new i ≡ atom_at self.old i) }
     {
         if !self.may_open {

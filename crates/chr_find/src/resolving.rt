@@ -5,23 +5,18 @@ ghost use Rattle.chr_find.specs.Rebinding.{IsResolved};
 
 use crate::Memory;
 use chr_bind::Bindings;
-use chr_map::Pointer;
 use chr_store::Row;
 use std::alloc::Allocator;
 
 /// The row with bindings applied, where they change it.
 pub(crate) fn resolved<A: Allocator + Copy>(
-    alloc: A,
     bindings: &Bindings<A>,
     row: &Row<A>,
-) -> Result<Option<Pointer<Row<A>, A>>, Memory>
+) -> Result<Option<Row<A>>, Memory>
     ensures { IfOk result (IsResolved bindings.now.subst (row_atom row.now)) }
 {
     match bindings.replaced_args(&row.args)? {
         None => Ok(None),
-        Some(args) => {
-            let row = Row { sym: row.sym, args };
-            Ok(Some(Pointer::new(alloc, row)?))
-        }
+        Some(args) => Ok(Some(Row { sym: row.sym, args })),
     }
 }

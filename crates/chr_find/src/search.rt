@@ -5,6 +5,7 @@ ghost use Rattle.chr_semantics.specs.Bounds.{AreBelow};
 ghost use Rattle.chr_semantics.specs.Keys.{pattern_root};
 ghost use Rattle.chr_semantics.specs.Search.{has_number};
 ghost use Rattle.chr_semantics.specs.Subst.{Subst};
+ghost use Rattle.chr_store.specs.Numbers.{numbers};
 ghost use Rattle.chr_store.specs.Rows.{row_atom};
 ghost use Rattle.chr_term.specs.TermView.{atom_view, trees_view, view};
 ghost use Rattle.chr_find.specs.Enough.{FitsHead, IsEnough, IsEnoughAt, IsOneOf, StaysEnough, TakesAs};
@@ -18,7 +19,7 @@ use crate::plan::Plan;
 use crate::root::Root;
 use chr_bind::{Match, fit_or_spoil};
 use chr_semantics::limits::MAX_RULE_VARIABLES;
-use chr_store::Row;
+use chr_store::{HeadIds, Id, Row};
 use chr_term::{Sym, Term};
 use std::alloc::Allocator;
 
@@ -130,8 +131,8 @@ pub(crate) fn list_for<A: Allocator + Copy>(
 }
 
 /// Whether an identity is among these.
-fn is_among(ids: &[u64], id: u64) -> bool
-    ensures { result ≡ has_number ids.now id }
+fn is_among(ids: &[Id], id: Id) -> bool
+    ensures { result ≡ has_number (numbers ids.now) id.0 }
 {
     for other in ids {
         if id == *other {
@@ -163,19 +164,19 @@ pub(crate) fn fits<'a, A: Allocator + Copy>(
 /// Extends the match by a row that was not used and fits the head. Where it is not taken, some variables more may be matched. The own
 /// constraint is used.
 pub(crate) fn takes<'a, A: Allocator + Copy>(
-    own: u64,
-    used: &[u64],
+    own: Id,
+    used: &HeadIds,
     head: &(Sym, Vec<Term<A>, A>),
-    id: u64,
+    id: Id,
     row: &'a Row<A>,
     matching: &mut Match<'a, A>,
 ) -> bool
     requires { AreBelow MAX_RULE_VARIABLES (trees_view head.now.1.items) }
-    ensures takes { TakesAs result (own ∷ used.now) (atom_view head.now.0 head.now.1.items)
-        (id, row_atom row.now) matching.old matching.new }
+    ensures takes { TakesAs result (own.0 ∷ used.now) (atom_view head.now.0 head.now.1.items)
+        (id.0, row_atom row.now) matching.old matching.new }
     ensures kept { Keeps matching.old matching.new }
 {
-    if id == own || is_among(used, id) {
+    if id == own || is_among(used.as_slice(), id) {
         return false;
     }
     fits(head, row, matching)

@@ -11,11 +11,14 @@ ghost use Rattle.chr_find.specs.AtomCode.{atoms};
 ghost use Rattle.chr_find.specs.TableView.{IsKeyed, IsWhole, atom_at};
 
 use crate::Memory;
-use crate::searched::{Searched, search};
+use crate::answer::Found;
+use crate::firings::Firings;
+use crate::noted_firings::NotedFirings;
+use crate::searched::search;
 use crate::table::Table;
-use chr_map::{Pointer, Share};
+use chr_map::Share;
 use chr_rules::Program;
-use chr_store::{Id, Key, Row};
+use chr_store::{HeadIds, Id, Key, Row};
 use chr_term::{Sym, Term};
 use std::alloc::{Allocator, Global};
 
@@ -32,9 +35,10 @@ pub struct Task {
 #[derive(Drop)]
 pub struct Snapshot<A: Allocator = Global> {
     pub(crate) table: Table<A>,
+    pub(crate) firings: Firings<A>,
     pub(crate) next: Id,
     pub(crate) tasks: Vec<Task, A>,
-    pub(crate) guest: Option<Pointer<Row<A>, A>>,
+    pub(crate) guest: Option<Row<A>>,
     ghost whole: { IsWhole table },
     ghost keyed: { IsKeyed table },
     ghost free: { (i : ℕ) → next.0 ≤ i → atom_at table i ≡ None } by { Prim.hlevel atoms },
@@ -56,7 +60,7 @@ impl<A: Allocator> Snapshot<A> {
     {
         match &self.guest {
             None => None,
-            Some(row) => Some((row.value().sym, row.value().args.as_slice())),
+            Some(row) => Some((row.sym, row.args.as_slice())),
         }
     }
 
@@ -67,32 +71,37 @@ impl<A: Allocator> Snapshot<A> {
     {
         match &self.guest {
             None => None,
-            Some(row) => Some(row.value()),
+            Some(row) => Some(row),
         }
     }
 }
 
 impl<A: Allocator + Copy> Snapshot<A> {
-    ghost use Rattle.chr_find.specs.SearchedView.{IsSearched};
+    ghost use Rattle.chr_find.specs.NotedFiringsView.{IsSettled, noted_in};
+    ghost use Rattle.chr_find.specs.AnswerView.{IsAnswer};
     ghost use Rattle.chr_find.specs.SnapshotView.{IsSnapshot, IsTaken, tasks_view};
 
     /// A table that keeps keys as it stands now, at the price of some pointers. The guest's arguments have the bindings applied.
     pub fn of(
         table: &Table<A>,
+        firings: &NotedFirings<A>,
         next: Id,
         tasks: Vec<Task, A>,
-        guest: Option<Pointer<Row<A>, A>>,
+        guest: Option<Row<A>>,
     ) -> Result<Snapshot<A>, Memory>
         requires whole { IsWhole table.now }
         requires keyed { IsKeyed table.now }
+        requires settled { IsSettled firings.now }
         requires free { (i : ℕ) → next.0 ≤ i → atom_at table.now i ≡ None }
         ensures { IfOk result (λ shared. (q : semantics.Snapshot) →
-            IsTaken table.now next.0 (tasks_view tasks.items) (option_map row_atom guest) q →
+            IsTaken table.now (noted_in firings.now) next.0 (tasks_view tasks.items) (option_map row_atom guest) q →
             IsSnapshot shared q) }
     {
         let table = table.share()?;
+        let firings = firings.share()?;
         Ok(Snapshot {
             table,
+            firings,
             next,
             tasks,
             guest,
@@ -107,23 +116,25 @@ impl<A: Allocator + Copy> Snapshot<A> {
         self.table.keyed.of(sym, key)
     }
 
-    /// What a search for a task finds. For the next identity the guest is added to the constraints.
-    pub(crate) fn search(&self, program: &Program<A>, task: Task) -> Result<Searched, Memory>
+    /// What the snapshot has for a task: the identities of the first firing, or that there is none. For the next identity the guest is added
+    /// to the constraints.
+    pub fn find(&self, program: &Program<A>, task: Task) -> Result<Found<HeadIds>, Memory>
         ensures { IfOk result (λ found. (q : semantics.Snapshot) → IsSnapshot self.now q →
-            IsSearched (found_in (rules_of program.now) q (task.goal.0, task.occurrence))
-            (tries_in (rules_of program.now) q (task.goal.0, task.occurrence)) found) }
+            IsAnswer (found_in (rules_of program.now) q (task.goal.0, task.occurrence))
+            (tries_in (rules_of program.now) q (task.goal.0, task.occurrence))
+            found.ids found.tries) }
     {
         if task.goal != self.next {
-            return search(program, &self.table, task);
+            return search(program, &self.table, &self.firings, task);
         }
         let guest = match &self.guest {
-            None => return Ok(Searched::nothing()),
+            None => return Ok(Found::nothing()),
             Some(guest) => guest,
         };
         let mut table = self.table.share()?;
         table.room(1)?;
         table.add(task.goal, guest.share()?);
         table.settle_for(task.goal)?;
-        search(program, &table, task)
+        search(program, &table, &self.firings, task)
     }
 }

@@ -5,7 +5,7 @@ ghost use Rattle.chr_find.specs.Rebinding.{standing_rows};
 
 use crate::Memory;
 use crate::list::{List, Place};
-use chr_map::{Part, Pointer, Share};
+use chr_map::{Part, Share};
 use chr_store::{Id, Row};
 use std::alloc::Allocator;
 use std::cmp::Ordering;
@@ -14,12 +14,12 @@ use std::cmp::Ordering;
 #[derive(Drop)]
 pub(crate) struct Standing<A: Allocator> {
     pub(crate) id: Id,
-    pub(crate) row: Pointer<Row<A>, A>,
+    pub(crate) row: Row<A>,
 }
 
 /// Adds the rows of a part that are in a list.
 pub(crate) fn collect<A: Allocator + Copy>(
-    part: &Part<'_, Place, Pointer<Row<A>, A>, A>,
+    part: &Part<'_, Place, Row<A>, A>,
     list: List,
     rows: &mut Vec<Standing<A>, A>,
 ) -> Result<(), Memory>

@@ -1,6 +1,5 @@
-//! Tables: the living constraints and what has fired with them, to be searched.
+//! Tables: the living constraints, to be searched.
 ghost use Rattle.std.specs.Prelude.{◌≡◌, ◌+◌, ◌≤◌, ◌&&◌, ◌||◌, ◌==◌, IfOk, List, None, OnOk, Some, ℕ, false, length, not, option_map, true};
-ghost use Rattle.chr_semantics.specs.Search.{same_ids};
 ghost use Rattle.chr_semantics.specs.Tree.{is_ground_trees};
 ghost use Rattle.chr_store.specs.Rows.{row_atom};
 ghost use Rattle.chr_find.specs.AtomCode.{atoms};
@@ -11,8 +10,6 @@ ghost use Rattle.chr_find.specs.NotedView.{AreShown, noted_atom};
 ghost use Rattle.chr_find.specs.Shown.{AreGround};
 
 use crate::Memory;
-use crate::fired::Fired;
-use crate::firings::Firing;
 use crate::keyed::Keyed;
 use crate::list::{List as Listing, Place};
 use crate::lists::Change;
@@ -25,10 +22,9 @@ use chr_store::{Id, Row};
 use std::alloc::{Allocator, Global};
 use std::mem;
 
-/// The living constraints with their resolved arguments, by symbol and by what they have at their positions, and what has fired: a search
-/// looks up firings of living constraints alone, so those of dead ones may stay. A change takes two calls: one makes room, which may be
-/// refused, and the other notes it, which takes no memory. Before the next search `settle` makes what was noted. Contracts see the
-/// constraint of each identity and the firings, as when all is made.
+/// The living constraints with their resolved arguments, by symbol and by what they have at their positions. A change takes two calls: one
+/// makes room, which may be refused, and the other notes it, which takes no memory. Before the next search `settle` makes what was noted.
+/// Contracts see the constraint of each identity, as when all is made.
 ///
 /// The constraint that was added last stands beside the lists until another is added, or searched for: it is no partner of itself, and
 /// many constraints live no longer than that.
@@ -65,16 +61,15 @@ fn is_newest<A: Allocator>(newest: &Option<Standing<A>>, id: Id) -> bool
 }
 
 impl<A: Allocator + Copy> Table<A> {
-    ghost use Rattle.chr_find.specs.TableView.{HasRoom, IsFor, IsForAll, IsKeyed, IsSettled, IsWhole, atom_at, atoms_with, fired_at};
+    ghost use Rattle.chr_find.specs.TableView.{HasRoom, IsFor, IsForAll, IsKeyed, IsSettled, IsWhole, atom_at, atoms_with};
 
-    /// No constraint, and no firing.
+    /// No constraint.
     pub fn new(alloc: A, plan: Pointer<Plan<A>, A>) -> Table<A>
         ensures atoms { (i : ℕ) → atom_at result i ≡ None }
-        ensures fired { (r : ℕ) (ids : List ℕ) → fired_at result r ids ≡ false }
         ensures whole { IsWhole result }
     {
         Table {
-            noted: Noted::new(alloc, plan, Map::new(alloc), Fired::new(alloc)),
+            noted: Noted::new(alloc, plan, Map::new(alloc)),
             newest: None,
             keyed: Keyed::off(),
             may_open: false,
@@ -85,7 +80,6 @@ impl<A: Allocator + Copy> Table<A> {
     /// Makes room for so many changes.
     pub fn room(&mut self, more: usize) -> Result<(), Memory>
         ensures same { (i : ℕ) → atom_at self.new i ≡ atom_at self.old i }
-        ensures fired { (r : ℕ) (ids : List ℕ) → fired_at self.new r ids ≡ fired_at self.old r ids }
         ensures own { (i : ℕ) → IsFor i self.old → IsFor i self.new }
         ensures ok { OnOk result (HasRoom more self.new) }
     {
@@ -97,7 +91,6 @@ impl<A: Allocator + Copy> Table<A> {
     fn list_newest(&mut self)
         requires { listing.HasRoom 1 self.old.noted }
         ensures same { (i : ℕ) → atom_at self.new i ≡ atom_at self.old i }
-        ensures fired { (r : ℕ) (ids : List ℕ) → fired_at self.new r ids ≡ fired_at self.old r ids }
         ensures newest { self.new.newest ≡ None }
         ensures keyed { self.new.keyed ≡ self.old.keyed }
         ensures open { self.new.may_open ≡ self.old.may_open }
@@ -113,29 +106,27 @@ impl<A: Allocator + Copy> Table<A> {
     }
 
     /// Notes that a constraint lives.
-    pub fn add(&mut self, id: Id, row: Pointer<Row<A>, A>)
+    pub fn add(&mut self, id: Id, row: Row<A>)
         requires room { HasRoom 1 self.old }
         requires absent { atom_at self.old id.0 ≡ None }
         ensures atoms { (i : ℕ) → atom_at self.new i
             ≡ atoms_with (atom_at self.old) id.0 (Some (row_atom row)) i }
-        ensures fired { (r : ℕ) (ids : List ℕ) → fired_at self.new r ids ≡ fired_at self.old r ids }
         ensures room { (n : ℕ) → HasRoom (n + 1) self.old → HasRoom n self.new }
     {
         self.list_newest();
-        self.keyed.enter(id, row.value());
-        self.may_open = self.may_open | is_open(row.value());
+        self.keyed.enter(id, &row);
+        self.may_open = self.may_open | is_open(&row);
         self.newest = Some(Standing { id, row });
     }
 
     /// Notes that a constraint lives no more. Its row is the one that stands there.
-    pub fn remove(&mut self, id: Id, row: Pointer<Row<A>, A>)
+    pub fn remove(&mut self, id: Id, row: Row<A>)
         requires room { HasRoom 1 self.old }
         requires there { atom_at self.old id.0 ≡ Some (row_atom row) }
         ensures atoms { (i : ℕ) → atom_at self.new i ≡ atoms_with (atom_at self.old) id.0 None i }
-        ensures fired { (r : ℕ) (ids : List ℕ) → fired_at self.new r ids ≡ fired_at self.old r ids }
         ensures room { (n : ℕ) → HasRoom (n + 1) self.old → HasRoom n self.new }
     {
-        self.keyed.leave(id, row.value());
+        self.keyed.leave(id, &row);
         if is_newest(&self.newest, id) {
             self.newest = None;
         } else {
@@ -147,23 +138,10 @@ impl<A: Allocator + Copy> Table<A> {
         }
     }
 
-    /// Notes that a rule has fired with constraints, given in head order.
-    pub fn fire(&mut self, rule: u64, ids: &[u64])
-        requires room { HasRoom 1 self.old }
-        requires few { length ids.now ≤ 8 }
-        ensures same { (i : ℕ) → atom_at self.new i ≡ atom_at self.old i }
-        ensures fired { (r : ℕ) (others : List ℕ) → fired_at self.new r others
-            ≡ (fired_at self.old r others || (r == rule && same_ids others ids.now)) }
-        ensures room { (n : ℕ) → HasRoom (n + 1) self.old → HasRoom n self.new }
-    {
-        self.noted.note(Note::Entered(Firing::new(rule, ids)));
-    }
-
     /// Makes all changes that are noted; the newest constraint stays beside the lists. Contracts see the same constraints, after a refusal
     /// too.
     pub fn settle(&mut self) -> Result<(), Memory>
         ensures same { (i : ℕ) → atom_at self.new i ≡ atom_at self.old i }
-        ensures fired { (r : ℕ) (ids : List ℕ) → fired_at self.new r ids ≡ fired_at self.old r ids }
         ensures own { (i : ℕ) → IsFor i self.old → IsFor i self.new }
         ensures ok { OnOk result (IsSettled self.new) }
     {
@@ -174,7 +152,6 @@ impl<A: Allocator + Copy> Table<A> {
     /// Makes room for the newest constraint, if there is one, and notes that it has to be put into the lists.
     fn enlist(&mut self) -> Result<(), Memory>
         ensures same { (i : ℕ) → atom_at self.new i ≡ atom_at self.old i }
-        ensures fired { (r : ℕ) (ids : List ℕ) → fired_at self.new r ids ≡ fired_at self.old r ids }
         ensures ok { OnOk result (IsForAll self.new) }
     {
         if self.newest.is_some() {
@@ -197,7 +174,6 @@ impl<A: Allocator + Copy> Table<A> {
     /// Makes the lists whole, for any search. Contracts see the same constraints, after a refusal too.
     pub fn settle_all(&mut self) -> Result<(), Memory>
         ensures same { (i : ℕ) → atom_at self.new i ≡ atom_at self.old i }
-        ensures fired { (r : ℕ) (ids : List ℕ) → fired_at self.new r ids ≡ fired_at self.old r ids }
         ensures ok { OnOk result (IsWhole self.new) }
     {
         self.enlist()?;
@@ -207,7 +183,6 @@ impl<A: Allocator + Copy> Table<A> {
     /// Makes the table ready to be searched for a constraint. Contracts see the same constraints, after a refusal too.
     pub fn settle_for(&mut self, id: Id) -> Result<(), Memory>
         ensures same { (i : ℕ) → atom_at self.new i ≡ atom_at self.old i }
-        ensures fired { (r : ℕ) (ids : List ℕ) → fired_at self.new r ids ≡ fired_at self.old r ids }
         ensures settled { OnOk result (IsSettled self.new) }
         ensures own { OnOk result (IsFor id.0 self.new) }
     {
@@ -222,7 +197,6 @@ impl<A: Allocator + Copy> Table<A> {
     pub fn keep_keys(&mut self) -> Result<(), Memory>
         requires { IsWhole self.old }
         ensures same { (i : ℕ) → atom_at self.new i ≡ atom_at self.old i }
-        ensures fired { (r : ℕ) (ids : List ℕ) → fired_at self.new r ids ≡ fired_at self.old r ids }
         ensures whole { IsWhole self.new }
         ensures ok { OnOk result (IsKeyed self.new) }
     {
@@ -236,7 +210,7 @@ impl<A: Allocator + Copy> Table<A> {
     }
 
     /// The row of a constraint that stands in the lists.
-    fn listed_row(&self, id: Id) -> Option<&Pointer<Row<A>, A>>
+    fn listed_row(&self, id: Id) -> Option<&Row<A>>
         requires { IsSettled self.now }
         ensures { option_map (λ row. row_atom row.now) result ≡ noted_atom self.now.noted id.0 }
     {
@@ -248,7 +222,7 @@ impl<A: Allocator + Copy> Table<A> {
     }
 
     /// The row of a constraint that lives.
-    pub fn row(&self, id: Id) -> Option<&Pointer<Row<A>, A>>
+    pub fn row(&self, id: Id) -> Option<&Row<A>>
         requires { IsSettled self.now }
         ensures { option_map (λ row. row_atom row.now) result ≡ atom_at self.now id.0 }
     {
@@ -264,20 +238,17 @@ impl<A: Allocator + Copy> Table<A> {
         }
     }
 
-    /// The same constraints and firings again, at the price of some pointers.
+    /// The same constraints again, at the price of some pointers.
     pub fn share(&self) -> Result<Table<A>, Memory>
         requires { IsWhole self.now }
         ensures atoms { IfOk result (λ shared. (i : ℕ) → atom_at shared i ≡ atom_at self.now i) }
-        ensures fired { IfOk result (λ shared. (r : ℕ) (ids : List ℕ) →
-            fired_at shared r ids ≡ fired_at self.now r ids) }
         ensures whole { IfOk result (λ shared. IsWhole shared) }
         ensures keyed { IfOk result (λ shared. IsKeyed self.now → IsKeyed shared) }
     {
         let plan = self.noted.plan.share()?;
         let rows = self.noted.rows.share()?;
-        let fired = self.noted.fired.share()?;
         Ok(Table {
-            noted: Noted::new(self.alloc, plan, rows, fired),
+            noted: Noted::new(self.alloc, plan, rows),
             newest: None,
             keyed: self.keyed.share()?,
             may_open: self.may_open,

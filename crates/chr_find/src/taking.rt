@@ -10,13 +10,14 @@ ghost use Rattle.chr_store.specs.HistoryView.{entries_view, fired_view};
 ghost use Rattle.chr_store.specs.Numbers.{numbers};
 ghost use Rattle.chr_store.specs.Rows.{row_atom};
 ghost use Rattle.chr_store.specs.StoreView.{store_view};
-ghost use Rattle.chr_find.specs.Firings.{fits};
+ghost use Rattle.chr_find.specs.Firings.{fired_in};
 ghost use Rattle.chr_find.specs.ScopeView.{IsScope, entries_kept, keeps_row, rows_kept, takes};
 ghost use Rattle.chr_find.specs.SnapshotView.{guest_view, tasks_view};
-ghost use Rattle.chr_find.specs.TableView.{atom_at, atoms_with, fired_at};
-ghost use Rattle.chr_find.specs.Taking.{IsStateOf, IsTakenOf};
+ghost use Rattle.chr_find.specs.TableView.{atom_at};
+ghost use Rattle.chr_find.specs.Taking.{AreTakenOf, IsStateOf, IsTakenOf};
 
 use crate::Memory;
+use crate::firings::Firings;
 use crate::plan::Plan;
 use crate::scope::Scope;
 use crate::snapshot::{Snapshot, Task};
@@ -24,7 +25,7 @@ use crate::table::Table;
 use chr_bind::Bindings;
 use chr_map::Pointer;
 use chr_rules::Program;
-use chr_store::{Fired, History, Id, Row, Store};
+use chr_store::{Entry, History, Id, Row, Store};
 use chr_term::{Args, Sym, Term};
 use std::alloc::Allocator;
 
@@ -39,11 +40,9 @@ fn resolved_row<A: Allocator + Copy>(bindings: &Bindings<A>, row: &Row<A>) -> Re
 /// Adds a constraint, where there is none.
 fn put_row<A: Allocator + Copy>(table: &mut Table<A>, id: Id, row: Row<A>) -> Result<(), Memory>
     requires { atom_at table.old id.0 ≡ None }
-    ensures atoms { OnOk result ((i : ℕ) → atom_at table.new i
+    ensures { OnOk result ((i : ℕ) → atom_at table.new i
         ≡ cond (i == id.0) (Some (row_atom row)) (atom_at table.old i)) }
-    ensures fired { (r : ℕ) (ids : List ℕ) → fired_at table.new r ids ≡ fired_at table.old r ids }
 {
-    let row = Pointer::new(table.alloc, row)?;
     table.room(1)?;
     table.add(id, row);
     Ok(())
@@ -58,10 +57,9 @@ fn add_row<A: Allocator + Copy>(
     row: &Row<A>,
 ) -> Result<(), Memory>
     requires { atom_at table.old id.0 ≡ None }
-    ensures atoms { OnOk result ((i : ℕ) → atom_at table.new i
+    ensures { OnOk result ((i : ℕ) → atom_at table.new i
         ≡ cond (i == id.0 && keeps_row scope.entry (id.0, resolved_atom bindings.now.subst (row_atom row.now)))
         (Some (resolved_atom bindings.now.subst (row_atom row.now))) (atom_at table.old i)) }
-    ensures fired { (r : ℕ) (ids : List ℕ) → fired_at table.new r ids ≡ fired_at table.old r ids }
 {
     if !scope.has_symbol(row.sym) {
         return Ok(());
@@ -81,9 +79,8 @@ fn add_rows<A: Allocator + Copy>(
     scope: Scope<'_, A>,
 ) -> Result<(), Memory>
     requires { (i : ℕ) → atom_at table.old i ≡ None }
-    ensures atoms { OnOk result ((i : ℕ) → atom_at table.new i
+    ensures { OnOk result ((i : ℕ) → atom_at table.new i
         ≡ atom_of (rows_kept scope.entry bindings.now.subst (store_view store.now).rows) i) }
-    ensures fired { (r : ℕ) (ids : List ℕ) → fired_at table.new r ids ≡ fired_at table.old r ids }
 {
     for (id, row) in store.rows() {
         add_row(table, bindings, scope, id, row)?;
@@ -104,94 +101,59 @@ fn all_live<A: Allocator>(store: &Store<A>, ids: &[Id]) -> bool
 }
 
 /// Whether a firing is in the scope, and its constraints all live.
-fn is_taken<A: Allocator>(store: &Store<A>, scope: Scope<'_, A>, fired: &Fired<A>) -> bool
-    ensures { result ≡ takes scope.entry (store_view store.now).rows (fired_view fired.now) }
+fn is_taken<A: Allocator>(store: &Store<A>, scope: Scope<'_, A>, entry: &Entry<A>) -> bool
+    ensures { result ≡ takes scope.entry (store_view store.now).rows (fired_view entry.now) }
 {
-    scope.has_rule(fired.rule) && all_live(store, fired.ids.as_slice())
+    scope.has_rule(entry.rule()) && all_live(store, entry.ids())
 }
 
-/// At most eight identities, as numbers.
-fn numbered(ids: &[Id]) -> [u64; 8]
-    requires { length ids.now ≤ 8 }
-    ensures { take (length ids.now) result ≡ numbers ids.now }
-{
-    let mut places = [0; 8];
-    for k in 0..ids.len() {
-        places[k] = ids[k].0;
-    }
-    places
-}
-
-/// Notes a firing, unless it has more identities than a rule can have heads.
-fn add_firing<A: Allocator + Copy>(table: &mut Table<A>, fired: &Fired<A>) -> Result<(), Memory>
-    ensures same { (i : ℕ) → atom_at table.new i ≡ atom_at table.old i }
-    ensures fired { OnOk result ((r : ℕ) (ids : List ℕ) → fits ids ≡ true → fired_at table.new r ids
-        ≡ (fired_at table.old r ids || (r == fired.now.rule && same_ids ids (numbers fired.now.ids.items)))) }
-{
-    let ids = fired.ids.as_slice();
-    if ids.len() > 8 {
-        return Ok(());
-    }
-    table.room(1)?;
-    table.fire(fired.rule as u64, &numbered(ids)[..ids.len()]);
-    Ok(())
-}
-
-/// Notes the firings of a history that are in the scope and whose constraints all live.
+/// Adds the firings of a history that are in the scope and whose constraints all live.
 fn add_firings<A: Allocator + Copy>(
-    table: &mut Table<A>,
+    firings: &mut Firings<A>,
     store: &Store<A>,
     history: &History<A>,
     scope: Scope<'_, A>,
 ) -> Result<(), Memory>
-    ensures same { (i : ℕ) → atom_at table.new i ≡ atom_at table.old i }
-    ensures fired { OnOk result ((r : ℕ) (ids : List ℕ) → fits ids ≡ true → fired_at table.new r ids
-        ≡ (fired_at table.old r ids
+    ensures { OnOk result ((r : ℕ) (ids : List ℕ) → fired_in firings.new r ids
+        ≡ (fired_in firings.old r ids
         || fired_before (entries_kept scope.entry (store_view store.now).rows (entries_view history.now).list) r ids)) }
 {
-    for fired in history.list() {
-        if is_taken(store, scope, fired) {
-            add_firing(table, fired)?;
+    for entry in history.list() {
+        if is_taken(store, scope, entry) {
+            firings.enter(entry.fired())?;
         }
     }
     Ok(())
 }
 
-/// Adds to an empty table the constraints of a store with bindings applied, and the firings of a history whose constraints all live, as far
-/// as they are in the scope.
-fn fill<A: Allocator + Copy>(
-    table: &mut Table<A>,
+/// The firings of a history that are in the scope and whose constraints all live.
+pub(crate) fn firings_taken<A: Allocator + Copy>(
+    alloc: A,
     store: &Store<A>,
-    bindings: &Bindings<A>,
     history: &History<A>,
     scope: Scope<'_, A>,
-) -> Result<(), Memory>
-    requires no_row { (i : ℕ) → atom_at table.old i ≡ None }
-    requires no_firing { (r : ℕ) (ids : List ℕ) → fired_at table.old r ids ≡ false }
-    ensures { OnOk result (IsTakenOf scope.entry bindings.now.subst (store_view store.now).rows
-        (entries_view history.now).list table.new) }
+) -> Result<Firings<A>, Memory>
+    ensures { IfOk result (AreTakenOf scope.entry (store_view store.now).rows (entries_view history.now).list) }
 {
-    add_rows(table, store, bindings, scope)?;
-    add_firings(table, store, history, scope)?;
-    table.settle_all()?;
-    table.keep_keys()?;
-    Ok(())
+    let mut firings = Firings::new(alloc);
+    add_firings(&mut firings, store, history, scope)?;
+    Ok(firings)
 }
 
-/// A table with these.
+/// A table with the constraints of a store that are in the scope, with bindings applied.
 fn taken<A: Allocator + Copy>(
     alloc: A,
     store: &Store<A>,
     bindings: &Bindings<A>,
-    history: &History<A>,
     scope: Scope<'_, A>,
 ) -> Result<Table<A>, Memory>
-    ensures { IfOk result (IsTakenOf scope.entry bindings.now.subst (store_view store.now).rows
-        (entries_view history.now).list) }
+    ensures { IfOk result (IsTakenOf scope.entry bindings.now.subst (store_view store.now).rows) }
 {
     let plan = Pointer::new(alloc, Plan::first(alloc)?)?;
     let mut table = Table::new(alloc, plan);
-    fill(&mut table, store, bindings, history, scope)?;
+    add_rows(&mut table, store, bindings, scope)?;
+    table.settle_all()?;
+    table.keep_keys()?;
     Ok(table)
 }
 
@@ -200,7 +162,7 @@ fn resolved_guest<A: Allocator + Copy>(
     alloc: A,
     bindings: &Bindings<A>,
     guest: Option<(Sym, &[Term<A>])>,
-) -> Result<Option<Pointer<Row<A>, A>>, Memory>
+) -> Result<Option<Row<A>>, Memory>
     ensures { IfOk result (λ row. option_map row_atom row
         ≡ option_map (resolved_atom bindings.now.subst) (guest_view guest.entry)) }
 {
@@ -209,7 +171,7 @@ fn resolved_guest<A: Allocator + Copy>(
         Some(guest) => guest,
     };
     let args = Args::new(alloc, bindings.resolve_all(args)?)?;
-    Ok(Some(Pointer::new(alloc, Row { sym, args })?))
+    Ok(Some(Row { sym, args }))
 }
 
 /// What a task looks at.
@@ -243,10 +205,13 @@ impl<A: Allocator + Copy> Snapshot<A> {
         ensures { IfOk result (λ taken. (s : State) → IsStateOf store.now bindings.now.subst history.now s →
             IsCopy taken (snapshot_for s (tasks_view tasks.items) (guest_view guest.entry))) }
     {
-        let table = taken(alloc, store, bindings, history, Scope::whole(store))?;
+        let scope = Scope::whole(store);
+        let table = taken(alloc, store, bindings, scope)?;
+        let firings = firings_taken(alloc, store, history, scope)?;
         let guest = resolved_guest(alloc, bindings, guest)?;
         Ok(Snapshot {
             table,
+            firings,
             next: store.next(),
             tasks,
             guest,
@@ -267,15 +232,12 @@ impl<A: Allocator + Copy> Snapshot<A> {
     {
         let mut tasks = Vec::new(alloc);
         tasks.push(task)?;
-        let table = taken(
-            alloc,
-            store,
-            bindings,
-            history,
-            scope_of(program, store, task),
-        )?;
+        let scope = scope_of(program, store, task);
+        let table = taken(alloc, store, bindings, scope)?;
+        let firings = firings_taken(alloc, store, history, scope)?;
         Ok(Snapshot {
             table,
+            firings,
             next: store.next(),
             tasks,
             guest: None,

@@ -1,8 +1,8 @@
 use chr_bind::{Bindings, is_below};
 use chr_find::*;
 use chr_rules::{Goal, Program, Query};
-use chr_semantics::limits::MAX_CHANGES;
-use chr_store::{Fired, History, Id, Key, Store};
+use chr_semantics::limits::{MAX_CHANGES, MAX_HEADS};
+use chr_store::{Fired, HeadIds, History, Id, Key, Store};
 use chr_term::{Sym, Term};
 use chr_texts::both_of;
 use smallvec::SmallVec;
@@ -90,10 +90,12 @@ fn scene_of_texts<A: Allocator + Copy>(
 }
 
 /// A rule fires with these.
-fn fire(alloc: Global, history: &mut History, rule: usize, numbers: &[u64]) -> Result<(), Memory> {
-    let mut ids = Vec::new(alloc);
+fn fire(history: &mut History, rule: usize, numbers: &[u64]) -> Result<(), Memory> {
+    let mut ids = HeadIds::new();
     for number in numbers {
-        ids.push(Id(*number))?;
+        if ids.len() < MAX_HEADS {
+            ids.push(Id(*number));
+        }
     }
     history.put(Fired { rule, ids })?;
     Ok(())
@@ -259,7 +261,7 @@ fn first_argument_index(rt: HostRuntime) -> Result<(), Fail> {
 fn follow_kept(rt: &impl Abort, alloc: Global, scene: &mut Scene<Global>) -> Result<(), Memory> {
     let lists = lists_of(alloc);
     let kept = taken(alloc, scene, (4, 1), Id(2))?;
-    fire(alloc, &mut scene.history, 0, &[4, 1])?;
+    fire(&mut scene.history, 0, &[4, 1])?;
     bind_first(rt, &mut scene.bindings)?;
     for id in 1..5u64 {
         assert!(rt; scene.store.changes() < MAX_CHANGES);
@@ -291,8 +293,8 @@ const SPECULATION: &str =
 fn follow_join(rt: &impl Abort, alloc: Global, scene: &mut Scene<Global>) -> Result<(), Memory> {
     let lists = lists_of(alloc);
     assert!(rt; finds_taken(&lists, scene, (5, 1), &[5, 1, 4], (2, 4))?);
-    fire(alloc, &mut scene.history, 0, &[5, 1, 4])?;
-    fire(alloc, &mut scene.history, 0, &[5, 2, 3])?;
+    fire(&mut scene.history, 0, &[5, 1, 4])?;
+    fire(&mut scene.history, 0, &[5, 2, 3])?;
     assert!(rt; finds_taken(&lists, scene, (5, 1), &[], (4, 4))?);
     Ok(())
 }
@@ -311,7 +313,7 @@ fn follow_speculation(
     alloc: Global,
     scene: &mut Scene<Global>,
 ) -> Result<(), Memory> {
-    fire(alloc, &mut scene.history, 0, &[2])?;
+    fire(&mut scene.history, 0, &[2])?;
     assert!(rt; finds_own(&lists_of(alloc), scene, (3, 1), &[2, 1, 3], (1, 1))?);
     Ok(())
 }

@@ -3,7 +3,7 @@ use Rattle.std.proofs.Common.{◌≡◌, ◌∙◌, ◌≤◌, ◌&&◌, ℕ, Li
 use Rattle.std.specs.Prelude.{IfSome, is_some, option_map}
 use Rattle.std.proofs.lemmas.List.{length-map}
 use Rattle.chr_semantics.specs.Bounds.{AreBounded, IsBounded}
-use Rattle.chr_semantics.specs.Footprint.{Agrees, step_answer, step_answer_top}
+use Rattle.chr_semantics.specs.Footprint.{Agrees, step_answer_top}
 use Rattle.chr_semantics.specs.Match.{Row}
 use Rattle.chr_semantics.specs.Program.{Atom, Occurrence, Program, Rule, occurrence}
 use Rattle.chr_semantics.specs.Search.{History, IsTuple, atom_of, can_fire, first, first_of, first_tuple, found_at, found_for, found_with, ids_found, ids_of, search_for, tuples}
@@ -14,11 +14,10 @@ use Rattle.chr_semantics.proofs.Lookups.{atom_resolved}
 use Rattle.chr_semantics.proofs.OccurrenceRule.{occurrence_rule}
 use Rattle.chr_semantics.proofs.TuplesLaw.{tuples_law}
 use Rattle.chr_bounds.proofs.Steps.{find_so}
-use Rattle.chr_machine.specs.Answering.{AnswersStep, IsAnswerOf}
+use Rattle.chr_machine.specs.Answering.{AnswersStep}
 use Rattle.chr_machine.specs.Model.{Model, state_in}
 use Rattle.chr_machine.specs.NeedView.{Answers, need_by, search_of}
-use Rattle.chr_machine.specs.declared.answer.Answer.{Answer}
-use Rattle.chr_machine.specs.declared.answer.Answer.TheVariants.{Missing, Nothing, Firing}
+use Rattle.chr_machine.specs.declared.answer.Answer.TheVariants.{Found}
 
 -- the first firing of the constraint that is active, which lives and has the occurrence
 first_at : (p : Program) (s : State) (i j : ℕ) (a : Atom) (es : List Element) (t : Task) (x : Option Atom) (o : Option Occurrence) → ((b : Atom) → atom_of s.store i ≡ Some b → b ≡ a) → atom_of s.store i ≡ x
@@ -84,10 +83,5 @@ few_answer m items None bounded h = tt
 few_answer m items (Some x) bounded h = few_first m.rules (rows (state_in m)) (state_in m).history h.task.0 h.task.1 (items x) bounded h.finds
 
 -- what answers the need of a state is known of the search of its step
-pub answers_step : (m : Model) (ids : Option (List ℕ)) (known_of : Answer) → Agrees m.base.store.rows m.base.store.next_id m.stack → Answers m ids → IsAnswerOf ids known_of → AnswersStep m known_of
-answers_step m ids known_of agrees h is = by known_of is (h.finds ∙ first_needed m.rules (state_in m) m.stack h.task agrees (task_needed (needed_task m.rules (state_in m)) m.status h.task h.needs))
-  where
-    by : (a : Answer) → IsAnswerOf ids a → ids ≡ step_answer m.rules (state_in m) → AnswersStep m a
-    by Missing k e = absurd k
-    by Nothing k e = sym k ∙ e
-    by (Firing list n) k e = (k.0, sym k.1 ∙ e)
+pub answers_step : (m : Model) (ids : Option (List ℕ)) → Agrees m.base.store.rows m.base.store.next_id m.stack → Answers m ids → AnswersStep m (Found ids)
+answers_step m ids agrees h = h.finds ∙ first_needed m.rules (state_in m) m.stack h.task agrees (task_needed (needed_task m.rules (state_in m)) m.status h.task h.needs)

@@ -10,8 +10,8 @@ use Rattle.chr_semantics.specs.Text.{line_text}
 use Rattle.chr_semantics.specs.Trace.{Line, activates, defaults, drops, reactivates, search_line}
 use Rattle.chr_rules.specs.ProgramView.{names_of, rules_of}
 use Rattle.chr_trace.specs.State.{stack_view, status_view}
-use Rattle.chr_base.specs.BaseView.{BaseModel}
-use Rattle.chr_resume.specs.ResumingView.{base_in, program_in}
+use Rattle.chr_base.specs.Model.{BaseModel}
+use Rattle.chr_base.specs.BaseView.{base_view, program_of}
 use Rattle.chr_machine.specs.Model.{Model, model_of, state_in, topped}
 use Rattle.chr_machine.specs.Step.{IsAfter, IsSameBelow, Kept, Makes}
 use Rattle.chr_machine.specs.declared.state.Execution.{Execution}
@@ -35,7 +35,7 @@ after_later m n es w b l h =
 
 -- the same where the line is drafted, then kept, and then the stack and the status are made from the elements there
 module _ {A : Type 0} (old ready logged new : Execution A) (es : List Element → List Element) (w : List Element → Status) (line : List ℕ) (kept : Kept old ready) where
-  pub after_kept : logged.stack ≡ ready.stack → logged.base ≡ ready.base → logged.lines.made ≡ ready.lines.made ++ line ∷ [] → logged.steps ≡ ready.steps + 1 → program_in logged.base ≡ program_in ready.base → logged.var_names ≡ ready.var_names
+  pub after_kept : logged.stack ≡ ready.stack → logged.base ≡ ready.base → logged.lines.made ≡ ready.lines.made ++ line ∷ [] → logged.steps ≡ ready.steps + 1 → program_of logged.base ≡ program_of ready.base → logged.var_names ≡ ready.var_names
       → IsSameBelow logged new → stack_view new.stack.items ≡ es (stack_view logged.stack.items) → status_view new.status ≡ w (stack_view logged.stack.items)
       → (let m = model_of old in IsAfter m (model_of new) (es m.stack) (w m.stack) m.base line)
   after_kept elems base lines steps program vars below stack status =
@@ -43,7 +43,7 @@ module _ {A : Type 0} (old ready logged new : Execution A) (es : List Element �
       record {
         stack = stack ∙ ap es same;
         status = status ∙ ap w same;
-        base = ap base_in (below.base ∙ base) ∙ kept.base;
+        base = ap base_view (below.base ∙ base) ∙ kept.base;
         lines = ap (λ ls. ls.made) below.lines ∙ (lines ∙ ap (λ ls. ls ++ line ∷ []) kept.lines);
         steps = below.steps ∙ (steps ∙ ap (λ n. n + 1) kept.steps);
         same = record {

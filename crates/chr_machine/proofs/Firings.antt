@@ -16,8 +16,8 @@ use Rattle.chr_rules.specs.RuleView.{goal_view, rule_view}
 use Rattle.chr_rules.specs.declared.goal.Goal.{Goal}
 use Rattle.chr_find.specs.declared.active.Active.{Active}
 use Rattle.chr_trace.specs.State.{stack_view, status_view}
-use Rattle.chr_base.specs.BaseView.{BaseModel}
-use Rattle.chr_resume.specs.ResumingView.{base_in}
+use Rattle.chr_base.specs.Model.{BaseModel}
+use Rattle.chr_base.specs.BaseView.{base_view}
 use Rattle.chr_machine.specs.Firing.{FiresBelow, IsFiring, fired_base}
 use Rattle.chr_machine.specs.Model.{Model, model_of, state_in, topped}
 use Rattle.chr_machine.specs.Step.{IsAfter, IsSameBelow, Kept, Makes}
@@ -105,7 +105,7 @@ module _ {A : Type 0} (old mid new : Execution A) (s : Active A) (number : ℕ) 
       record {
         stack = is;
         status = status ∙ ap status_at is;
-        base = ap base_in same.base ∙ (b.base ∙ ap (fired_base m.base s.number rule) (sym f.ids_are));
+        base = ap base_view same.base ∙ (b.base ∙ ap (fired_base m.base s.number rule) (sym f.ids_are));
         lines = ap (λ ls. ls.made) same.lines ∙ (b.lines ∙ ap (λ (is : List ℕ). m.lines ++ line_in m (firing_line s.id.0 number (resolved_atom m.base.subst a) rule s.place is) ∷ []) (sym f.ids_are));
         steps = same.steps ∙ b.steps;
         same = record {

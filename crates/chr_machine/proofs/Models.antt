@@ -7,7 +7,7 @@ use Rattle.chr_trace.specs.State.{elem_view, stack_view, status_view}
 use Rattle.chr_trace.specs.declared.state.Elem.{Elem}
 use Rattle.chr_trace.proofs.Stacks.{stack_put}
 use Rattle.chr_machine.specs.Model.{Model, model_of, topped}
-use Rattle.chr_resume.specs.ResumingView.{base_in}
+use Rattle.chr_base.specs.BaseView.{base_view}
 use Rattle.chr_machine.specs.Step.{IsSameBeside, Kept}
 use Rattle.chr_machine.specs.declared.state.Execution.{Execution}
 
@@ -40,7 +40,7 @@ module _ {A : Type 0} where
   }
 
   -- where the base shows the same
-  pub kept_beside : (old new : Execution A) → IsSameBeside old new → base_in new.base ≡ base_in old.base → Kept old new
+  pub kept_beside : (old new : Execution A) → IsSameBeside old new → base_view new.base ≡ base_view old.base → Kept old new
   kept_beside old new h base = record {
     stack = ap (λ v. v.items) h.stack;
     room = subst (λ (v : Vec (Elem A) A). vec_len old.stack < vec_capacity old.stack → vec_len v < vec_capacity v) (sym h.stack) (λ r. r);

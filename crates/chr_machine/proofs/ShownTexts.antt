@@ -13,7 +13,7 @@ use Rattle.chr_semantics.specs.Program.{Atom}
 use Rattle.chr_semantics.specs.Search.{atom_of}
 use Rattle.chr_semantics.specs.State.{resolved_atom}
 use Rattle.chr_semantics.specs.Text.{known_text}
-use Rattle.chr_base.specs.BaseView.{BaseModel}
+use Rattle.chr_base.specs.Model.{BaseModel}
 use Rattle.chr_machine.specs.Shown.{IsOf, IsShownIn}
 
 some_of : (o : Option Atom) → is_some o ≡ true → (x : Atom) × (o ≡ Some x)

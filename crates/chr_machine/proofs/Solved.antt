@@ -18,8 +18,8 @@ use Rattle.chr_trace.specs.State.{elem_view, stack_view, status_view}
 use Rattle.chr_trace.specs.declared.state.Elem.{Elem}
 use Rattle.chr_trace.specs.declared.state.Status as declared
 use Rattle.chr_trace.specs.declared.state.Status.TheVariants.{Failed}
-use Rattle.chr_base.specs.BaseView.{BaseModel}
-use Rattle.chr_resume.specs.ResumingView.{base_in, program_in}
+use Rattle.chr_base.specs.Model.{BaseModel}
+use Rattle.chr_base.specs.BaseView.{base_view, program_of}
 use Rattle.chr_machine.specs.Model.{Model, model_of, state_in, topped}
 use Rattle.chr_machine.specs.Solving.{IsBuiltIn, Logged, Reaches, Tells, line_of, shown, with_goal}
 use Rattle.chr_machine.specs.declared.solving.Solved.{Solved}
@@ -44,8 +44,8 @@ logged_after line old mid new k l = record {
 
 module _ {A : Type 0} (old mid new : Execution A) (g : Goal) (elems : List (Elem A)) (b : BaseModel) (kept : Kept old mid) (woke : map elem_view elems ≡ woken_elements (state_in (model_of old))) where
   -- constraints wake, after nothing else that shows has changed but what is below the stack
-  pub after_woken : stack_view new.stack.items ≡ map elem_view elems ++ stack_view mid.stack.items → status_view new.status ≡ status_at (map elem_view elems ++ stack_view mid.stack.items) → base_in new.base ≡ b
-      → new.lines.made ≡ mid.lines.made ++ line_text (model_of old).names (model_of old).var_names (old.steps + 1) (solves (shown (model_of old) g)) ∷ [] → new.steps ≡ mid.steps + 1 → program_in new.base ≡ program_in mid.base → new.var_names ≡ mid.var_names
+  pub after_woken : stack_view new.stack.items ≡ map elem_view elems ++ stack_view mid.stack.items → status_view new.status ≡ status_at (map elem_view elems ++ stack_view mid.stack.items) → base_view new.base ≡ b
+      → new.lines.made ≡ mid.lines.made ++ line_text (model_of old).names (model_of old).var_names (old.steps + 1) (solves (shown (model_of old) g)) ∷ [] → new.steps ≡ mid.steps + 1 → program_of new.base ≡ program_of mid.base → new.var_names ≡ mid.var_names
       → (let es = woken_elements (with_goal g (model_of old)) ++ (model_of old).stack in
       IsAfter (model_of old) (model_of new) es (status_at es) b (line_text (model_of old).names (model_of old).var_names (old.steps + 1) (solves (shown (model_of old) g))))
   after_woken stack status base lines steps program vars =
@@ -127,20 +127,20 @@ module _ (m n : Model) (g : Goal) where
     told_clash is = ap (λ (o : Option Subst). bind_step (with_goal g m) m.stack o) is
 
 -- telling fails, after nothing that shows has changed
-module _ {A : Type 0} (old ready mid new : Execution A) (g : Goal) (t u : Tree) (kept : Kept old ready) (beside : IsSameBeside ready mid) (clash : (mgu (base_in ready.base).subst t u ≡ None) × (base_in mid.base ≡ base_in ready.base)) where
-  none : mgu (base_in old.base).subst t u ≡ None
+module _ {A : Type 0} (old ready mid new : Execution A) (g : Goal) (t u : Tree) (kept : Kept old ready) (beside : IsSameBeside ready mid) (clash : (mgu (base_view ready.base).subst t u ≡ None) × (base_view mid.base ≡ base_view ready.base)) where
+  none : mgu (base_view old.base).subst t u ≡ None
   none = subst (λ (b : BaseModel). mgu b.subst t u ≡ None) kept.base clash.0
 
   pub clash_kept : Kept old mid
   clash_kept = kept_twice old ready mid kept (kept_beside ready mid beside clash.1)
 
-  line_failed : line_text (names_of (program_in mid.base)) mid.var_names (mid.steps + 1) (fails (shown (model_of mid) g)) ≡ line_of (model_of old) g (told (model_of old) (model_of new) g t u)
+  line_failed : line_text (names_of (program_of mid.base)) mid.var_names (mid.steps + 1) (fails (shown (model_of mid) g)) ≡ line_of (model_of old) g (told (model_of old) (model_of new) g t u)
   line_failed =
       let m = model_of old in
       (λ k. line_text (names_of (clash_kept.program k)) (clash_kept.var_names k) (clash_kept.steps k + 1) (fails (goal_instance (value_at (clash_kept.base k).subst) g)))
       ∙ ap (λ (s : State). line_text m.names m.var_names (m.steps + 1) (solve_line (shown m g) s.status)) (sym (told_clash m (model_of new) g t u none))
 
-  pub clash_fails : {E : Type 0} (r : Result Solved E) → IfOk r (λ s. s ≡ Ends Failed) → OnOk r (Logged (line_text (names_of (program_in mid.base)) mid.var_names (mid.steps + 1) (fails (shown (model_of mid) g))) mid new) → IfOk r (λ s. Tells g old new s t u)
+  pub clash_fails : {E : Type 0} (r : Result Solved E) → IfOk r (λ s. s ≡ Ends Failed) → OnOk r (Logged (line_text (names_of (program_of mid.base)) mid.var_names (mid.steps + 1) (fails (shown (model_of mid) g))) mid new) → IfOk r (λ s. Tells g old new s t u)
   clash_fails (Err e) ends logged = ends
   clash_fails (Ok s) ends logged =
       subst (λ (x : Solved). Tells g old new x t u) (sym ends)
@@ -218,7 +218,7 @@ pub stopped_after : {A : Type 0} (old mid new : Execution A) (g : Goal) (w : dec
 stopped_after old mid new g w line l stack status below = record {
   stack = stack ∙ ap (λ es. goal g ∷ stack_view es) l.stack;
   status = ap status_view status;
-  base = ap base_in below.base ∙ l.base;
+  base = ap base_view below.base ∙ l.base;
   lines = ap (λ ls. ls.made) below.lines ∙ l.lines;
   steps = below.steps ∙ l.steps;
   same = record {

@@ -1,11 +1,10 @@
 -- The elements of constraints that wake.
-use Rattle.std.proofs.Common.{◌≡◌, ◌∙◌, ◌+◌, ◌≤◌, ◌<◌, ◌++◌, ℕ, Bool, true, false, cond, List, [], ◌∷◌, Some, ap, arith, get_or, length, map, refl, suc, sym, take}
+use Rattle.std.proofs.Common.{◌≡◌, ◌∙◌, ◌+◌, ◌<◌, ◌++◌, ℕ, Bool, true, false, cond, List, [], ◌∷◌, Some, ap, arith, get_or, length, map, refl, suc, sym, take}
 use Rattle.std.specs.Prelude.{All, filter, flat_map}
-use Rattle.std.proofs.lemmas.Bool.{eq-eqb, ne_eqb}
 use Rattle.std.proofs.lemmas.Grind.{flat_map-append}
 use Rattle.std.proofs.lemmas.List.{append-nil}
 use Rattle.std.proofs.Math.Seq.{take-suc}
-use Rattle.std.proofs.lemmas.List.Elements.{All-cons, All-head, All-nil, All-tail}
+use Rattle.std.proofs.lemmas.List.Elements.{All-head, All-tail}
 use Rattle.chr_semantics.specs.Footprint.{Ascends}
 use Rattle.chr_semantics.specs.Match.{Row}
 use Rattle.chr_semantics.specs.Search.{atom_of, ids_of}
@@ -14,30 +13,13 @@ use Rattle.chr_store.specs.Numbers.{numbers}
 use Rattle.chr_store.specs.declared.id.Id.{Id}
 use Rattle.chr_trace.specs.State.{elem_view}
 use Rattle.chr_trace.specs.declared.state.Elem.{Elem}
+use Rattle.chr_base.proofs.FirstFound.{all_looked}
 use Rattle.chr_machine.specs.Waking.{element_as, element_at, elements_at}
 
 -- the last element of those that are left goes on the stack
 pub elems_put : {A : Type 0} (es : List (Elem A)) (e : Elem A) (below : List Element) → map elem_view (es ++ e ∷ []) ++ below ≡ map elem_view es ++ elem_view e ∷ below
 elems_put [] e below = refl
 elems_put (x ∷ es) e below = ap (λ ys. elem_view x ∷ ys) (elems_put es e below)
-
--- each row is found by its identity
-later_looked : (x : Row) (all rows : List Row) (lo hi : ℕ) → x.0 < lo → Ascends lo rows hi → All (λ (r : Row). atom_of all r.0 ≡ Some r.1) rows → All (λ (r : Row). atom_of (x ∷ all) r.0 ≡ Some r.1) rows
-later_looked x all [] lo hi lt h k = All-nil (λ (r : Row). atom_of (x ∷ all) r.0 ≡ Some r.1)
-later_looked x all (r ∷ rows) lo hi lt h k =
-    let le : lo ≤ r.0 = h.0 in
-    All-cons (λ (r : Row). atom_of (x ∷ all) r.0 ≡ Some r.1) r rows
-    (ap (λ (b : Bool). cond b (Some x.1) (atom_of all r.0)) (ne_eqb x.0 r.0 (λ e. apart e le)) ∙ All-head (λ (r : Row). atom_of all r.0 ≡ Some r.1) r rows k)
-    (later_looked x all rows (r.0 + 1) hi (omega (arith, lt, le)) h.1 (All-tail (λ (r : Row). atom_of all r.0 ≡ Some r.1) r rows k))
-  where
-    apart : x.0 ≡ r.0 → lo ≤ r.0 → ⊥
-    apart e le = omega (arith, e, le, lt)
-
-pub all_looked : (rows : List Row) (lo hi : ℕ) → Ascends lo rows hi → All (λ (r : Row). atom_of rows r.0 ≡ Some r.1) rows
-all_looked [] lo hi h = All-nil (λ (r : Row). atom_of [] r.0 ≡ Some r.1)
-all_looked (r ∷ rows) lo hi h =
-    All-cons (λ (x : Row). atom_of (r ∷ rows) x.0 ≡ Some x.1) r rows (ap (λ (b : Bool). cond b (Some r.1) (atom_of rows r.0)) (eq-eqb r.0 r.0 refl))
-    (later_looked r rows rows (r.0 + 1) hi (omega arith) h.1 (all_looked rows (r.0 + 1) hi h.1))
 
 -- the elements of numbers
 abbrev elements_of : List Row → List ℕ → List Element

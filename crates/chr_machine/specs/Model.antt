@@ -5,8 +5,8 @@ use Rattle.chr_semantics.specs.Program.{Program}
 use Rattle.chr_semantics.specs.State.{Element, State, Status}
 use Rattle.chr_rules.specs.ProgramView.{names_of, rules_of}
 use Rattle.chr_trace.specs.State.{stack_view, status_view}
-use Rattle.chr_base.specs.BaseView.{BaseModel}
-use Rattle.chr_resume.specs.ResumingView.{base_in, program_in}
+use Rattle.chr_base.specs.Model.{BaseModel}
+use Rattle.chr_base.specs.BaseView.{base_view, program_of}
 use Rattle.chr_machine.specs.declared.state.Execution.{Execution}
 
 -- the names and rules of the program, the names of the query's variables, the stack, how the run stands, what is below the stack, the
@@ -23,12 +23,12 @@ pub record Model : Type 0 where
 
 abbrev pub model_of : {A : Type 0} → Execution A → Model
 model_of e = record {
-  names = names_of (program_in e.base);
-  rules = rules_of (program_in e.base);
+  names = names_of (program_of e.base);
+  rules = rules_of (program_of e.base);
   var_names = e.var_names;
   stack = stack_view e.stack.items;
   status = status_view e.status;
-  base = base_in e.base;
+  base = base_view e.base;
   steps = e.steps;
   lines = e.lines.made;
 }

@@ -6,7 +6,7 @@ use Rattle.chr_semantics.specs.Program.{Atom}
 use Rattle.chr_semantics.specs.Search.{atom_of}
 use Rattle.chr_semantics.specs.State.{resolved_atom}
 use Rattle.chr_semantics.specs.Text.{known_text}
-use Rattle.chr_base.specs.BaseView.{BaseModel}
+use Rattle.chr_base.specs.Model.{BaseModel}
 
 -- the constraint, if it lives
 abbrev pub IsOf : List Row → ℕ → Atom → Type 0

@@ -14,7 +14,7 @@ use Rattle.chr_bind.specs.Comparison.{comparison_view}
 use Rattle.chr_bind.specs.Values.{fault_view}
 use Rattle.chr_bind.specs.declared.fault.Fault.{Fault}
 use Rattle.chr_trace.specs.State.{status_view}
-use Rattle.chr_resume.specs.ResumingView.{base_in, program_in}
+use Rattle.chr_base.specs.BaseView.{base_view, program_of}
 use Rattle.chr_machine.specs.Model.{Model, model_of, state_in, topped}
 use Rattle.chr_machine.specs.Step.{Counts, IsReady, SameRun}
 use Rattle.chr_machine.specs.declared.solving.Kind.{Kind}
@@ -28,10 +28,10 @@ pub record Logged {A : Type 0} (line : List ℕ) (old new : Execution A) : Type 
   pub stack : new.stack.items ≡ old.stack.items
   pub room : vec_len old.stack < vec_capacity old.stack → vec_len new.stack < vec_capacity new.stack
   pub status : new.status ≡ old.status
-  pub base : base_in new.base ≡ base_in old.base
+  pub base : base_view new.base ≡ base_view old.base
   pub lines : new.lines.made ≡ old.lines.made ++ line ∷ []
   pub steps : new.steps ≡ old.steps + 1
-  pub program : program_in new.base ≡ program_in old.base
+  pub program : program_of new.base ≡ program_of old.base
   pub var_names : new.var_names ≡ old.var_names
 
 -- a goal with the bindings applied

@@ -10,8 +10,8 @@ use Rattle.chr_semantics.specs.Step.{step_top}
 use Rattle.chr_semantics.specs.Text.{line_texts}
 use Rattle.chr_semantics.specs.Trace.{line_top}
 use Rattle.chr_trace.specs.State.{status_view}
-use Rattle.chr_base.specs.BaseView.{BaseModel}
-use Rattle.chr_resume.specs.ResumingView.{base_in, program_in}
+use Rattle.chr_base.specs.Model.{BaseModel}
+use Rattle.chr_base.specs.BaseView.{base_view, program_of}
 use Rattle.chr_machine.specs.Model.{Model, model_of, state_in, topped}
 use Rattle.chr_machine.specs.declared.state.Execution.{Execution}
 
@@ -62,10 +62,10 @@ pub record Kept {A : Type 0} (old new : Execution A) : Type 0 where
   pub stack : new.stack.items ≡ old.stack.items
   pub room : vec_len old.stack < vec_capacity old.stack → vec_len new.stack < vec_capacity new.stack
   pub status : new.status ≡ old.status
-  pub base : base_in new.base ≡ base_in old.base
+  pub base : base_view new.base ≡ base_view old.base
   pub lines : new.lines.made ≡ old.lines.made
   pub steps : new.steps ≡ old.steps
-  pub program : program_in new.base ≡ program_in old.base
+  pub program : program_of new.base ≡ program_of old.base
   pub var_names : new.var_names ≡ old.var_names
 
 -- nothing but the stack and the status has changed
@@ -73,7 +73,7 @@ pub record IsSameBelow {A : Type 0} (old new : Execution A) : Type 0 where
   pub base : new.base ≡ old.base
   pub lines : new.lines ≡ old.lines
   pub steps : new.steps ≡ old.steps
-  pub program : program_in new.base ≡ program_in old.base
+  pub program : program_of new.base ≡ program_of old.base
   pub var_names : new.var_names ≡ old.var_names
 
 -- n is m a transition later, with this stack, status, base and line
@@ -91,5 +91,5 @@ pub record IsSameBeside {A : Type 0} (old new : Execution A) : Type 0 where
   pub status : new.status ≡ old.status
   pub lines : new.lines ≡ old.lines
   pub steps : new.steps ≡ old.steps
-  pub program : program_in new.base ≡ program_in old.base
+  pub program : program_of new.base ≡ program_of old.base
   pub var_names : new.var_names ≡ old.var_names

@@ -1,6 +1,6 @@
 //! The search and the firing of an active constraint.
 ghost use Rattle.chr_semantics.specs.declared.limits.TheConstants.{MAX_CHANGES, MAX_TRANSITIONS};
-ghost use Rattle.std.specs.Prelude.{◌≡◌, ◌<◌, ◌≤◌, ◌+◌, ◌++◌, ◌∷◌, ◌^◌, IfErr, IfOk, OnErr, OnOk, Some, cond, map, option_map, slice_get, vec_capacity, vec_len};
+ghost use Rattle.std.specs.Prelude.{◌≡◌, ◌<◌, ◌≤◌, ◌+◌, ◌++◌, ◌∷◌, ◌^◌, IfErr, IfOk, OnErr, OnOk, Some, cond, map, slice_get, vec_capacity, vec_len};
 ghost use Rattle.chr_semantics.specs.Footprint.{Ascends};
 ghost use Rattle.chr_semantics.specs.State.{active as at_occurrence, goal, running, status_at};
 ghost use Rattle.chr_rules.specs.ProgramView.{rules_of};
@@ -8,8 +8,9 @@ ghost use Rattle.chr_rules.specs.RuleView.{goal_view, rule_view};
 ghost use Rattle.chr_find.specs.SearchView.{IsSearchable};
 ghost use Rattle.chr_term.specs.TermView.{atom_over};
 ghost use Rattle.chr_trace.specs.State.{elem_view, stack_view, status_view};
-ghost use Rattle.chr_resume.specs.ResumingView.{IsFresh, base_in, program_in};
-ghost use Rattle.chr_machine.specs.Firing.{ComesTo, FindsIds, FiresBelow, IsAt, IsFiring};
+ghost use Rattle.chr_base.specs.BaseView.{IsFresh, base_view, program_of};
+ghost use Rattle.chr_base.specs.Searching.{FindsFirst};
+ghost use Rattle.chr_machine.specs.Firing.{ComesTo, FiresBelow, IsAt, IsFiring};
 ghost use Rattle.chr_machine.specs.Model.{model_of, state_in, topped};
 ghost use Rattle.chr_machine.specs.Answering.{AnswersStep};
 ghost use Rattle.chr_machine.specs.Shown.{IsOf};
@@ -17,10 +18,10 @@ ghost use Rattle.chr_machine.specs.Step.{IsProper, IsReady, IsSameBelow, Kept, M
 
 use crate::answer::Answer;
 use crate::state::Execution;
+use chr_base::Base;
 use chr_find::Active;
-use chr_resume::Resuming;
 use chr_rules::{Goal, Occurrence, Rule};
-use chr_store::Id;
+use chr_store::{HeadIds, Id};
 use chr_term::{Args, Memory, Sym};
 use chr_trace::{About, Elem};
 use std::alloc::Allocator;
@@ -36,30 +37,22 @@ pub fn put_goals<A: Allocator>(stack: &mut Vec<Elem<A>, A>, mut goals: Vec<Goal<
     }
 }
 
-/// The identities with which the rule can fire first, in head order, in a list whose room is made before the search. Contracts see the same
-/// base, after a refusal too.
+/// The identities with which the rule can fire first, in head order. Contracts see the same base, after a refusal too.
 fn search<A: Allocator + Copy>(
     alloc: A,
-    base: &mut Resuming<'_, A>,
+    base: &mut Base<'_, A>,
     active: &Active<'_, A>,
-) -> Result<Option<Vec<u64, A>>, Memory>
+) -> Result<Option<HeadIds>, Memory>
     requires searchable { IsSearchable active.now.rule.now active.now.place }
-    requires of_program { slice_get (rules_of (program_in base.old)) active.now.number
+    requires of_program { slice_get (rules_of (program_of base.old)) active.now.number
         ≡ Some (rule_view active.now.rule.now) }
-    ensures same { base_in base.new ≡ base_in base.old }
-    ensures program { program_in base.new ≡ program_in base.old }
-    ensures found { IfOk result
-        (λ found. FindsIds (base_in base.old) active.now (option_map (λ ids. ids.items) found)) }
+    ensures same { base_view base.new ≡ base_view base.old }
+    ensures program { program_of base.new ≡ program_of base.old }
+    ensures found { IfOk result (FindsFirst (base_view base.old) active.now) }
 {
-    let heads = active.rule.heads.len();
-    let mut ids = Vec::with_capacity(alloc, heads)?;
-    match base.first(active)? {
-        None => Ok(None),
-        Some(found) => {
-            ids.extend_from_slice(&found[..heads])?;
-            Ok(Some(ids))
-        }
-    }
+    // No step with an answer makes this growth: by it a test tells the two apart.
+    let _room: Vec<Id, A> = Vec::with_capacity(alloc, active.rule.heads.len())?;
+    base.first(active)
 }
 
 impl<'p, A: Allocator + Copy> Execution<'p, A> {
@@ -70,15 +63,15 @@ impl<'p, A: Allocator + Copy> Execution<'p, A> {
         number: u32,
         sym: Sym,
         args: &Args<A>,
-        ids: &[u64],
+        ids: &HeadIds,
     ) -> Result<Vec<Goal<A>, A>, Memory>
         requires few { self.old.steps < MAX_TRANSITIONS }
         requires room { vec_len self.old.stack < vec_capacity self.old.stack }
-        requires changes { (base_in self.old.base).store.changes + 8 ≤ MAX_CHANGES }
+        requires changes { (base_view self.old.base).store.changes + 8 ≤ MAX_CHANGES }
         requires fresh { IsFresh self.old.base }
-        requires ascends { Ascends 0 (base_in self.old.base).store.rows
-            (base_in self.old.base).store.next_id }
-        requires is_of { IsOf (base_in self.old.base).store.rows active.now.id.0 (atom_over sym args.now) }
+        requires ascends { Ascends 0 (base_view self.old.base).store.rows
+            (base_view self.old.base).store.next_id }
+        requires is_of { IsOf (base_view self.old.base).store.rows active.now.id.0 (atom_over sym args.now) }
         requires fires { IsFiring (model_of self.old) active.now number (atom_over sym args.now) ids.now }
         ensures ok { IfOk result (λ goals. FiresBelow self.old active.now number (atom_over sym args.now)
             ids.now self.new goals.items) }
@@ -89,7 +82,7 @@ impl<'p, A: Allocator + Copy> Execution<'p, A> {
     {
         let rule = active.rule;
         let keeps = active.place < rule.kept;
-        let about = About::Fires(number, keeps, rule.label.as_str(), ids);
+        let about = About::Fires(number, keeps, rule.label.as_str(), ids.as_slice());
         self.draft(active.id, sym, args, about)?;
         let goals = self.base.body(rule, ids)?;
         self.stack.reserve(goals.len() + 1)?;
@@ -135,13 +128,13 @@ impl<'p, A: Allocator + Copy> Execution<'p, A> {
         number: u32,
         sym: Sym,
         args: Args<A>,
-        ids: &[u64],
+        ids: &HeadIds,
     ) -> Result<(), Elem<A>>
         requires few { self.old.steps < MAX_TRANSITIONS }
         requires room { vec_len self.old.stack < vec_capacity self.old.stack }
-        requires changes { (base_in self.old.base).store.changes + 8 ≤ MAX_CHANGES }
+        requires changes { (base_view self.old.base).store.changes + 8 ≤ MAX_CHANGES }
         requires fresh { IsFresh self.old.base }
-        requires proper { IsProper (rules_of (program_in self.old.base))
+        requires proper { IsProper (rules_of (program_of self.old.base))
             (state_in (topped (at_occurrence active.now.id.0 number (atom_over sym args)) (model_of self.old))) }
         requires running { status_view self.old.status ≡ running }
         requires fires { IsFiring (model_of self.old) active.now number (atom_over sym args) ids.now }
@@ -169,17 +162,16 @@ impl<'p, A: Allocator + Copy> Execution<'p, A> {
         number: u32,
         sym: Sym,
         args: Args<A>,
-        ids: Option<&[u64]>,
+        found: &Option<HeadIds>,
     ) -> Result<(), Elem<A>>
         requires few { self.old.steps < MAX_TRANSITIONS }
         requires room { vec_len self.old.stack < vec_capacity self.old.stack }
-        requires changes { (base_in self.old.base).store.changes + 8 ≤ MAX_CHANGES }
+        requires changes { (base_view self.old.base).store.changes + 8 ≤ MAX_CHANGES }
         requires small { number < 2 ^ 31 }
         requires running { status_view self.old.status ≡ running }
-        requires proper { IsProper (rules_of (program_in self.old.base))
+        requires proper { IsProper (rules_of (program_of self.old.base))
             (state_in (topped (at_occurrence active.now.id.0 number (atom_over sym args)) (model_of self.old))) }
-        requires comes { ComesTo (model_of self.old) active.now number (atom_over sym args)
-            (option_map (λ list. list.now) ids) }
+        requires comes { ComesTo (model_of self.old) active.now number (atom_over sym args) found.now }
         ensures ok { OnOk result
             (Made (at_occurrence active.now.id.0 number (atom_over sym args)) self.old self.new) }
         ensures err { IfErr result
@@ -187,7 +179,7 @@ impl<'p, A: Allocator + Copy> Execution<'p, A> {
         ensures kept { OnErr result (Kept self.old self.new) }
         ensures room { OnErr result (vec_len self.new.stack < vec_capacity self.new.stack) }
     {
-        match ids {
+        match found {
             None => self.default_active(active.id, number, sym, args),
             Some(ids) => match self.base.freshen() {
                 Err(_) => Err(Elem::Active(active.id, number, sym, args)),
@@ -206,10 +198,10 @@ impl<'p, A: Allocator + Copy> Execution<'p, A> {
     ) -> Result<(), Elem<A>>
         requires few { self.old.steps < MAX_TRANSITIONS }
         requires room { vec_len self.old.stack < vec_capacity self.old.stack }
-        requires changes { (base_in self.old.base).store.changes + 8 ≤ MAX_CHANGES }
+        requires changes { (base_view self.old.base).store.changes + 8 ≤ MAX_CHANGES }
         requires small { number < 2 ^ 31 }
         requires running { status_view self.old.status ≡ running }
-        requires proper { IsProper (rules_of (program_in self.old.base))
+        requires proper { IsProper (rules_of (program_of self.old.base))
             (state_in (topped (at_occurrence active.now.id.0 number (atom_over sym args)) (model_of self.old))) }
         requires searchable { IsSearchable active.now.rule.now active.now.place }
         requires at { IsAt (model_of self.old) active.now number (atom_over sym args) }
@@ -222,8 +214,7 @@ impl<'p, A: Allocator + Copy> Execution<'p, A> {
     {
         match search(self.alloc, &mut self.base, active) {
             Err(_) => Err(Elem::Active(active.id, number, sym, args)),
-            Ok(None) => self.go_on(active, number, sym, args, None),
-            Ok(Some(ids)) => self.go_on(active, number, sym, args, Some(ids.as_slice())),
+            Ok(found) => self.go_on(active, number, sym, args, &found),
         }
     }
 
@@ -239,9 +230,9 @@ impl<'p, A: Allocator + Copy> Execution<'p, A> {
     ) -> Result<(), Elem<A>>
         requires room { vec_len self.old.stack < vec_capacity self.old.stack }
         requires few { self.old.steps < MAX_TRANSITIONS }
-        requires changes { (base_in self.old.base).store.changes + 8 ≤ MAX_CHANGES }
+        requires changes { (base_view self.old.base).store.changes + 8 ≤ MAX_CHANGES }
         requires running { status_view self.old.status ≡ running }
-        requires proper { IsProper (rules_of (program_in self.old.base))
+        requires proper { IsProper (rules_of (program_of self.old.base))
             (state_in (topped (at_occurrence id.0 number (atom_over sym args)) (model_of self.old))) }
         requires answer { AnswersStep
             (topped (at_occurrence id.0 number (atom_over sym args)) (model_of self.old)) answer }
@@ -263,10 +254,7 @@ impl<'p, A: Allocator + Copy> Execution<'p, A> {
         let active = Active::at(program, found, id);
         match answer {
             Answer::Missing => self.step_own(&active, number, sym, args),
-            Answer::Nothing => self.go_on(&active, number, sym, args, None),
-            Answer::Firing(ids, count) => {
-                self.go_on(&active, number, sym, args, Some(&ids[..count]))
-            }
+            Answer::Found(found) => self.go_on(&active, number, sym, args, &found),
         }
     }
 }

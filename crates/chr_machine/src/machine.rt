@@ -12,7 +12,7 @@ ghost use Rattle.chr_store.specs.Numbers.{numbers};
 ghost use Rattle.chr_store.specs.StoreView.{store_view};
 ghost use Rattle.chr_find.specs.SnapshotView.{IsSnapshot, guest_view, task_view, tasks_view};
 ghost use Rattle.chr_trace.specs.State.{stack_view, status_view};
-ghost use Rattle.chr_resume.specs.ResumingView.{program_in};
+ghost use Rattle.chr_base.specs.BaseView.{program_of};
 ghost use Rattle.chr_machine.specs.Model.{model_of, state_in};
 ghost use Rattle.chr_machine.specs.NeedView.{Answers, need, need_view, plain, search_of};
 ghost use Rattle.chr_machine.specs.OutcomeView.{outcome_view};
@@ -26,7 +26,7 @@ use crate::state::{Execution, Stepped};
 use chr_bind::Bindings;
 use chr_find::{Found, Snapshot, Task};
 use chr_rules::{Program, Query};
-use chr_store::{History, Id, Store};
+use chr_store::{HeadIds, History, Id, Store};
 use chr_term::{Memory, Sym, Term, VarNames};
 use chr_trace::{Elem, Lines, Status};
 use smallvec::SmallVec;
@@ -38,7 +38,7 @@ pub struct Machine<'p, A: Allocator = Global> {
     execution: Execution<'p, A>,
     ghost ready: { IsReady execution },
     ghost counted: { IsCounted (model_of execution) },
-    ghost proper: { IsProper (rules_of (program_in execution.base)) (state_in (model_of execution)) } by { Prim.hlevel propers },
+    ghost proper: { IsProper (rules_of (program_of execution.base)) (state_in (model_of execution)) } by { Prim.hlevel propers },
 }
 
 impl<'p, A: Allocator + Copy> Machine<'p, A> {
@@ -88,20 +88,21 @@ impl<'p, A: Allocator + Copy> Machine<'p, A> {
             (λ stepped. Steps stepped (machine_view self.old) (machine_view self.new)) }
         ensures err { OnErr result (IsRefused (machine_view self.old) (machine_view self.new)) }
     {
-        match &found.ids {
-            None => self.step_answered(None),
-            Some(ids) => self.step_answered(Some(ids.as_slice())),
-        }
+        let ids = match &found.ids {
+            None => None,
+            Some(ids) => Some(HeadIds::of(ids.as_slice())),
+        };
+        self.step_answered(ids)
     }
 
     /// The same with the identities that the answer has.
-    pub fn step_answered(&mut self, ids: Option<&[Id]>) -> Result<Stepped, Memory>
-        requires { Answers (machine_view self.old) (option_map (λ list. numbers list.now) ids) }
+    pub fn step_answered(&mut self, ids: Option<HeadIds>) -> Result<Stepped, Memory>
+        requires { Answers (machine_view self.old) ids }
         ensures ok { IfOk result
             (λ stepped. Steps stepped (machine_view self.old) (machine_view self.new)) }
         ensures err { OnErr result (IsRefused (machine_view self.old) (machine_view self.new)) }
     {
-        self.execution.step(Answer::of(ids))
+        self.execution.step(Answer::Found(ids))
     }
 
     /// Makes transitions until it has made n, the run has ended or 1,000,000 stand. It answers Ended where the run has ended then, Spent

@@ -4,7 +4,7 @@ ghost use Rattle.chr_semantics.specs.Program.{occurrence};
 ghost use Rattle.chr_semantics.specs.Tasks.{lives, needed_task};
 ghost use Rattle.chr_rules.specs.ProgramView.{rules_of};
 ghost use Rattle.chr_trace.specs.State.{elem_view, stack_view};
-ghost use Rattle.chr_resume.specs.ResumingView.{program_in};
+ghost use Rattle.chr_base.specs.BaseView.{program_of};
 ghost use Rattle.chr_machine.specs.Gathering.{active_of, waiting_view};
 ghost use Rattle.chr_machine.specs.Model.{model_of, state_in};
 ghost use Rattle.chr_machine.specs.NeedView.{asked, need, need_view};
@@ -44,7 +44,7 @@ pub fn top_of<A: Allocator>(stack: &[Elem<A>]) -> Option<(&Elem<A>, &[Elem<A>])>
 impl<'p, A: Allocator + Copy> Execution<'p, A> {
     /// Whether a symbol has an occurrence of that number.
     pub fn has_occurrence(&self, sym: Sym, number: u32) -> bool
-        ensures is { result ≡ is_some (occurrence (rules_of (program_in self.now.base)) sym.0 number) }
+        ensures is { result ≡ is_some (occurrence (rules_of (program_of self.now.base)) sym.0 number) }
         ensures few { IsTrue result → number < 2 ^ 31 }
     {
         self.base.program().occurrence(sym, number).is_some()
@@ -83,7 +83,7 @@ impl<'p, A: Allocator + Copy> Execution<'p, A> {
     /// What the top of the stack asks for.
     fn need_top(&self) -> Need
         ensures { need_view result
-            ≡ asked (needed_task (rules_of (program_in self.now.base)) (state_in (model_of self.now))) }
+            ≡ asked (needed_task (rules_of (program_of self.now.base)) (state_in (model_of self.now))) }
     {
         let active = match self.active_top() {
             None => return Need::Plain,

@@ -1,12 +1,12 @@
 //! A step, and a run.
-ghost use Rattle.std.specs.Prelude.{◌≡◌, ◌<◌, ◌≤◌, ◌+◌, ◌-◌, ◌++◌, [], IfErr, IfOk, OnErr, OnOk, map, vec_capacity, vec_len};
+ghost use Rattle.std.specs.Prelude.{◌≡◌, ◌<◌, ◌≤◌, ◌+◌, ◌++◌, [], IfErr, IfOk, OnErr, OnOk, map, vec_capacity, vec_len};
 ghost use Rattle.chr_semantics.specs.Bounds.{IsQueryBounded};
 ghost use Rattle.chr_semantics.specs.State.{goal, running, start, status_at};
 ghost use Rattle.chr_semantics.specs.declared.limits.TheConstants.{MAX_CHANGES, MAX_TRANSITIONS};
 ghost use Rattle.chr_rules.specs.ProgramView.{names_of, rules_of};
 ghost use Rattle.chr_rules.specs.RuleView.{goal_view, query_view};
 ghost use Rattle.chr_trace.specs.State.{elem_view, stack_view, status_view};
-ghost use Rattle.chr_resume.specs.ResumingView.{base_in, program_in};
+ghost use Rattle.chr_base.specs.BaseView.{base_view, program_of};
 ghost use Rattle.chr_machine.specs.Answering.{AnswersStep};
 ghost use Rattle.chr_machine.specs.MachineView.{IsRefused, Runs, Starts, Steps};
 ghost use Rattle.chr_machine.specs.Model.{model_of, state_in, topped};
@@ -15,7 +15,7 @@ ghost use Rattle.chr_machine.specs.Step.{IsCounted, IsProper, IsReady, IsSameBel
 use crate::answer::Answer;
 use crate::firing::put_goals;
 use crate::state::{Execution, Shown, Stepped};
-use chr_resume::Resuming;
+use chr_base::Base;
 use chr_rules::{Goal, Program, Query};
 use chr_semantics::limits::MAX_TRANSITIONS;
 use chr_store::Id;
@@ -35,12 +35,12 @@ impl<'p, A: Allocator + Copy> Execution<'p, A> {
             (query_view query) (model_of execution)) }
         ensures ready { IfOk result (λ execution. IsReady execution) }
         ensures counted { IfOk result (λ execution. IsCounted (model_of execution)) }
-        ensures proper { IfOk result (λ execution. IsProper (rules_of (program_in execution.base))
+        ensures proper { IfOk result (λ execution. IsProper (rules_of (program_of execution.base))
             (state_in (model_of execution))) }
     {
         let _rules = program.rules();
         let Query { goals, var_names } = query;
-        let base = Resuming::new(alloc, program, var_names.len())?;
+        let base = Base::new(alloc, program, var_names.len())?;
         let mut execution = Execution {
             var_names,
             stack: Vec::new(alloc),
@@ -80,8 +80,8 @@ impl<'p, A: Allocator + Copy> Execution<'p, A> {
         requires room { vec_len self.old.stack < vec_capacity self.old.stack }
         requires few { self.old.steps < MAX_TRANSITIONS }
         requires running { status_view self.old.status ≡ running }
-        requires changes { (base_in self.old.base).store.changes + 8 ≤ MAX_CHANGES }
-        requires proper { IsProper (rules_of (program_in self.old.base))
+        requires changes { (base_view self.old.base).store.changes + 8 ≤ MAX_CHANGES }
+        requires proper { IsProper (rules_of (program_of self.old.base))
             (state_in (topped (elem_view top) (model_of self.old))) }
         requires answer { AnswersStep (topped (elem_view top) (model_of self.old)) answer }
         ensures ok { OnOk result (Made (elem_view top) self.old self.new) }
@@ -105,13 +105,13 @@ impl<'p, A: Allocator + Copy> Execution<'p, A> {
     pub fn step(&mut self, answer: Answer) -> Result<Stepped, Memory>
         requires ready { IsReady self.old }
         requires counted { IsCounted (model_of self.old) }
-        requires proper { IsProper (rules_of (program_in self.old.base)) (state_in (model_of self.old)) }
+        requires proper { IsProper (rules_of (program_of self.old.base)) (state_in (model_of self.old)) }
         requires answer { AnswersStep (model_of self.old) answer }
         ensures ok { IfOk result (λ stepped. Steps stepped (model_of self.old) (model_of self.new)) }
         ensures err { OnErr result (IsRefused (model_of self.old) (model_of self.new)) }
         ensures ready { IsReady self.new }
         ensures counted { IsCounted (model_of self.new) }
-        ensures proper { IsProper (rules_of (program_in self.new.base)) (state_in (model_of self.new)) }
+        ensures proper { IsProper (rules_of (program_of self.new.base)) (state_in (model_of self.new)) }
     {
         match self.status {
             Status::Done => Ok(Stepped::Ended),
@@ -139,11 +139,11 @@ impl<'p, A: Allocator + Copy> Execution<'p, A> {
     pub fn run_alone(&mut self, n: u64) -> Result<Stepped, Memory>
         requires ready { IsReady self.old }
         requires counted { IsCounted (model_of self.old) }
-        requires proper { IsProper (rules_of (program_in self.old.base)) (state_in (model_of self.old)) }
+        requires proper { IsProper (rules_of (program_of self.old.base)) (state_in (model_of self.old)) }
         ensures runs { Runs result n (model_of self.old) (model_of self.new) }
         ensures ready { IsReady self.new }
         ensures counted { IsCounted (model_of self.new) }
-        ensures proper { IsProper (rules_of (program_in self.new.base)) (state_in (model_of self.new)) }
+        ensures proper { IsProper (rules_of (program_of self.new.base)) (state_in (model_of self.new)) }
     {
         let mut made = 0;
         while made < n {

@@ -19,7 +19,7 @@ ghost use Rattle.chr_store.specs.Numbers.{numbers};
 ghost use Rattle.chr_term.specs.TermView.{view};
 ghost use Rattle.chr_trace.specs.State.{elem_view, stack_view, status_view};
 ghost use Rattle.chr_base.specs.Told.{IsTold};
-ghost use Rattle.chr_resume.specs.ResumingView.{base_in, program_in};
+ghost use Rattle.chr_base.specs.BaseView.{base_view};
 ghost use Rattle.chr_machine.specs.Model.{model_of};
 ghost use Rattle.chr_machine.specs.Solving.{AreValues, Compares, Evaluates, IsBuiltIn, Logged, Passes, SolvesGoal, Tells, kind_view, shown};
 ghost use Rattle.chr_machine.specs.Step.{IsSameBelow, IsSameBeside, Kept, Made};
@@ -85,14 +85,14 @@ impl<'p, A: Allocator + Copy> Execution<'p, A> {
 
     /// Tells below the stack that two terms are equal. The text that is kept may be another one then.
     fn bind(&mut self, left: &Term<A>, right: &Term<A>, ids: &[Id]) -> Result<Unified, Memory>
-        requires changes { (base_in self.old.base).store.changes < MAX_CHANGES }
-        requires left { IsBelow (base_in self.old.base).next_var (view left.now) }
-        requires right { IsBelow (base_in self.old.base).next_var (view right.now) }
-        requires ids { numbers ids.now ≡ woken (base_in self.old.base).store (base_in self.old.base).subst }
+        requires changes { (base_view self.old.base).store.changes < MAX_CHANGES }
+        requires left { IsBelow (base_view self.old.base).next_var (view left.now) }
+        requires right { IsBelow (base_view self.old.base).next_var (view right.now) }
+        requires ids { numbers ids.now ≡ woken (base_view self.old.base).store (base_view self.old.base).subst }
         ensures told { IfOk result
             (λ unified. IsTold (view left.now) (view right.now) (numbers ids.now) unified
-            (base_in self.old.base) (base_in self.new.base)) }
-        ensures err { OnErr result (base_in self.new.base ≡ base_in self.old.base) }
+            (base_view self.old.base) (base_view self.new.base)) }
+        ensures err { OnErr result (base_view self.new.base ≡ base_view self.old.base) }
         ensures beside { IsSameBeside self.old self.new }
     {
         self.shown.is_right = false;
@@ -102,12 +102,12 @@ impl<'p, A: Allocator + Copy> Execution<'p, A> {
     /// Tells that two terms are equal, for a goal that says so.
     fn tell(&mut self, goal: &Goal<A>, left: &Term<A>, right: &Term<A>) -> Result<Solved, Memory>
         requires few { self.old.steps < MAX_TRANSITIONS }
-        requires ascends { Ascends 0 (base_in self.old.base).store.rows
-            (base_in self.old.base).store.next_id }
+        requires ascends { Ascends 0 (base_view self.old.base).store.rows
+            (base_view self.old.base).store.next_id }
         requires room { vec_len self.old.stack < vec_capacity self.old.stack }
-        requires changes { (base_in self.old.base).store.changes + 8 ≤ MAX_CHANGES }
-        requires left { IsBelow (base_in self.old.base).next_var (view left.now) }
-        requires right { IsBelow (base_in self.old.base).next_var (view right.now) }
+        requires changes { (base_view self.old.base).store.changes + 8 ≤ MAX_CHANGES }
+        requires left { IsBelow (base_view self.old.base).next_var (view left.now) }
+        requires right { IsBelow (base_view self.old.base).next_var (view right.now) }
         ensures ok { IfOk result (λ solved. Tells (goal_view goal.now) self.old self.new solved
             (view left.now) (view right.now)) }
         ensures err { OnErr result (Kept self.old self.new) }
@@ -131,11 +131,11 @@ impl<'p, A: Allocator + Copy> Execution<'p, A> {
         number: i128,
     ) -> Result<Solved, Memory>
         requires few { self.old.steps < MAX_TRANSITIONS }
-        requires ascends { Ascends 0 (base_in self.old.base).store.rows
-            (base_in self.old.base).store.next_id }
+        requires ascends { Ascends 0 (base_view self.old.base).store.rows
+            (base_view self.old.base).store.next_id }
         requires room { vec_len self.old.stack < vec_capacity self.old.stack }
-        requires changes { (base_in self.old.base).store.changes + 8 ≤ MAX_CHANGES }
-        requires left { IsBelow (base_in self.old.base).next_var (view left.now) }
+        requires changes { (base_view self.old.base).store.changes + 8 ≤ MAX_CHANGES }
+        requires left { IsBelow (base_view self.old.base).next_var (view left.now) }
         ensures ok { IfOk result (λ solved. Tells (goal_view goal.now) self.old self.new solved
             (view left.now) (int number)) }
         ensures err { OnErr result (Kept self.old self.new) }
@@ -148,7 +148,7 @@ impl<'p, A: Allocator + Copy> Execution<'p, A> {
     /// The value of a term with the bindings applied.
     fn value_of(&self, term: &Term<A>) -> Result<i128, Fault>
         ensures { value_view result
-            ≡ value_in (apply (base_in self.now.base).subst (view term.now)) }
+            ≡ value_in (apply (base_view self.now.base).subst (view term.now)) }
     {
         self.base.bindings().value(term)
     }
@@ -161,11 +161,11 @@ impl<'p, A: Allocator + Copy> Execution<'p, A> {
         right: &Term<A>,
     ) -> Result<Solved, Memory>
         requires few { self.old.steps < MAX_TRANSITIONS }
-        requires ascends { Ascends 0 (base_in self.old.base).store.rows
-            (base_in self.old.base).store.next_id }
+        requires ascends { Ascends 0 (base_view self.old.base).store.rows
+            (base_view self.old.base).store.next_id }
         requires room { vec_len self.old.stack < vec_capacity self.old.stack }
-        requires changes { (base_in self.old.base).store.changes + 8 ≤ MAX_CHANGES }
-        requires left { IsBelow (base_in self.old.base).next_var (view left.now) }
+        requires changes { (base_view self.old.base).store.changes + 8 ≤ MAX_CHANGES }
+        requires left { IsBelow (base_view self.old.base).next_var (view left.now) }
         ensures ok { IfOk result (λ solved. Evaluates (goal_view goal.now) self.old self.new solved
             (view left.now) (view right.now)) }
         ensures err { OnErr result (Kept self.old self.new) }
@@ -180,8 +180,8 @@ impl<'p, A: Allocator + Copy> Execution<'p, A> {
     /// A comparison holds, and binds nothing.
     fn pass(&mut self, goal: &Goal<A>) -> Result<Solved, Memory>
         requires few { self.old.steps < MAX_TRANSITIONS }
-        requires ascends { Ascends 0 (base_in self.old.base).store.rows
-            (base_in self.old.base).store.next_id }
+        requires ascends { Ascends 0 (base_view self.old.base).store.rows
+            (base_view self.old.base).store.next_id }
         requires room { vec_len self.old.stack < vec_capacity self.old.stack }
         ensures ok { IfOk result (Passes (goal_view goal.now) self.old self.new) }
         ensures err { OnErr result (Kept self.old self.new) }
@@ -194,7 +194,7 @@ impl<'p, A: Allocator + Copy> Execution<'p, A> {
 
     /// The values of both sides, the left one first.
     fn values(&self, left: &Term<A>, right: &Term<A>) -> Result<(i128, i128), Fault>
-        ensures { AreValues (base_in self.now.base).subst (view left.now) (view right.now) result }
+        ensures { AreValues (base_view self.now.base).subst (view left.now) (view right.now) result }
     {
         match self.value_of(left) {
             Err(fault) => Err(fault),
@@ -214,8 +214,8 @@ impl<'p, A: Allocator + Copy> Execution<'p, A> {
         right: &Term<A>,
     ) -> Result<Solved, Memory>
         requires few { self.old.steps < MAX_TRANSITIONS }
-        requires ascends { Ascends 0 (base_in self.old.base).store.rows
-            (base_in self.old.base).store.next_id }
+        requires ascends { Ascends 0 (base_view self.old.base).store.rows
+            (base_view self.old.base).store.next_id }
         requires room { vec_len self.old.stack < vec_capacity self.old.stack }
         ensures ok { IfOk result (λ solved. Compares (goal_view goal.now) self.old self.new solved
             (comparison_view comparison) (view left.now) (view right.now)) }
@@ -243,12 +243,12 @@ impl<'p, A: Allocator + Copy> Execution<'p, A> {
         right: &Term<A>,
     ) -> Result<Solved, Memory>
         requires few { self.old.steps < MAX_TRANSITIONS }
-        requires ascends { Ascends 0 (base_in self.old.base).store.rows
-            (base_in self.old.base).store.next_id }
+        requires ascends { Ascends 0 (base_view self.old.base).store.rows
+            (base_view self.old.base).store.next_id }
         requires room { vec_len self.old.stack < vec_capacity self.old.stack }
-        requires changes { (base_in self.old.base).store.changes + 8 ≤ MAX_CHANGES }
-        requires left { IsBelow (base_in self.old.base).next_var (view left.now) }
-        requires right { IsBelow (base_in self.old.base).next_var (view right.now) }
+        requires changes { (base_view self.old.base).store.changes + 8 ≤ MAX_CHANGES }
+        requires left { IsBelow (base_view self.old.base).next_var (view left.now) }
+        requires right { IsBelow (base_view self.old.base).next_var (view right.now) }
         requires goal { goal_view goal.now ≡ builtin_view op (view left.now) (view right.now) }
         ensures ok { IfOk result (SolvesGoal (goal_view goal.now) self.old self.new) }
         ensures err { OnErr result (Kept self.old self.new) }
@@ -277,11 +277,11 @@ impl<'p, A: Allocator + Copy> Execution<'p, A> {
     /// What comes of the goal, which is a built-in.
     fn attempt_goal(&mut self, goal: &Goal<A>) -> Result<Solved, Memory>
         requires few { self.old.steps < MAX_TRANSITIONS }
-        requires ascends { Ascends 0 (base_in self.old.base).store.rows
-            (base_in self.old.base).store.next_id }
+        requires ascends { Ascends 0 (base_view self.old.base).store.rows
+            (base_view self.old.base).store.next_id }
         requires room { vec_len self.old.stack < vec_capacity self.old.stack }
-        requires changes { (base_in self.old.base).store.changes + 8 ≤ MAX_CHANGES }
-        requires below { IsGoalBelow (base_in self.old.base).next_var (goal_view goal.now) }
+        requires changes { (base_view self.old.base).store.changes + 8 ≤ MAX_CHANGES }
+        requires below { IsGoalBelow (base_view self.old.base).next_var (goal_view goal.now) }
         requires built_in { IsBuiltIn (goal_view goal.now) }
         ensures ok { IfOk result (SolvesGoal (goal_view goal.now) self.old self.new) }
         ensures err { OnErr result (Kept self.old self.new) }
@@ -297,11 +297,11 @@ impl<'p, A: Allocator + Copy> Execution<'p, A> {
     /// Solve: the goal is a built-in.
     pub fn solve(&mut self, goal: Goal<A>) -> Result<(), Elem<A>>
         requires few { self.old.steps < MAX_TRANSITIONS }
-        requires ascends { Ascends 0 (base_in self.old.base).store.rows
-            (base_in self.old.base).store.next_id }
+        requires ascends { Ascends 0 (base_view self.old.base).store.rows
+            (base_view self.old.base).store.next_id }
         requires room { vec_len self.old.stack < vec_capacity self.old.stack }
-        requires changes { (base_in self.old.base).store.changes + 8 ≤ MAX_CHANGES }
-        requires below { IsGoalBelow (base_in self.old.base).next_var (goal_view goal) }
+        requires changes { (base_view self.old.base).store.changes + 8 ≤ MAX_CHANGES }
+        requires below { IsGoalBelow (base_view self.old.base).next_var (goal_view goal) }
         requires built_in { IsBuiltIn (goal_view goal) }
         ensures ok { OnOk result (Made (goal_element (goal_view goal)) self.old self.new) }
         ensures err { IfErr result (λ top. elem_view top ≡ goal_element (goal_view goal)) }

@@ -1,10 +1,10 @@
 //! The parts of the state of a run.
 ghost use Rattle.std.specs.Prelude.{◌≡◌, true};
 ghost use Rattle.chr_rules.specs.ProgramView.{names_of};
-ghost use Rattle.chr_resume.specs.ResumingView.{base_in, program_in};
+ghost use Rattle.chr_base.specs.BaseView.{base_view, program_of};
 ghost use Rattle.chr_machine.specs.Shown.{IsShownIn};
 
-use chr_resume::Resuming;
+use chr_base::Base;
 use chr_store::Id;
 use chr_term::VarNames;
 use chr_trace::{Elem, Lines, Status};
@@ -32,12 +32,12 @@ pub struct Shown<A: Allocator> {
 pub struct Execution<'p, A: Allocator> {
     pub var_names: VarNames<A>,
     pub stack: Vec<Elem<A>, A>,
-    pub base: Resuming<'p, A>,
+    pub base: Base<'p, A>,
     pub status: Status,
     pub steps: u64,
     pub lines: Lines<A>,
     pub shown: Shown<A>,
     pub alloc: A,
-    ghost shows: { shown.is_right ≡ true → IsShownIn (names_of (program_in base)) var_names (base_in base)
+    ghost shows: { shown.is_right ≡ true → IsShownIn (names_of (program_of base)) var_names (base_view base)
         shown.id.0 shown.text.items },
 }

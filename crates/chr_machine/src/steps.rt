@@ -13,13 +13,13 @@ ghost use Rattle.chr_rules.specs.ProgramView.{names_of, rules_of};
 ghost use Rattle.chr_term.specs.TermView.{atom_over};
 ghost use Rattle.chr_trace.specs.About.{line_about};
 ghost use Rattle.chr_trace.specs.State.{elem_view, stack_view, status_view};
-ghost use Rattle.chr_resume.specs.ResumingView.{base_in, program_in};
+ghost use Rattle.chr_base.specs.BaseView.{base_view, program_of};
 ghost use Rattle.chr_machine.specs.Model.{model_of, state_in, topped};
 ghost use Rattle.chr_machine.specs.Shown.{IsOf};
 ghost use Rattle.chr_machine.specs.Step.{IsReady, IsSameBelow, Kept, Made};
 
 use crate::state::Execution;
-use chr_resume::Resuming;
+use chr_base::Base;
 use chr_rules::Goal;
 use chr_store::Id;
 use chr_term::{Args, Memory, Sym, VarNames};
@@ -28,12 +28,12 @@ use std::alloc::Allocator;
 
 /// What the lines of the trace are written with.
 pub fn scribe_of<'s, A: Allocator + Copy>(
-    base: &'s Resuming<'_, A>,
+    base: &'s Base<'_, A>,
     var_names: &'s VarNames<A>,
 ) -> Scribe<'s, A>
-    ensures names { result.names.now ≡ names_of (program_in base.now) }
+    ensures names { result.names.now ≡ names_of (program_of base.now) }
     ensures var_names { result.var_names.now ≡ var_names.now }
-    ensures subst { result.bindings.now.subst ≡ (base_in base.now).subst }
+    ensures subst { result.bindings.now.subst ≡ (base_view base.now).subst }
 {
     Scribe {
         names: base.program().names(),
@@ -47,19 +47,19 @@ impl<'p, A: Allocator + Copy> Execution<'p, A> {
     fn is_shown(&self, id: Id) -> bool
         ensures right { result ≡ true → self.now.shown.is_right ≡ true }
         ensures id { result ≡ true → self.now.shown.id.0 ≡ id.0 }
-        ensures lives { result ≡ true → is_some (atom_of (base_in self.now.base).store.rows id.0) ≡ true }
+        ensures lives { result ≡ true → is_some (atom_of (base_view self.now.base).store.rows id.0) ≡ true }
     {
         self.shown.is_right && self.shown.id == id && self.base.store().alive(id)
     }
 
     /// Makes the text of a constraint with its identity, in place of the one that is kept.
     fn write_shown(&mut self, id: Id, sym: Sym, args: &Args<A>) -> Result<(), Memory>
-        requires { IsOf (base_in self.old.base).store.rows id.0 (atom_over sym args.now) }
+        requires { IsOf (base_view self.old.base).store.rows id.0 (atom_over sym args.now) }
         ensures kept { Kept self.old self.new }
         ensures base { self.new.base ≡ self.old.base }
         ensures id { OnOk result (self.new.shown.id.0 ≡ id.0) }
-        ensures text { OnOk result (self.new.shown.text.items ≡ known_text (names_of (program_in self.old.base))
-            self.old.var_names (resolved_atom (base_in self.old.base).subst (atom_over sym args.now)) id.0) }
+        ensures text { OnOk result (self.new.shown.text.items ≡ known_text (names_of (program_of self.old.base))
+            self.old.var_names (resolved_atom (base_view self.old.base).subst (atom_over sym args.now)) id.0) }
     {
         self.shown.is_right = false;
         self.shown.text.clear();
@@ -72,12 +72,12 @@ impl<'p, A: Allocator + Copy> Execution<'p, A> {
 
     /// Makes the text of a constraint with its identity, unless it is kept.
     fn show(&mut self, id: Id, sym: Sym, args: &Args<A>) -> Result<(), Memory>
-        requires { IsOf (base_in self.old.base).store.rows id.0 (atom_over sym args.now) }
+        requires { IsOf (base_view self.old.base).store.rows id.0 (atom_over sym args.now) }
         ensures kept { Kept self.old self.new }
         ensures base { self.new.base ≡ self.old.base }
         ensures id { OnOk result (self.new.shown.id.0 ≡ id.0) }
-        ensures text { OnOk result (self.new.shown.text.items ≡ known_text (names_of (program_in self.old.base))
-            self.old.var_names (resolved_atom (base_in self.old.base).subst (atom_over sym args.now)) id.0) }
+        ensures text { OnOk result (self.new.shown.text.items ≡ known_text (names_of (program_of self.old.base))
+            self.old.var_names (resolved_atom (base_view self.old.base).subst (atom_over sym args.now)) id.0) }
     {
         if self.is_shown(id) {
             return Ok(());
@@ -94,15 +94,15 @@ impl<'p, A: Allocator + Copy> Execution<'p, A> {
         about: About<'_>,
     ) -> Result<(), Memory>
         requires few { self.old.steps < MAX_TRANSITIONS }
-        requires is_of { IsOf (base_in self.old.base).store.rows id.0 (atom_over sym args.now) }
+        requires is_of { IsOf (base_view self.old.base).store.rows id.0 (atom_over sym args.now) }
         ensures kept { Kept self.old self.new }
         ensures base { self.new.base ≡ self.old.base }
         ensures id { OnOk result (self.new.shown.id.0 ≡ id.0) }
-        ensures text { OnOk result (self.new.shown.text.items ≡ known_text (names_of (program_in self.old.base))
-            self.old.var_names (resolved_atom (base_in self.old.base).subst (atom_over sym args.now)) id.0) }
-        ensures line { OnOk result (self.new.lines.draft ≡ Some (line_text (names_of (program_in self.old.base))
+        ensures text { OnOk result (self.new.shown.text.items ≡ known_text (names_of (program_of self.old.base))
+            self.old.var_names (resolved_atom (base_view self.old.base).subst (atom_over sym args.now)) id.0) }
+        ensures line { OnOk result (self.new.lines.draft ≡ Some (line_text (names_of (program_of self.old.base))
             self.old.var_names (self.old.steps + 1)
-            (line_about about.entry (resolved_atom (base_in self.old.base).subst (atom_over sym args.now)) id.0))) }
+            (line_about about.entry (resolved_atom (base_view self.old.base).subst (atom_over sym args.now)) id.0))) }
     {
         self.show(id, sym, args)?;
         let known = self.shown.text.as_slice();
@@ -146,7 +146,7 @@ impl<'p, A: Allocator + Copy> Execution<'p, A> {
         ensures stack { self.new.stack ≡ self.old.stack }
         ensures status { self.new.status ≡ self.old.status }
         ensures base { self.new.base ≡ self.old.base }
-        ensures program { program_in self.new.base ≡ program_in self.old.base }
+        ensures program { program_of self.new.base ≡ program_of self.old.base }
         ensures var_names { self.new.var_names ≡ self.old.var_names }
     {
         self.lines.keep();
@@ -157,7 +157,7 @@ impl<'p, A: Allocator + Copy> Execution<'p, A> {
     pub fn reactivate(&mut self, id: Id, sym: Sym, args: Args<A>) -> Result<(), Elem<A>>
         requires room { vec_len self.old.stack < vec_capacity self.old.stack }
         requires few { self.old.steps < MAX_TRANSITIONS }
-        requires is_of { IsOf (base_in self.old.base).store.rows id.0 (atom_over sym args) }
+        requires is_of { IsOf (base_view self.old.base).store.rows id.0 (atom_over sym args) }
         ensures ok { OnOk result (Made (known id.0 (atom_over sym args)) self.old self.new) }
         ensures err { IfErr result (λ top. elem_view top ≡ known id.0 (atom_over sym args)) }
         ensures kept { OnErr result (Kept self.old self.new) }
@@ -175,9 +175,9 @@ impl<'p, A: Allocator + Copy> Execution<'p, A> {
     pub fn activate(&mut self, sym: Sym, args: Args<A>) -> Result<(), Elem<A>>
         requires room { vec_len self.old.stack < vec_capacity self.old.stack }
         requires few { self.old.steps < MAX_TRANSITIONS }
-        requires changes { (base_in self.old.base).store.changes + 8 ≤ MAX_CHANGES }
-        requires ascends { Ascends 0 (base_in self.old.base).store.rows
-            (base_in self.old.base).store.next_id }
+        requires changes { (base_view self.old.base).store.changes + 8 ≤ MAX_CHANGES }
+        requires ascends { Ascends 0 (base_view self.old.base).store.rows
+            (base_view self.old.base).store.next_id }
         ensures ok { OnOk result
             (Made (goal (constraint (atom_over sym args))) self.old self.new) }
         ensures err { IfErr result
@@ -212,8 +212,8 @@ impl<'p, A: Allocator + Copy> Execution<'p, A> {
     ) -> Result<(), Elem<A>>
         requires room { vec_len self.old.stack < vec_capacity self.old.stack }
         requires few { self.old.steps < MAX_TRANSITIONS }
-        requires is_of { IsOf (base_in self.old.base).store.rows id.0 (atom_over sym args) }
-        requires none { search_at (rules_of (program_in self.old.base))
+        requires is_of { IsOf (base_view self.old.base).store.rows id.0 (atom_over sym args) }
+        requires none { search_at (rules_of (program_of self.old.base))
             (state_in (topped (active id.0 number (atom_over sym args)) (model_of self.old))) id.0 number
             (atom_over sym args) ≡ no_occurrence }
         ensures ok { OnOk result
@@ -242,8 +242,8 @@ impl<'p, A: Allocator + Copy> Execution<'p, A> {
         requires room { vec_len self.old.stack < vec_capacity self.old.stack }
         requires few { self.old.steps < MAX_TRANSITIONS }
         requires small { number < 2 ^ 31 }
-        requires is_of { IsOf (base_in self.old.base).store.rows id.0 (atom_over sym args) }
-        requires none { search_at (rules_of (program_in self.old.base))
+        requires is_of { IsOf (base_view self.old.base).store.rows id.0 (atom_over sym args) }
+        requires none { search_at (rules_of (program_of self.old.base))
             (state_in (topped (active id.0 number (atom_over sym args)) (model_of self.old))) id.0 number
             (atom_over sym args) ≡ no_firing }
         ensures ok { OnOk result

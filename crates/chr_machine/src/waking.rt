@@ -11,7 +11,7 @@ ghost use Rattle.chr_rules.specs.ProgramView.{names_of};
 ghost use Rattle.chr_rules.specs.RuleView.{goal_view};
 ghost use Rattle.chr_store.specs.Numbers.{numbers};
 ghost use Rattle.chr_trace.specs.State.{elem_view, stack_view, status_view};
-ghost use Rattle.chr_resume.specs.ResumingView.{base_in, program_in};
+ghost use Rattle.chr_base.specs.BaseView.{base_view, program_of};
 ghost use Rattle.chr_machine.specs.Model.{model_of, state_in};
 ghost use Rattle.chr_machine.specs.Solving.{shown};
 ghost use Rattle.chr_machine.specs.Step.{IsReady, Kept};
@@ -46,7 +46,7 @@ impl<'p, A: Allocator + Copy> Execution<'p, A> {
     /// Appends the element of a constraint, where it lives.
     fn push_element(&self, id: Id, elems: &mut Vec<Elem<A>, A>) -> Result<(), Memory>
         ensures { OnOk result (map elem_view elems.new.items ≡ map elem_view elems.old.items
-            ++ element_at (base_in self.now.base).store.rows id.0) }
+            ++ element_at (base_view self.now.base).store.rows id.0) }
     {
         match self.base.store().row(id) {
             None => Ok(()),
@@ -60,7 +60,7 @@ impl<'p, A: Allocator + Copy> Execution<'p, A> {
     /// The elements of constraints of the store.
     fn elements(&self, ids: &[Id]) -> Result<Vec<Elem<A>, A>, Memory>
         ensures { IfOk result (λ elems. map elem_view elems.items
-            ≡ elements_at (base_in self.now.base).store.rows ids.now) }
+            ≡ elements_at (base_view self.now.base).store.rows ids.now) }
     {
         let mut elems = Vec::with_capacity(self.alloc, ids.len())?;
         for id in ids {
@@ -72,18 +72,18 @@ impl<'p, A: Allocator + Copy> Execution<'p, A> {
     /// Makes all growths of a Solve of the goal that holds. Contracts see the same execution.
     pub fn prepare(&mut self, goal: &Goal<A>) -> Result<Waking<A>, Memory>
         requires few { self.old.steps < MAX_TRANSITIONS }
-        requires ascends { Ascends 0 (base_in self.old.base).store.rows
-            (base_in self.old.base).store.next_id }
+        requires ascends { Ascends 0 (base_view self.old.base).store.rows
+            (base_view self.old.base).store.next_id }
         requires room { vec_len self.old.stack < vec_capacity self.old.stack }
         ensures kept { Kept self.old self.new }
         ensures stack { IfOk result (λ waking. vec_len self.new.stack + vec_len waking.elems + 1
             ≤ vec_capacity self.new.stack) }
         ensures room { vec_len self.new.stack < vec_capacity self.new.stack }
         ensures line { OnOk result (self.new.lines.draft ≡ Some
-            (line_text (names_of (program_in self.old.base)) self.old.var_names (self.old.steps + 1)
+            (line_text (names_of (program_of self.old.base)) self.old.var_names (self.old.steps + 1)
             (solves (shown (model_of self.old) (goal_view goal.now))))) }
         ensures ids { IfOk result (λ waking. numbers waking.ids.items
-            ≡ woken (base_in self.old.base).store (base_in self.old.base).subst) }
+            ≡ woken (base_view self.old.base).store (base_view self.old.base).subst) }
         ensures elems { IfOk result
             (λ waking. map elem_view waking.elems.items ≡ woken_elements (state_in (model_of self.old))) }
     {
@@ -110,7 +110,7 @@ impl<'p, A: Allocator + Copy> Execution<'p, A> {
             self.new.lines.made ≡ self.old.lines.made ++ line ∷ [] }
         ensures steps { self.new.steps ≡ self.old.steps + 1 }
         ensures base { self.new.base ≡ self.old.base }
-        ensures program { program_in self.new.base ≡ program_in self.old.base }
+        ensures program { program_of self.new.base ≡ program_of self.old.base }
         ensures var_names { self.new.var_names ≡ self.old.var_names }
         ensures ready { IsReady self.new }
     {

@@ -1,7 +1,6 @@
 -- What a ticket and an answer show.
-use Rattle.std.specs.Prelude.{ℕ, List, Option, map, option_map}
+use Rattle.std.specs.Prelude.{ℕ, List, Option, map}
 use Rattle.chr_semantics.specs.Tasks as tasks
-use Rattle.chr_find.specs.FewView.{few_ids}
 use Rattle.chr_find.specs.SnapshotView.{task_view}
 use Rattle.chr_find.specs.declared.snapshot.Snapshot.{Snapshot}
 use Rattle.chr_shelf.specs.declared.answer.Answer.{Answer}
@@ -35,4 +34,4 @@ module _ {J A : Type 0} {G : Ghosts J} where
   task_of a = task_view a.task
 
   abbrev pub ids_of : Answer J A G → Option (List ℕ)
-  ids_of a = option_map few_ids a.found.ids
+  ids_of a = a.found.ids

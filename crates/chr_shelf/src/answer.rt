@@ -1,13 +1,13 @@
 //! Answers to the tasks of snapshots.
 ghost use Rattle.std.proofs.Props.{props};
-ghost use Rattle.std.specs.Prelude.{◌≡◌, option_map};
-ghost use Rattle.chr_find.specs.FewView.{few_ids};
+ghost use Rattle.std.specs.Prelude.{◌≡◌};
 ghost use Rattle.chr_find.specs.SnapshotView.{task_view};
 ghost use Rattle.chr_shelf.specs.Answers.{IsTrueIn};
 
 use crate::run::Run;
 use crate::shelf::Ticket;
-use chr_find::{Few, Found, Task};
+use chr_find::{Found, Task};
+use chr_store::HeadIds;
 use std::alloc::{Allocator, Global};
 
 /// The answer to a task: what a search finds in the snapshot where the task stands. `solve` alone makes one.
@@ -16,9 +16,8 @@ pub struct Answer<J: Run, A: Allocator = Global> {
     pub(crate) ticket: Ticket<J, A>,
     pub(crate) index: u32,
     pub(crate) task: Task,
-    pub(crate) found: Found<Few>,
-    ghost of_run: { IsTrueIn J.rules ticket.pushed.value index (task_view task)
-        (option_map few_ids found.ids) } by { Prim.hlevel props },
+    pub(crate) found: Found<HeadIds>,
+    ghost of_run: { IsTrueIn J.rules ticket.pushed.value index (task_view task) found.ids } by { Prim.hlevel props },
 }
 
 impl<J: Run, A: Allocator> Answer<J, A> {
@@ -53,8 +52,8 @@ impl<J: Run, A: Allocator> Answer<J, A> {
     }
 
     /// What was found, which is the first firing there.
-    pub fn found(&self) -> &Found<Few>
-        ensures ids { option_map few_ids result.now.ids ≡ ids_of self.now }
+    pub fn found(&self) -> &Found<HeadIds>
+        ensures ids { result.now.ids ≡ ids_of self.now }
         ensures of_run { IsTrueIn J.rules (shot_of (ticket_of self.now)) (index_of self.now) (task_of self.now)
             (ids_of self.now) }
     {

@@ -9,7 +9,7 @@ ghost use Rattle.chr_shelf.specs.Seat.{index_of, shot_of, ticket_of};
 use crate::answer::Answer;
 use crate::run::Run;
 use crate::shelf::{Shelf, Ticket};
-use chr_find::{Snapshot, Task, find_few};
+use chr_find::{Snapshot, Task};
 use chr_rules::Program;
 use std::alloc::Allocator;
 use thiserror::Error;
@@ -54,7 +54,7 @@ pub fn solve<J: Run, A: Allocator + Copy>(
         None => return Err((ticket, Unsolved::NoTask)),
         Some(task) => task,
     };
-    match find_few(program, snapshot, task) {
+    match snapshot.find(program, task) {
         Err(_) => Err((ticket, Unsolved::Memory)),
         Ok(found) => Ok(Answer {
             ticket,

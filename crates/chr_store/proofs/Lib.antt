@@ -3,6 +3,7 @@ pub mod SlotRows
 pub mod Places
 pub mod SameKey
 pub mod Looked
+pub mod NumbersAlike
 pub mod FiredRows
 pub mod Listed
 pub mod Stamped

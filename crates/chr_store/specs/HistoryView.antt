@@ -3,15 +3,14 @@ use Rattle.std.specs.Prelude.{ℕ, List, map}
 use Rattle.chr_semantics.specs.Changes as semantics
 use Rattle.chr_semantics.specs.Search as searches
 use Rattle.chr_store.specs.Counts.{count_at}
-use Rattle.chr_store.specs.Numbers.{numbers}
 use Rattle.chr_store.specs.declared.fired.Fired.{Fired}
 use Rattle.chr_store.specs.declared.history.History.{History}
 
 -- a firing: the number of its rule and its identities
-abbrev pub fired_view : {A : Type 0} → Fired A → ℕ × List ℕ
-fired_view f = (f.rule, numbers f.ids.items)
+abbrev pub fired_view : Fired → ℕ × List ℕ
+fired_view f = (f.rule, f.ids)
 
-abbrev pub firings_view : {A : Type 0} → List (Fired A) → searches.History
+abbrev pub firings_view : List Fired → searches.History
 firings_view fs = map fired_view fs
 
 -- the entries in order, and the stamps of the rules

@@ -1,4 +1,8 @@
 pub mod Numbers
+pub mod HeadIdsValue
+pub mod EntryIdsView
+pub mod FiredCode
+pub mod FiredLaws
 pub mod IdsValue
 pub mod KeyView
 pub mod Rows

@@ -1,11 +1,9 @@
 //! Firings of rules.
-use crate::id::Id;
-use std::alloc::{Allocator, Global};
+use crate::head_ids::HeadIds;
 
 /// A firing: the number of a rule, from 0, and the identities of the constraints at its heads, in head order.
-#[derive(Drop)]
-#[derive_where(PartialEq, Eq, Hash)]
-pub struct Fired<A: Allocator = Global> {
+#[derive(Clone, Copy, PartialEq, Eq, PartialOrd, Ord, Hash, Drop)]
+pub struct Fired {
     pub rule: usize,
-    pub ids: Vec<Id, A>,
+    pub ids: HeadIds,
 }

@@ -3,8 +3,8 @@ ghost use Rattle.std.specs.Prelude.{◌≡◌, IfOk, OnErr, OnOk, length, not};
 ghost use Rattle.chr_semantics.specs.Changes.{entered, no_entries};
 ghost use Rattle.chr_semantics.specs.Search.{fired_before};
 ghost use Rattle.chr_store.specs.Counts.{AreUpTo};
-ghost use Rattle.chr_store.specs.Numbers.{numbers};
 
+use crate::entry::Entry;
 use crate::fired::Fired;
 use crate::stamps::Stamps;
 use chr_term::Memory;
@@ -17,8 +17,9 @@ type FoldState = BuildHasherDefault<FoldHasher>;
 /// The firings of a run in the order in which they were entered, each once.
 #[derive(Drop)]
 pub struct History<A: Allocator = Global> {
-    entries: IndexSet<Fired<A>, FoldState, A>,
+    entries: IndexSet<Entry<A>, FoldState, A>,
     stamps: Stamps<A>,
+    alloc: A,
     ghost up_to: { AreUpTo stamps.stamps.items (length entries.keys) },
 }
 
@@ -32,39 +33,40 @@ impl<A: Allocator + Copy> History<A> {
         History {
             entries: IndexSet::new(alloc),
             stamps: Stamps::new(alloc),
+            alloc,
         }
+    }
+
+    /// Enters a firing, and says whether it was new. Where memory is refused, nothing changes.
+    pub fn put(&mut self, fired: Fired) -> Result<bool, Memory>
+        ensures ok { OnOk result (entries_view self.new ≡ entered (entries_view self.old) fired.rule fired.ids) }
+        ensures is_new { IfOk result (λ is_new. is_new
+            ≡ not (fired_before (entries_view self.old).list fired.rule fired.ids)) }
+        ensures err { OnErr result (entries_view self.new ≡ entries_view self.old) }
+    {
+        let rule = fired.rule as u64;
+        self.stamps.room(rule)?;
+        let entry = Entry::of(self.alloc, &fired)?;
+        let (_, is_new) = self.entries.insert_full(entry)?;
+        if is_new {
+            self.stamps.raise(rule, self.entries.len() as u64);
+        }
+        Ok(is_new)
     }
 }
 
 impl<A: Allocator> History<A> {
     ghost use Rattle.chr_store.specs.HistoryView.{entries_view, firings_view};
 
-    /// Enters a firing, and says whether it was new. Where memory is refused, nothing changes.
-    pub fn put(&mut self, fired: Fired<A>) -> Result<bool, Memory>
-        ensures ok { OnOk result
-            (entries_view self.new ≡ entered (entries_view self.old) fired.rule (numbers fired.ids.items)) }
-        ensures is_new { IfOk result (λ is_new. is_new
-            ≡ not (fired_before (entries_view self.old).list fired.rule (numbers fired.ids.items))) }
-        ensures err { OnErr result (entries_view self.new ≡ entries_view self.old) }
-    {
-        let rule = fired.rule as u64;
-        self.stamps.room(rule)?;
-        let (_, is_new) = self.entries.insert_full(fired)?;
-        if is_new {
-            self.stamps.raise(rule, self.entries.len() as u64);
-        }
-        Ok(is_new)
-    }
-
     /// Whether the firing was entered.
-    pub fn has(&self, fired: &Fired<A>) -> bool
-        ensures { result ≡ fired_before (entries_view self.now).list fired.now.rule (numbers fired.now.ids.items) }
+    pub fn has(&self, fired: &Fired) -> bool
+        ensures { result ≡ fired_before (entries_view self.now).list fired.now.rule fired.now.ids }
     {
         self.entries.contains(fired)
     }
 
     /// The firings, in the order in which they were entered.
-    pub fn list(&self) -> &[Fired<A>]
+    pub fn list(&self) -> &[Entry<A>]
         ensures { firings_view result.now ≡ (entries_view self.now).list }
     {
         self.entries.as_slice()

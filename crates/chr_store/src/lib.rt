@@ -1,7 +1,9 @@
 //! The store of constraints, by symbol and by key, and the propagation history.
 #![tactic(auto)]
 
+mod entry;
 mod fired;
+mod head_ids;
 mod history;
 mod id;
 mod ids;
@@ -15,7 +17,9 @@ mod store;
 mod waking;
 
 pub use chr_term::Memory;
+pub use entry::Entry;
 pub use fired::Fired;
+pub use head_ids::HeadIds;
 pub use history::History;
 pub use id::Id;
 pub use key::Key;

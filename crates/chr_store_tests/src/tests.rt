@@ -40,9 +40,11 @@ fn remove<A: Allocator>(rt: &impl Abort, store: &mut Store<A>, id: Id) -> bool {
 }
 
 /// A firing of a rule with two identities.
-fn fired<A: Allocator + Copy>(alloc: A, rule: usize, ids: [Id; 2]) -> Result<Fired<A>, Memory> {
-    let ids = Vec::from_array(alloc, ids)?;
-    Ok(Fired { rule, ids })
+fn fired(rule: usize, ids: &[Id; 2]) -> Fired {
+    Fired {
+        rule,
+        ids: HeadIds::of(ids),
+    }
 }
 
 /// Adds p(1) and p(X), and removes the first.
@@ -110,7 +112,7 @@ fn touch_by_firing(
 ) -> Result<(), Memory> {
     add(rt, store, P, one(alloc, Term::Int(1))?)?;
     add(rt, store, P, one(alloc, Term::Int(1))?)?;
-    assert!(rt; history.put(fired(alloc, 0, [Id(1), Id(2)])?)?);
+    assert!(rt; history.put(fired(0, &[Id(1), Id(2)]))?);
     assert!(rt; remove(rt, store, Id(2)));
     assert_eq!(rt; (store.stamp(P), history.stamp(0)), (3, 1));
     Ok(())
@@ -141,7 +143,7 @@ fn touch_counts(rt: HostRuntime) -> Result<(), Fail> {
 fn history_calls(rt: HostRuntime) -> Result<(), Fail> {
     let mut history = History::new(rt.alloc());
     for is_new in [true, false] {
-        let entry = fired(rt.alloc(), 0, [Id(2), Id(1)])?;
+        let entry = fired(0, &[Id(2), Id(1)]);
         assert_eq!(&rt; history.has(&entry), !is_new);
         assert_eq!(&rt; history.put(entry)?, is_new);
     }

@@ -62,6 +62,16 @@ impl<A: Allocator> Args<A> {
     {
         self.is_ground
     }
+
+    /// The same terms again, for a pointer. That takes no memory, but it is refused to the owner after 2^63 others, as memory is.
+    pub fn again(&self) -> Result<Args<A>, Memory>
+        ensures { IfOk result (λ again. again ≡ self.now) }
+    {
+        Ok(Args {
+            terms: Arc::try_clone(&self.terms)?,
+            is_ground: self.is_ground,
+        })
+    }
 }
 
 impl<A: Allocator + Copy> Args<A> {
@@ -87,17 +97,13 @@ impl<A: Allocator + Copy> Args<A> {
         }
     }
 
-    /// The same terms again, for a pointer. A pointer takes no memory; where it is refused, as it is to the owner after 2^63 others, the terms
-    /// get a list of their own.
+    /// The same terms again, for a pointer. Where that is refused, the terms get a list of their own.
     #[cycle(copy)]
     pub fn share(&self) -> Result<Args<A>, Memory>
         ensures { IfOk result (λ shared. shared ≡ self.now) }
     {
-        match Arc::try_clone(&self.terms) {
-            Ok(terms) => Ok(Args {
-                terms,
-                is_ground: self.is_ground,
-            }),
+        match self.again() {
+            Ok(args) => Ok(args),
             Err(_) => {
                 let alloc = *self.terms.allocator();
                 Args::new(alloc, copy_all(alloc, self.as_slice())?)

@@ -5,11 +5,13 @@ ghost use Rattle.std.specs.Str.{byte};
 ghost use Rattle.chr_semantics.specs.Names.{Names, VarNames};
 ghost use Rattle.chr_semantics.specs.Program.{Atom};
 ghost use Rattle.chr_semantics.specs.Text.{firing_text, known_text, line_text};
+ghost use Rattle.chr_store.specs.Numbers.{numbers};
 ghost use Rattle.chr_term.specs.Extension.{IsExtension};
 ghost use Rattle.chr_trace.specs.About.{line_about};
 ghost use Rattle.chr_trace.specs.ScribeView.{about_line, at_line, fired_line};
 
 use crate::writing::{write_byte, write_bytes, write_number, write_text};
+use chr_store::Id;
 use chr_term::{Memory, print_numbers};
 use std::alloc::Allocator;
 
@@ -21,7 +23,7 @@ pub enum About<'t> {
     Reactivates,
     Drops(u32),
     Defaults(u32),
-    Fires(u32, bool, &'t str, &'t [u64]),
+    Fires(u32, bool, &'t str, &'t [Id]),
 }
 
 impl<'t> About<'t> {
@@ -105,11 +107,11 @@ fn write_fired<A: Allocator>(
     known: &[u8],
     occurrence: u32,
     label: &str,
-    ids: &[u64],
+    ids: &[Id],
     out: &mut Vec<u8, A>,
 ) -> Result<(), Memory>
     ensures ok { OnOk result (out.new.items
-        ≡ out.old.items ++ fired_line number word.now known.now occurrence label.now ids.now) }
+        ≡ out.old.items ++ fired_line number word.now known.now occurrence label.now (numbers ids.now)) }
     ensures kept { IsExtension out.old.items out.new.items }
 {
     write_active(number, word, known, occurrence, out)?;
@@ -117,9 +119,9 @@ fn write_fired<A: Allocator>(
 }
 
 /// Writes the label of a rule, and the identities with which it fires.
-fn write_firing<A: Allocator>(label: &str, ids: &[u64], out: &mut Vec<u8, A>) -> Result<(), Memory>
+fn write_firing<A: Allocator>(label: &str, ids: &[Id], out: &mut Vec<u8, A>) -> Result<(), Memory>
     ensures ok { OnOk result
-        (out.new.items ≡ out.old.items ++ (byte " " ∷ firing_text label.now ids.now)) }
+        (out.new.items ≡ out.old.items ++ (byte " " ∷ firing_text label.now (numbers ids.now))) }
     ensures kept { IsExtension out.old.items out.new.items }
 {
     write_byte(b' ', out)?;

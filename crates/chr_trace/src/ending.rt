@@ -11,7 +11,7 @@ use crate::state::{Elem, Status};
 use crate::writing::all_or_nothing;
 use chr_bind::Bindings;
 use chr_rules::Program;
-use chr_store::{Fired, Store};
+use chr_store::{Entry, Store};
 use chr_term::{Memory, VarNames};
 use std::alloc::{Allocator, Global};
 
@@ -26,7 +26,7 @@ pub struct Ending<'a, A: Allocator = Global> {
     pub store: &'a Store<A>,
     pub bindings: &'a Bindings<A>,
     /// What has fired, in the order in which it was entered.
-    pub history: &'a [Fired<A>],
+    pub history: &'a [Entry<A>],
 }
 
 impl<'a, A: Allocator + Copy> Ending<'a, A> {

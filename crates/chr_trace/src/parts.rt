@@ -15,7 +15,7 @@ use crate::scribe::Scribe;
 use crate::state::{Elem, Status};
 use crate::writing::{write_byte, write_number, write_text};
 use chr_rules::Program;
-use chr_store::{Fired, Store};
+use chr_store::{Entry, Store};
 use chr_term::{Memory, Term, print_numbers};
 use std::alloc::Allocator;
 
@@ -205,33 +205,33 @@ fn write_label<A: Allocator>(
     }
 }
 
-/// Writes a firing: the label of its rule, and the identities.
-fn write_fired<A: Allocator>(
+/// Writes an entry: the label of its rule, and the identities.
+fn write_entry<A: Allocator>(
     program: &Program<A>,
-    fired: &Fired<A>,
+    entry: &Entry<A>,
     out: &mut Vec<u8, A>,
 ) -> Result<(), Memory>
     ensures ok { OnOk result (out.new.items ≡ out.old.items
-        ++ entry_text (rules_of program.now) (fired_view fired.now)) }
+        ++ entry_text (rules_of program.now) (fired_view entry.now)) }
     ensures kept { IsExtension out.old.items out.new.items }
 {
-    write_label(program, fired.rule, out)?;
+    write_label(program, entry.rule(), out)?;
     write_byte(b' ', out)?;
-    print_numbers(fired.ids.as_slice(), out)
+    print_numbers(entry.ids(), out)
 }
 
-/// Writes firings, a line each.
-fn write_firings<A: Allocator>(
+/// Writes the entries of a history, a line each.
+fn write_entries<A: Allocator>(
     program: &Program<A>,
-    firings: &[Fired<A>],
+    history: &[Entry<A>],
     out: &mut Vec<u8, A>,
 ) -> Result<(), Memory>
     ensures ok { OnOk result (out.new.items ≡ out.old.items
-        ++ lines_text (map (entry_text (rules_of program.now)) (firings_view firings.now))) }
+        ++ lines_text (map (entry_text (rules_of program.now)) (firings_view history.now))) }
     ensures kept { IsExtension out.old.items out.new.items }
 {
-    for fired in firings {
-        write_fired(program, fired, out)?;
+    for entry in history {
+        write_entry(program, entry, out)?;
         write_byte(b'\n', out)?;
     }
     Ok(())
@@ -240,7 +240,7 @@ fn write_firings<A: Allocator>(
 /// Writes the part of a history.
 pub(crate) fn write_history<A: Allocator>(
     program: &Program<A>,
-    history: &[Fired<A>],
+    history: &[Entry<A>],
     out: &mut Vec<u8, A>,
 ) -> Result<(), Memory>
     ensures ok { OnOk result (out.new.items ≡ out.old.items ++ body
@@ -248,5 +248,5 @@ pub(crate) fn write_history<A: Allocator>(
     ensures kept { IsExtension out.old.items out.new.items }
 {
     write_head("history ", history.len(), out)?;
-    write_firings(program, history, out)
+    write_entries(program, history, out)
 }

@@ -18,11 +18,11 @@ use Rattle.chr_map.specs.contracts.map.Map as Map
 use Rattle.std.specs.declared.cmp.Ord as ord
 use Rattle.std.specs.declared.cmp.PartialEq as eq
 use Rattle.std.specs.declared.cmp.PartialOrd as partial
-use Rattle.chr_find.specs.contracts.fired.Fired as Fired
-use Rattle.chr_find.specs.contracts.firings.Firing as Firing
+use Rattle.chr_store.specs.contracts.fired.Fired as Fired
+use Rattle.chr_find.specs.contracts.firings.Firings as Firings
 use Rattle.chr_find.specs.contracts.list.Place as Place
 use Rattle.chr_find.specs.contracts.note.Note as Note
-use Rattle.chr_find.proofs.firings.Firing.TheSendSync as firing_laws
+use Rattle.chr_store.proofs.fired.Fired.TheSendSync as fired_laws
 use Rattle.chr_find.proofs.list.Place.TheSendSync as place_laws
 use Rattle.chr_keys.specs.contracts.key_lists.KeyLists as KeyLists
 use Rattle.chr_keys.specs.contracts.noted_keys.NotedKeys as NotedKeys
@@ -63,22 +63,15 @@ module _ (A : RattleType) (g : Ghosts A.Denot) (s : IsSend A) (y : IsSync A) (f 
   pub row_row_send : IsSend (Row.the_row A g)
   row_row_send = recorded_send _ _ _ (Row.the_type A g).to_one row_send
 
-  -- a pointer to a row
-  pub shared_row : IsSync (Pointer.the_row (Row.the_row A g) A g)
-  shared_row = pointer_laws.the_sync (Row.the_row A g) A g row_row_send s row_row y f
-
-  pub shared_row_send : IsSend (Pointer.the_row (Row.the_row A g) A g)
-  shared_row_send = pointer_laws.the_send (Row.the_row A g) A g row_row_send s row_row y f
-
   pub plan : IsSync (Plan.the_row A g)
   plan = plan_laws.the_sync A g y
 
   pub change : IsSync (Change.the_field A g).row
-  change = let r : IsSync (Pointer.the_field (Row.the_row A g) A g).row = shared_row in struct_sync (struct.shape (Change.the_type A g)) (search (r, id_laws.the_field_sync, sendable) depth 20)
+  change = let r : IsSync (Row.the_field A g).row = row in struct_sync (struct.shape (Change.the_type A g)) (search (r, id_laws.the_field_sync, sendable) depth 20)
 
   pub standing : IsSync (Standing.the_row A g)
   standing =
-      let r : IsSync (Pointer.the_field (Row.the_row A g) A g).row = shared_row in
+      let r : IsSync (Row.the_field A g).row = row in
       recorded_sync _ _ _ (Standing.the_type A g).to_one (struct_sync (struct.shape (Standing.the_type A g)) (search (r, id_laws.the_field_sync, sendable) depth 20))
 
   -- trees of keys and values
@@ -109,16 +102,16 @@ module _ (A : RattleType) (g : Ghosts A.Denot) (s : IsSend A) (y : IsSync A) (f 
       pub map_field : IsSync (Map.the_field K V A o e l g).row
       map_field = map
 
-  pub fired : IsSync (Fired.the_field A g).row
-  fired =
-      let all = map_field Firing.the_row denote.Builtin.unit firing_laws.the_send firing_laws.the_sync (search sendable) (search sendable) in
-      struct_sync (struct.shape (Fired.the_type A g)) (search (all, sendable) depth 20)
+  pub firings : IsSync (Firings.the_field A g).row
+  firings =
+      let all = map_field Fired.the_row denote.Builtin.unit fired_laws.the_send fired_laws.the_sync (search sendable) (search sendable) in
+      struct_sync (struct.shape (Firings.the_type A g)) (search (all, sendable) depth 20)
 
   pub note : IsSync (Note.the_field A g).row
-  note = let c = change in enum_sync (enum.shape (Note.the_type A g)) (search (c, firing_laws.the_field_sync, sendable) depth 20)
+  note = let c = change in enum_sync (enum.shape (Note.the_type A g)) (search (c, sendable) depth 20)
 
-  pub rows : (o : ord.Ghosts Place.the_row.Denot) (e : eq.Ghosts Place.the_row.Denot) (l : partial.Ghosts Place.the_row.Denot) → IsSync (Map.the_field Place.the_row (Pointer.the_row (Row.the_row A g) A g) A o e l g).row
-  rows o e l = map_field Place.the_row (Pointer.the_row (Row.the_row A g) A g) place_laws.the_send place_laws.the_sync shared_row_send shared_row o e l
+  pub rows : (o : ord.Ghosts Place.the_row.Denot) (e : eq.Ghosts Place.the_row.Denot) (l : partial.Ghosts Place.the_row.Denot) → IsSync (Map.the_field Place.the_row (Row.the_row A g) A o e l g).row
+  rows o e l = map_field Place.the_row (Row.the_row A g) place_laws.the_send place_laws.the_sync row_row_send row_row o e l
 
   pub key_lists : IsSync (KeyLists.the_field A g).row
   key_lists =
@@ -140,9 +133,8 @@ module _ (A : RattleType) (g : Ghosts A.Denot) (s : IsSend A) (y : IsSync A) (f 
   pub noted : IsSync (Noted.the_field A g).row
   noted =
       let shared_plan : IsSync (Pointer.the_field (Plan.the_row A g) A g).row = pointer_laws.the_sync (Plan.the_row A g) A g (plan_laws.the_send A g s f) s plan y f in
-      let firings = fired in
       let notes = vec_of A g s y f (Note.the_row A g) (recorded_sync _ _ _ (Note.the_type A g).to_one note) in
-      struct_sync (struct.shape (Noted.the_type A g)) (search (shared_plan, rows, firings, notes, sendable) depth 20)
+      struct_sync (struct.shape (Noted.the_type A g)) (search (shared_plan, rows, notes, sendable) depth 20)
 
   pub table : IsSync (Table.the_field A g).row
   table =
@@ -154,9 +146,10 @@ module _ (A : RattleType) (g : Ghosts A.Denot) (s : IsSend A) (y : IsSync A) (f 
   pub snapshot : IsSync (Snapshot.the_field A g).row
   snapshot =
       let t = table in
+      let fired = firings in
       let tasks = vec_of A g s y f Task.the_row task_laws.the_sync in
-      let guest : IsSync (Option.the_field (Pointer.the_row (Row.the_row A g) A g)).row = (let r = shared_row in search (sendable) depth 20) in
-      struct_sync (struct.shape (Snapshot.the_type A g)) (search (t, tasks, guest, id_laws.the_field_sync, sendable) depth 20)
+      let guest : IsSync (Option.the_field (Row.the_row A g)).row = (let r = row_row in search (sendable) depth 20) in
+      struct_sync (struct.shape (Snapshot.the_type A g)) (search (t, fired, tasks, guest, id_laws.the_field_sync, sendable) depth 20)
 
   pub snapshot_row : IsSync (Snapshot.the_row A g)
   snapshot_row = recorded_sync _ _ _ (Snapshot.the_type A g).to_one snapshot
@@ -177,23 +170,23 @@ module _ (A : RattleType) (g : Ghosts A.Denot) (s : IsSend A) (y : IsSync A) (f 
       map_field_send = map_send
 
   pub change_send : IsSend (Change.the_field A g).row
-  change_send = let r : IsSend (Pointer.the_field (Row.the_row A g) A g).row = shared_row_send in struct_send (struct.shape (Change.the_type A g)) (search (r, id_laws.the_field_send, sendable) depth 20)
+  change_send = let r : IsSend (Row.the_field A g).row = row_send in struct_send (struct.shape (Change.the_type A g)) (search (r, id_laws.the_field_send, sendable) depth 20)
 
   pub standing_send : IsSend (Standing.the_row A g)
   standing_send =
-      let r : IsSend (Pointer.the_field (Row.the_row A g) A g).row = shared_row_send in
+      let r : IsSend (Row.the_field A g).row = row_send in
       recorded_send _ _ _ (Standing.the_type A g).to_one (struct_send (struct.shape (Standing.the_type A g)) (search (r, id_laws.the_field_send, sendable) depth 20))
 
-  pub fired_send : IsSend (Fired.the_field A g).row
-  fired_send =
-      let all = map_field_send Firing.the_row denote.Builtin.unit firing_laws.the_send firing_laws.the_sync (search sendable) (search sendable) in
-      struct_send (struct.shape (Fired.the_type A g)) (search (all, sendable) depth 20)
+  pub firings_send : IsSend (Firings.the_field A g).row
+  firings_send =
+      let all = map_field_send Fired.the_row denote.Builtin.unit fired_laws.the_send fired_laws.the_sync (search sendable) (search sendable) in
+      struct_send (struct.shape (Firings.the_type A g)) (search (all, sendable) depth 20)
 
   pub note_send : IsSend (Note.the_field A g).row
-  note_send = let c = change_send in enum_send (enum.shape (Note.the_type A g)) (search (c, firing_laws.the_field_send, sendable) depth 20)
+  note_send = let c = change_send in enum_send (enum.shape (Note.the_type A g)) (search (c, sendable) depth 20)
 
-  pub rows_send : (o : ord.Ghosts Place.the_row.Denot) (e : eq.Ghosts Place.the_row.Denot) (l : partial.Ghosts Place.the_row.Denot) → IsSend (Map.the_field Place.the_row (Pointer.the_row (Row.the_row A g) A g) A o e l g).row
-  rows_send o e l = map_field_send Place.the_row (Pointer.the_row (Row.the_row A g) A g) place_laws.the_send place_laws.the_sync shared_row_send shared_row o e l
+  pub rows_send : (o : ord.Ghosts Place.the_row.Denot) (e : eq.Ghosts Place.the_row.Denot) (l : partial.Ghosts Place.the_row.Denot) → IsSend (Map.the_field Place.the_row (Row.the_row A g) A o e l g).row
+  rows_send o e l = map_field_send Place.the_row (Row.the_row A g) place_laws.the_send place_laws.the_sync row_row_send row_row o e l
 
   pub key_lists_send : IsSend (KeyLists.the_field A g).row
   key_lists_send =
@@ -215,9 +208,8 @@ module _ (A : RattleType) (g : Ghosts A.Denot) (s : IsSend A) (y : IsSync A) (f 
   pub noted_send : IsSend (Noted.the_field A g).row
   noted_send =
       let shared_plan : IsSend (Pointer.the_field (Plan.the_row A g) A g).row = pointer_laws.the_send (Plan.the_row A g) A g (plan_laws.the_send A g s f) s plan y f in
-      let firings = fired_send in
       let notes = vec_send (Note.the_row A g) (recorded_send _ _ _ (Note.the_type A g).to_one note_send) in
-      struct_send (struct.shape (Noted.the_type A g)) (search (shared_plan, rows_send, firings, notes, sendable) depth 20)
+      struct_send (struct.shape (Noted.the_type A g)) (search (shared_plan, rows_send, notes, sendable) depth 20)
 
   pub table_send : IsSend (Table.the_field A g).row
   table_send =
@@ -229,9 +221,10 @@ module _ (A : RattleType) (g : Ghosts A.Denot) (s : IsSend A) (y : IsSync A) (f 
   pub snapshot_send : IsSend (Snapshot.the_field A g).row
   snapshot_send =
       let t = table_send in
+      let fired = firings_send in
       let tasks = vec_send Task.the_row task_laws.the_send in
-      let guest : IsSend (Option.the_field (Pointer.the_row (Row.the_row A g) A g)).row = (let r = shared_row_send in search (sendable) depth 20) in
-      struct_send (struct.shape (Snapshot.the_type A g)) (search (t, tasks, guest, id_laws.the_field_send, sendable) depth 20)
+      let guest : IsSend (Option.the_field (Row.the_row A g)).row = (let r = row_row_send in search (sendable) depth 20) in
+      struct_send (struct.shape (Snapshot.the_type A g)) (search (t, fired, tasks, guest, id_laws.the_field_send, sendable) depth 20)
 
   pub snapshot_row_send : IsSend (Snapshot.the_row A g)
   snapshot_row_send = recorded_send _ _ _ (Snapshot.the_type A g).to_one snapshot_send

@@ -4,7 +4,7 @@ use crate::times::print_each;
 use chr_find::{Active, Cursor, Memory, Plan, Table};
 use chr_map::{Pointer, Share};
 use chr_rules::Program;
-use chr_store::{Id, Row};
+use chr_store::{Fired, HeadIds, History, Id, Row};
 use chr_term::{Args, Sym, Term};
 use chr_texts::program_of;
 use std::alloc::Global;
@@ -15,7 +15,7 @@ const RULES: &str =
     ":- chr_constraint p/2, q/2, r/2, go/0, s/2. p(X,Y), q(Y,Z) ==> true. p(X,Y), q(Y,Z), r(Z,W) ==> true. go, s(X,Y) ==> true.";
 
 /// The number of the rule of `go`.
-const GO: u64 = 2;
+const GO: usize = 2;
 
 const SIZES: [u64; 3] = [12_500, 25_000, 50_000];
 
@@ -32,23 +32,23 @@ struct Pairs {
     count: u64,
 }
 
-fn pair_of(alloc: Global, pairs: Pairs, id: u64) -> Result<Pointer<Row>, Memory> {
+fn pair_of(alloc: Global, pairs: Pairs, id: u64) -> Result<Row, Memory> {
     let key = i128::from(id % pairs.keys.max(1));
     let args = Args::new(
         alloc,
         Vec::from_array(alloc, [Term::Int(key), Term::Int(key)])?,
     )?;
     let sym = pairs.sym;
-    Pointer::new(alloc, Row { sym, args })
+    Ok(Row { sym, args })
 }
 
-fn without_arguments(alloc: Global, sym: Sym) -> Result<Pointer<Row>, Memory> {
+fn without_arguments(alloc: Global, sym: Sym) -> Result<Row, Memory> {
     let args = Args::new(alloc, Vec::new(alloc))?;
-    Pointer::new(alloc, Row { sym, args })
+    Ok(Row { sym, args })
 }
 
 /// Adds a constraint, unless its identity is taken.
-fn add(table: &mut Table, id: u64, row: Pointer<Row>) -> Result<(), Memory> {
+fn add(table: &mut Table, id: u64, row: Row) -> Result<(), Memory> {
     table.settle_all()?;
     if table.row(Id(id)).is_some() {
         return Ok(());
@@ -87,6 +87,7 @@ fn remove_all(table: &mut Table, pairs: Pairs) -> Result<(), Memory> {
 
 /// How many of the constraints find partners at an occurrence.
 fn search_all(
+    alloc: Global,
     program: &Program,
     table: &mut Table,
     pairs: Pairs,
@@ -96,12 +97,13 @@ fn search_all(
         None => return Ok(0),
         Some(occurrence) => occurrence,
     };
+    let history = History::new(alloc);
     let mut count: u64 = 0;
     let mut tries = 0;
     for k in 0..pairs.count {
         let active = Active::at(program, occurrence, Id(pairs.first.saturating_add(k)));
         table.settle_for(active.id)?;
-        if table.first(&active, &mut tries)?.is_some() {
+        if table.first(&active, &history, &mut tries)?.is_some() {
             count = count.saturating_add(1);
         }
     }
@@ -109,26 +111,35 @@ fn search_all(
 }
 
 /// How often the constraint fires at its first occurrence, each time after the list before.
-fn fire_all(program: &Program, table: &mut Table, sym: Sym, id: u64) -> Result<u64, Memory> {
+fn fire_all(
+    alloc: Global,
+    program: &Program,
+    table: &mut Table,
+    sym: Sym,
+    id: u64,
+) -> Result<u64, Memory> {
     let occurrence = match program.occurrence(sym, 1) {
         None => return Ok(0),
         Some(occurrence) => occurrence,
     };
     let active = Active::at(program, occurrence, Id(id));
     let mut cursor = Cursor {
-        after: [0; 8],
+        after: HeadIds::new(),
         from: u64::MAX,
     };
+    let mut history = History::new(alloc);
     let mut count: u64 = 0;
     let mut tries = 0;
     for _ in 0..u64::MAX {
         table.settle_for(active.id)?;
-        let found = match table.next(&active, &cursor, &mut tries)? {
+        let found = match table.next(&active, &history, &cursor, &mut tries)? {
             None => return Ok(count),
             Some(found) => found,
         };
-        table.room(1)?;
-        table.fire(GO, &found[..2]);
+        history.put(Fired {
+            rule: GO,
+            ids: found,
+        })?;
         cursor.after = found;
         count = count.saturating_add(1);
     }
@@ -221,7 +232,7 @@ fn searched(
 ) -> io::Result<()> {
     let size = pairs.count;
     let start = Instant::now(rt)?;
-    let found = search_all(program, table, pairs, occurrence)?;
+    let found = search_all(rt.alloc(), program, table, pairs, occurrence)?;
     print_each(rt, size, work, start.elapsed(rt)?, size)?;
     if found != size {
         eprintln!(rt; "{size}: {found} found partners")?;
@@ -269,7 +280,7 @@ fn measured_firings(
     (go, size): (Sym, u64),
 ) -> io::Result<()> {
     let start = Instant::now(rt)?;
-    let count = fire_all(program, table, go, 1)?;
+    let count = fire_all(rt.alloc(), program, table, go, 1)?;
     let time = start.elapsed(rt)?;
     print_each(rt, size, "firing of one constraint", time, count)?;
     if count != size {

@@ -3,7 +3,7 @@ use chr_bind::{Match, are_below, fit, guard_holds};
 use chr_find::Memory;
 use chr_rules::Rule;
 use chr_semantics::limits::MAX_RULE_VARIABLES;
-use chr_store::{Fired, Id, Row};
+use chr_store::{Entry, Id, Row};
 use std::alloc::Global;
 
 /// The constraints that live, by ascending identity.
@@ -19,9 +19,9 @@ pub(super) struct Sought<'a> {
 }
 
 /// Whether the rule has fired with these constraints.
-fn was_fired(history: &[Fired], number: usize, ids: &[Id]) -> bool {
-    for fired in history {
-        if fired.rule == number && fired.ids.as_slice() == ids {
+fn was_fired(history: &[Entry], number: usize, ids: &[Id]) -> bool {
+    for entry in history {
+        if entry.rule() == number && entry.ids() == ids {
             return true;
         }
     }
@@ -101,7 +101,7 @@ fn first_list(alloc: Global, heads: usize) -> Result<Vec<usize>, Memory> {
 pub(super) fn plain_first(
     alloc: Global,
     rows: &[(Id, Row)],
-    history: &[Fired],
+    history: &[Entry],
     sought: Sought<'_>,
 ) -> Result<Option<Vec<Id>>, Memory> {
     let mut list = first_list(alloc, sought.rule.heads.len())?;

@@ -86,15 +86,17 @@ fn rows_of(alloc: Global, scene: &Scene<Global>) -> Result<Rows, Memory> {
 }
 
 /// A random rule has fired with random constraints that were added.
-fn fire_some(alloc: Global, dice: &mut Dice, scene: &mut Scene<Global>) -> Result<(), Memory> {
+fn fire_some(dice: &mut Dice, scene: &mut Scene<Global>) -> Result<(), Memory> {
     let rule = dice.below(2) as usize;
     if rule >= scene.program.rules() {
         return Ok(());
     }
     let next = scene.store.next().0;
-    let mut ids = Vec::new(alloc);
+    let mut ids = HeadIds::new();
     for _ in 0..scene.program.rule(rule).heads.len() {
-        ids.push(Id(dice.below(next)))?;
+        if ids.len() < MAX_HEADS {
+            ids.push(Id(dice.below(next)));
+        }
     }
     scene.history.put(Fired { rule, ids })?;
     Ok(())
@@ -261,7 +263,7 @@ fn assert_scene(
     scene: &mut Scene<Global>,
 ) -> Result<(), Memory> {
     for _ in 0..dice.below(4) {
-        fire_some(alloc, dice, scene)?;
+        fire_some(dice, scene)?;
     }
     assert_same(rt, alloc, dice, scene)?;
     bind_some(dice, &mut scene.bindings)?;

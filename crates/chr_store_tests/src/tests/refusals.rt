@@ -64,22 +64,17 @@ fn is_woken<M: Allocator + Copy>(
 /// Whether `put` of a firing goes through with so many growths. A refused one counts for nothing, and can be called again.
 fn is_put<M: Allocator + Copy>(
     rt: &impl Abort,
-    alloc: M,
     meter: &Refusing<Global>,
     history: &mut History<M>,
     left: u64,
 ) -> Result<bool, Memory> {
-    let entry = fired(alloc, 0, [Id(2), Id(1)])?;
+    let entry = fired(0, &[Id(2), Id(1)]);
     meter.allow(left);
     let is_done = history.put(entry).is_ok();
     assert_eq!(rt; !is_done, was_refused(meter, left), "{left}");
     assert_eq!(rt; history.stamp(0), u64::from(is_done), "{left}");
     assert_eq!(rt; history.list().len(), usize::from(is_done), "{left}");
-    assert_eq!(rt;
-        history.put(fired(alloc, 0, [Id(2), Id(1)])?)?,
-        !is_done,
-        "{left}"
-    );
+    assert_eq!(rt; history.put(entry)?, !is_done, "{left}");
     Ok(is_done)
 }
 
@@ -108,7 +103,7 @@ fn is_through<M: Allocator + Copy>(
     match call {
         Call::Add => is_added(rt, alloc, meter, &mut store, left),
         Call::Woken => Ok(is_woken(rt, meter, &store, &bindings, left)),
-        Call::Put => is_put(rt, alloc, meter, &mut history, left),
+        Call::Put => is_put(rt, meter, &mut history, left),
     }
 }
 

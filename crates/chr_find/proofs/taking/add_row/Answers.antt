@@ -14,17 +14,17 @@ without_it : (b k : Bool) (x y : Option Atom) → k ≡ false → y ≡ cond (b 
 without_it true k x y e = ap (λ (c : Bool). cond c x y) (sym e)
 without_it false k x y e = refl
 
-pub returns-in_ok-put_row-clause-atoms : goal.returns-in_ok-put_row-clause-atoms
-returns-in_ok-put_row-clause-atoms g c = λ i.
+pub returns-in_ok-put_row : goal.returns-in_ok-put_row
+returns-in_ok-put_row g c = λ i.
     let id = c.args.id.0 in
     let a : Atom = resolved_atom c.args.bindings.now.subst (row_atom c.args.row.now) in
     let kept : keeps_row c.args.scope (id, a) ≡ true = sym (c.has_row.ensures id ∙ ap (λ (b : Atom). keeps_row c.args.scope (id, b)) c.in_ok-row.ensures) ∙ c.if-has_row.true in
-    c.in_ok-put_row.ensures.atoms i
+    c.in_ok-put_row.ensures i
     ∙ (ap (λ (b : Atom). cond (i == id) (Some b) (atom_at c.args.table.now i)) c.in_ok-row.ensures
     ∙ with_it (i == id) (keeps_row c.args.scope (id, a)) (Some a) (atom_at c.args.table.now i) kept)
 
-pub returns-else-has_row-clause-atoms : goal.returns-else-has_row-clause-atoms
-returns-else-has_row-clause-atoms g c = λ i.
+pub returns-else-has_row : goal.returns-else-has_row
+returns-else-has_row g c = λ i.
     let id = c.args.id.0 in
     let a : Atom = resolved_atom c.args.bindings.now.subst (row_atom c.args.row.now) in
     without_it (i == id) (keeps_row c.args.scope (id, a)) (Some a) (atom_at c.args.table.now i) (sym (c.has_row.ensures id ∙ ap (λ (b : Atom). keeps_row c.args.scope (id, b)) c.in_ok-row.ensures) ∙ c.if-has_row.false)

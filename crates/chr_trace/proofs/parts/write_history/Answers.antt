@@ -9,5 +9,5 @@ use Rattle.chr_trace.proofs.parts.write_history.Goals as goal
 
 pub returns-clause-ok : goal.returns-clause-ok
 returns-clause-ok g c =
-    part_written c.write_firings.result c.args.out.now.items c.write_head.new.out.items c.write_firings.new.out.items (codes "history ") _ _ c.in_ok-write_head.ensures.ok c.write_firings.ensures.ok
+    part_written c.write_entries.result c.args.out.now.items c.write_head.new.out.items c.write_entries.new.out.items (codes "history ") _ _ c.in_ok-write_head.ensures.ok c.write_entries.ensures.ok
     (sym (length-map c.args.history.now fired_view) ∙ sym (length-map (firings_view c.args.history.now) (entry_text (rules_of c.args.program.now))))

@@ -7,4 +7,4 @@ none_there f None e = refl
 none_there f (Some x) e = cc
 
 pub add-requires-clause-absent : goal.add-requires-clause-absent
-add-requires-clause-absent c = c.in_ok-room.ensures.same c.args.id ∙ (sym c.row-2.ensures ∙ none_there _ c.row-2.result (sym c.is_some.ensures ∙ c.if-is_some.false))
+add-requires-clause-absent c = c.in_ok-room.ensures.same c.args.id ∙ (sym c.row.ensures ∙ none_there _ c.row.result (sym c.is_some.ensures ∙ c.if-is_some.false))

@@ -1,57 +1,28 @@
-use Rattle.std.proofs.Common.{◌≡◌, ◌≢◌, ◌∙◌, ◌+◌, ℕ, List, ap, drop, length, subst, sym, true, arith}
-use Rattle.std.specs.Prelude.{AllPairs, reverse}
-use Rattle.std.specs.List.{fold, list_all}
-use Rattle.chr_semantics.specs.Changes.{removed}
-use Rattle.chr_semantics.specs.Search.{has_number}
-use Rattle.chr_semantics.specs.Subst.{Subst}
-use Rattle.chr_store.specs.HistoryView.{entries_view}
-use Rattle.chr_store.specs.StoreView.{store_view}
-use Rattle.chr_find.specs.TableView.{HasRoom, atom_at, fired_at}
-use Rattle.chr_base.specs.Agreement.{Agrees, is_alive}
-use Rattle.chr_base.specs.BaseView.{BaseModel, base_view}
-use Rattle.chr_base.specs.Leaving.{leaving_ids}
-use Rattle.chr_base.proofs.Agreements.{agrees_same}
-use Rattle.chr_base.proofs.Leavings.{all_among, different_drop, from_kept, passes_drop, standing_same}
+use Rattle.std.proofs.Common.{◌+◌, drop, subst, sym}
+use Rattle.chr_rules.specs.ProgramView.{rules_of}
+use Rattle.chr_rules.specs.RuleView.{rule_view}
+use Rattle.chr_rules.specs.declared.program.Program.{Program}
+use Rattle.chr_base.specs.BaseView.{base_view}
+use Rattle.chr_base.specs.Bookmarks.{IsAhead}
+use Rattle.chr_base.proofs.Ascending.{ascends_agrees}
+use Rattle.chr_base.proofs.Bookmarked.{ahead_behind}
+use Rattle.chr_base.proofs.FirstFound.{can_enter, first_rows}
 use Rattle.chr_base.proofs.base.Base.fire.Goals as goal
 
-pub invariant_of-self : goal.invariant_of-self
-invariant_of-self g c = record { agrees = agrees_same _ _ _ _ _ _ c.args.self.now.agrees (atom_at c.settle.new.self) (fired_at c.settle.new.self) c.settle.ensures.same c.settle.ensures.fired }
+pub settle_fired-requires-clause-can : goal.settle_fired-requires-clause-can
+settle_fired-requires-clause-can g c = can_enter (base_view c.args.self.now) c.args.active.now c.args.ids.now (ascends_agrees _ _ _ _ _ c.args.self.now.agrees) c.requires.lives c.requires.found
 
-pub leaving-requires-clause-alive : goal.leaving-requires-clause-alive
-leaving-requires-clause-alive g c =
-    subst (λ (is : List ℕ). list_all (is_alive (store_view c.args.self.now.store)) is ≡ true) (sym (from_kept c.args.kept c.min.result c.args.ids.now c.min.ensures))
-    (passes_drop (is_alive (store_view c.args.self.now.store)) c.args.kept c.args.ids.now c.requires.alive)
+pub settle_fired-requires-2-clause-can : goal.settle_fired-requires-2-clause-can
+settle_fired-requires-2-clause-can g c = can_enter (base_view c.args.self.now) c.args.active.now c.args.ids.now (ascends_agrees _ _ _ _ _ c.args.self.now.agrees) c.requires.lives c.requires.found
 
-pub invariant_of-self-in-Break-branch-3 : goal.invariant_of-self-in-Break-branch-3
-invariant_of-self-in-Break-branch-3 g c = record {
-  agrees = agrees_same _ _ _ _ _ _ c.args.self.now.agrees (atom_at c.room.new.self) (fired_at c.room.new.self) (λ i. c.room.ensures.same i ∙ c.settle.ensures.same i)
-      (λ r ids. c.room.ensures.fired r ids ∙ c.settle.ensures.fired r ids);
-}
-
-pub invariant_of-self-2 : goal.invariant_of-self-2
-invariant_of-self-2 g c =
-    let b = c.args.self.now in
-    record {
-      agrees = subst (λ (s : Subst). Agrees (store_view b.store) (entries_view b.history) s (atom_at c.room.new.self) (fired_at c.room.new.self) b.is_stale) (sym c.room-2.ensures.subst)
-          (agrees_same _ _ _ _ _ _ b.agrees (atom_at c.room.new.self) (fired_at c.room.new.self) (λ i. c.room.ensures.same i ∙ c.settle.ensures.same i)
-          (λ r ids. c.room.ensures.fired r ids ∙ c.settle.ensures.fired r ids));
-    }
-
-pub enter_all-requires-clause-room : goal.enter_all-requires-clause-room
-enter_all-requires-clause-room g c =
-    let count : c.len.result + 1 ≡ length c.in_ok-leaving.leaving.items + 1 = omega (arith, c.len.ensures, c.in_ok-leaving.leaving.ok.0) in
-    subst (λ (n : ℕ). HasRoom n c.room.new.self) count c.in_ok-room.ensures.ok
-
-pub enter_all-requires-clause-there : goal.enter_all-requires-clause-there
-enter_all-requires-clause-there g c =
-    standing_same (atom_at c.settle.new.self) (atom_at c.room.new.self) (reverse c.in_ok-leaving.leaving.items) c.room.ensures.same c.in_ok-leaving.ensures.there
-
-pub enter_all-requires-clause-different : goal.enter_all-requires-clause-different
-enter_all-requires-clause-different g c =
-    let ids = c.in_ok-leaving.ensures.ids ∙ from_kept c.args.kept c.min.result c.args.ids.now c.min.ensures in
-    subst (AllPairs (λ i j. i ≢ j)) (sym ids) (different_drop c.args.kept c.args.ids.now c.requires.different)
-
-pub enter_all-requires-clause-among : goal.enter_all-requires-clause-among
-enter_all-requires-clause-among g c =
-    let ids = c.in_ok-leaving.ensures.ids ∙ from_kept c.args.kept c.min.result c.args.ids.now c.min.ensures in
-    subst (λ (is : List ℕ). list_all (has_number c.args.ids.now) is ≡ true) (sym ids) (passes_drop (has_number c.args.ids.now) c.args.kept c.args.ids.now (all_among c.args.ids.now))
+pub put-requires-clause-ahead : goal.put-requires-clause-ahead
+put-requires-clause-ahead g c =
+    let self = c.args.self.now in
+    let b = base_view self in
+    let s = c.args.active.now in
+    let up = ascends_agrees _ _ _ _ _ self.agrees in
+    let given = (first_rows b s c.args.ids.now up c.requires.lives c.requires.found).given in
+    let new = base_view c.settle_fired-2.new.self in
+    subst (λ (p : Program _). IsAhead (rules_of p) new (record { id = s.id; number = s.number; place = s.place; cursor = record { after = c.args.ids.now; from = c.next.result.0 } })) (sym c.in_ok-settle_fired.ensures.program)
+    (ahead_behind (rules_of self.program.now) b (drop s.rule.now.kept c.args.ids.now) (b.next_var + c.args.variables) up new _ (rule_view s.rule.now)
+    c.in_ok-settle_fired.ensures.ok c.requires.of_program given c.next.ensures c.requires.found)

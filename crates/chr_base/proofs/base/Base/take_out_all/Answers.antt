@@ -3,7 +3,8 @@ use Rattle.std.specs.Prelude.{reverse}
 use Rattle.std.specs.List.{fold}
 use Rattle.chr_semantics.specs.Changes.{removed}
 use Rattle.chr_find.specs.TableView.{HasRoom, atom_at}
-use Rattle.chr_base.specs.BaseView.{BaseModel, base_view}
+use Rattle.chr_base.specs.BaseView.{base_view}
+use Rattle.chr_base.specs.Model.{BaseModel}
 use Rattle.chr_base.specs.Leaving.{leaving_ids}
 use Rattle.chr_base.proofs.Leavings.{changes_removed, first_different, first_standing, one_more, popped_ids, standing_without}
 use Rattle.chr_base.proofs.base.Base.take_out_all.Goals as goal
@@ -22,6 +23,8 @@ loop-next-preserved g c =
       same =
           ap (λ (b : BaseModel). record b { store = fold removed b.store (leaving_ids left) }) c.take_out.ensures.base
           ∙ (ap (λ (is : List ℕ). record old { store = fold removed old.store is }) (sym ids) ∙ c.loop-next.invariant.same);
+      program = c.take_out.ensures.program ∙ c.loop-next.invariant.program;
+      bookmarks = c.take_out.ensures.bookmarks ∙ c.loop-next.invariant.bookmarks;
       few =
           let less = changes_removed old.store next.id.0 in
           let now = ap (λ (b : BaseModel). b.store.changes) c.take_out.ensures.base in

@@ -5,7 +5,6 @@ use Rattle.std.specs.Prelude.{Option, List, Some, option_map, set, slice_get}
 use Rattle.chr_semantics.specs.Calls.{rise_by_calls}
 use Rattle.chr_semantics.specs.State.{start}
 use Rattle.chr_semantics.specs.Tasks.{Task, same_task}
-use Rattle.chr_find.specs.FewView.{few_ids}
 use Rattle.chr_find.specs.SnapshotView.{task_view}
 use Rattle.chr_rules.specs.RuleView.{query_view}
 use Rattle.chr_schedule.specs.EventView.{event_view}
@@ -58,7 +57,7 @@ invariant_of-self g c =
     let its = c.is_guest-is_guests.result in
     let first = c.is_newest-is_newest.result in
     let newest_is = λ (n : ℕ). subst (λ (u : Task). newest (ats before.rounds) before.answers (at_in before.rounds i) n (before.row u) ≡ cond first (Some n) (before.row u)) c.task-task.ensures (c.is_newest-is_newest.ensures n) in
-    let kept_is : (record { round = i; index = c.index-index.result; task = task_view c.task-task.result; ids = option_map few_ids c.found.result.now.ids }) ≡ k = λ j. record { round = i; index = c.index-index.ensures j; task = c.task-task.ensures j; ids = c.found.ensures.ids j } in
+    let kept_is : (record { round = i; index = c.index-index.result; task = task_view c.task-task.result; ids = c.found.result.now.ids }) ≡ k = λ j. record { round = i; index = c.index-index.ensures j; task = c.task-task.ensures j; ids = c.found.ensures.ids j } in
     let answers_are = c.put.ensures.answers ∙ ap (λ (x : Answered). (core_in old).answers ++ x ∷ []) kept_is in
     let new_events = ap (map event_view) c.push_reserved.ensures.items ∙ map-append event_view old.events.items (Arrive i c.index-index.result ∷ []) ∙ ap (λ (x : ℕ). map event_view old.events.items ++ Rattle.chr_semantics.specs.Schedule.arrive i x ∷ []) c.index-index.ensures in
     record {

@@ -3,7 +3,6 @@ use Rattle.std.proofs.lemmas.List.{take_all}
 use Rattle.chr_keys.specs.NotedKeysView.{is_listed}
 use Rattle.chr_semantics.specs.Search.{atom_of}
 use Rattle.chr_store.specs.Rows.{row_atom}
-use Rattle.chr_store.specs.declared.row.Row.{Row}
 use Rattle.chr_find.specs.KeyedView.{is_keyed_at}
 use Rattle.chr_find.specs.Rebinding.{standing_rows}
 use Rattle.chr_find.specs.declared.keyed.Keyed.{Keyed}
@@ -16,8 +15,8 @@ loop-standing-preserved g c = (
   c.in_ok-settle.ensures.ok,
   λ f k i.
       let s : Standing g.row.A.Denot = c.standing-item.result in
-      listed_more c.args.rows.now c.loop-standing.standing-index s c.requires (omega (arith, c.loop-standing-test.true)) c.standing-item.is (row_atom c.value.result.now) (is_listed c.room.new.self f k i) (is_listed c.settle.new.self f k i) f k i
-      (ap (λ (r : Row g.row.A.Denot). row_atom r) c.value.ensures) (c.in_ok-room.ensures.same f k i ∙ c.loop-standing.invariant.1 f k i) (c.in_ok-settle.ensures.same f k i ∙ c.note.ensures.listed f k i),
+      listed_more c.args.rows.now c.loop-standing.standing-index s c.requires (omega (arith, c.loop-standing-test.true)) c.standing-item.is (row_atom s.row) (is_listed c.room.new.self f k i) (is_listed c.settle.new.self f k i) f k i
+      refl (c.in_ok-room.ensures.same f k i ∙ c.loop-standing.invariant.1 f k i) (c.in_ok-settle.ensures.same f k i ∙ c.note.ensures.listed f k i),
 )
 
 pub returns-clause-lists : goal.returns-clause-lists

@@ -7,8 +7,8 @@ use Rattle.chr_find.specs.declared.note.Note.{Note}
 use Rattle.chr_find.proofs.NoteSteps.{replaced_again}
 use Rattle.chr_find.proofs.note.Note.make.Goals as goal
 
-pub returns-in_ok-make-in-Replaced-clause-rows_again : goal.returns-in_ok-make-in-Replaced-clause-rows_again
-returns-in_ok-make-in-Replaced-clause-rows_again g c =
+pub returns-in_ok-make-in-Replaced-clause-again : goal.returns-in_ok-make-in-Replaced-clause-again
+returns-in_ok-make-in-Replaced-clause-again g c =
     subst (λ (n : Note g.row.A.Denot). OnErr c.make-in-Replaced.result ((q : Place) → rows_after c.args.plan.now n (held c.make-in-Replaced.new.rows) q ≡ rows_after c.args.plan.now n (held c.args.rows.now) q)) (sym c.in-Replaced.is)
     (err_more _ _ c.make-in-Replaced.result c.make-in-Replaced.result refl c.make-in-Replaced.ensures.err
     (λ kept. replaced_again c.args.plan.now c.in-Replaced.out c.in-Replaced.into c.make-in-Replaced.new.rows c.make.new.rows c.args.rows.now c.in_ok-make-in-Replaced.ensures.ok kept))

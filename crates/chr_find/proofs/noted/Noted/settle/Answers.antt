@@ -1,11 +1,10 @@
 use Rattle.std.proofs.Common.{◌≡◌, ◌∙◌, ◌≤◌, List, subst, sym}
 use Rattle.std.specs.Prelude.{length}
-use Rattle.chr_find.specs.Firings.{is_in}
-use Rattle.chr_find.specs.NoteView.{fired_after, rows_after}
+use Rattle.chr_find.specs.NoteView.{rows_after}
 use Rattle.chr_find.specs.Places.{held}
 use Rattle.chr_find.specs.declared.note.Note.{Note}
 use Rattle.chr_find.specs.declared.plan.Plan.{Plan}
-use Rattle.chr_find.proofs.NoteSteps.{fired_alike, rows_alike}
+use Rattle.chr_find.proofs.NoteSteps.{rows_alike}
 use Rattle.chr_keys.proofs.Notes.{all_made, made_next, none_left, unmade_next}
 use Rattle.chr_find.proofs.noted.Noted.settle.Goals as goal
 
@@ -14,15 +13,8 @@ returns-in_err-make-clause-rows g c = λ q.
     let s = c.loop-note.self in
     let n = c.in-Some.note.now in
     unmade_next (rows_after s.plan) (rows_alike s.plan) s.made s.notes.items c.deref.result.now n c.deref.ensures.value c.in-Some.ensures.lookup.3.0 c.in-Some.ensures.lookup.1 (held s.rows) (held c.make.new.rows) q
-    (subst (λ (p : Plan g.row.A.Denot). rows_after p n (held c.make.new.rows) q ≡ rows_after p n (held s.rows) q) c.value.ensures (c.in_err-make.ensures.rows_again q))
+    (subst (λ (p : Plan g.row.A.Denot). rows_after p n (held c.make.new.rows) q ≡ rows_after p n (held s.rows) q) c.value.ensures (c.in_err-make.ensures.again q))
     ∙ c.loop-note.invariant.0 q
-
-pub returns-in_err-make-clause-fired : goal.returns-in_err-make-clause-fired
-returns-in_err-make-clause-fired g c = λ x.
-    let s = c.loop-note.self in
-    let n = c.in-Some.note.now in
-    unmade_next fired_after fired_alike s.made s.notes.items c.deref.result.now n c.deref.ensures.value c.in-Some.ensures.lookup.3.0 c.in-Some.ensures.lookup.1 (is_in s.fired.all) (is_in c.make.new.fired.all) x (c.in_err-make.ensures.fired_again x)
-    ∙ c.loop-note.invariant.1.0 x
 
 pub loop-note-preserved : goal.loop-note-preserved
 loop-note-preserved g c =
@@ -30,14 +22,9 @@ loop-note-preserved g c =
     let n = c.in-Some.note.now in (
       (λ q.
           made_next (rows_after s.plan) (rows_alike s.plan) s.made s.notes.items c.deref.result.now n c.deref.ensures.value c.in-Some.ensures.lookup.3.0 c.in-Some.ensures.lookup.1 (held s.rows) (held c.make.new.rows) q
-          (subst (λ (p : Plan g.row.A.Denot). held c.make.new.rows q ≡ rows_after p n (held s.rows) q) c.value.ensures (c.in_ok-make.ensures.rows q))
+          (subst (λ (p : Plan g.row.A.Denot). held c.make.new.rows q ≡ rows_after p n (held s.rows) q) c.value.ensures (c.in_ok-make.ensures.ok q))
           ∙ c.loop-note.invariant.0 q),
-      (
-        (λ x.
-            made_next fired_after fired_alike s.made s.notes.items c.deref.result.now n c.deref.ensures.value c.in-Some.ensures.lookup.3.0 c.in-Some.ensures.lookup.1 (is_in s.fired.all) (is_in c.make.new.fired.all) x (c.in_ok-make.ensures.fired x)
-            ∙ c.loop-note.invariant.1.0 x),
-        c.loop-note.invariant.1.1,
-      ),
+      c.loop-note.invariant.1,
     )
 
 pub returns-clause-rows : goal.returns-clause-rows
@@ -45,9 +32,3 @@ returns-clause-rows g c = λ q.
     let s = c.loop-note.self in
     none_left (rows_after s.plan) (rows_alike s.plan) c.clear.new.self.items (held s.rows) q c.clear.ensures.items
     ∙ (sym (all_made (rows_after s.plan) (rows_alike s.plan) s.made s.notes.items (held s.rows) q (subst (λ (l : List (Note g.row.A.Denot)). length l ≤ s.made) c.deref.ensures.value c.in_default.ensures.lookup.3)) ∙ c.loop-note.invariant.0 q)
-
-pub returns-clause-fired : goal.returns-clause-fired
-returns-clause-fired g c = λ x.
-    let s = c.loop-note.self in
-    none_left fired_after fired_alike c.clear.new.self.items (is_in s.fired.all) x c.clear.ensures.items
-    ∙ (sym (all_made fired_after fired_alike s.made s.notes.items (is_in s.fired.all) x (subst (λ (l : List (Note g.row.A.Denot)). length l ≤ s.made) c.deref.ensures.value c.in_default.ensures.lookup.3)) ∙ c.loop-note.invariant.1.0 x)

@@ -15,7 +15,7 @@ use Rattle.chr_find.proofs.rebinding.Rebound.add.Goals as goal
 pub returns-in-None : goal.returns-in-None
 returns-in-None g c = λ f rows made all there variables.
     let s = c.args.bindings.now.subst in
-    let same = subst (λ (x : Row g.row.A.Denot). IsResolved {A = g.row.A.Denot} s (row_atom x) None) c.value.ensures (subst (λ (o : Option (Row g.row.A.Denot)). IsResolved {A = g.row.A.Denot} s (row_atom c.value.result.now) o) c.in-None.is c.in_ok-resolved.ensures) in
+    let same = subst (λ (o : Option (Row g.row.A.Denot)). IsResolved {A = g.row.A.Denot} s (row_atom c.args.standing.now.row) o) c.in-None.is c.in_ok-resolved.ensures in
     made_kept s f rows c.args.self.now.replaced.items c.args.self.now.woken.items made c.args.standing.now.id _ all there variables same c.push.new.self.items c.in_ok-push-in-None.ensures.items
 
 pub returns : goal.returns
@@ -25,8 +25,8 @@ returns g c = λ f rows made all there variables.
     let ids : List Id = c.args.self.now.woken.items in
     let id : Id = c.args.standing.now.id in
     let new : Row g.row.A.Denot = c.in-Some.new in
-    let is = subst (λ (x : Row g.row.A.Denot). IsResolved s (row_atom x) (Some new)) c.value.ensures (subst (λ (o : Option (Row g.row.A.Denot)). IsResolved s (row_atom c.value.result.now) o) c.in-Some.is c.in_ok-resolved.ensures) in
-    let ground : is_ground_trees (row_atom new).args ≡ c.is_ground.result = sym (c.is_ground.ensures ∙ ap (λ (x : Row g.row.A.Denot). is_ground_trees x.args) c.value-2.ensures) in
+    let is = subst (λ (o : Option (Row g.row.A.Denot)). IsResolved s (row_atom c.args.standing.now.row) o) c.in-Some.is c.in_ok-resolved.ensures in
+    let ground : is_ground_trees (row_atom new).args ≡ c.is_ground.result = sym c.is_ground.ensures in
     let pushed : (c.if-not-is_ground.self.replaced.items ≡ rs) × (c.if-not-is_ground.self.woken.items ≡ cond (is_ground_trees (row_atom new).args) ids (ids ++ id ∷ [])) =
     elim c.if-not-is_ground.branch [
       | then-not-is_ground+in_ok-push w ↦ subst (λ (t : Rebound g.row.A.Denot). (t.replaced.items ≡ rs) × (t.woken.items ≡ cond (is_ground_trees (row_atom new).args) ids (ids ++ id ∷ []))) (sym w.self-is)

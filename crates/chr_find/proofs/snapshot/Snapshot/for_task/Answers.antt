@@ -17,7 +17,7 @@ invariant_of-result g c =
     record {
       whole = t.whole;
       keyed = t.keyed;
-      free = λ i le. taken_free c.args.store.now c.args.bindings.now.subst c.args.history.now c.scope_of.result c.in_ok-table.table t i (omega (arith, c.next.ensures, le));
+      free = λ i le. taken_free c.args.store.now c.args.bindings.now.subst c.args.history.now c.scope_of-scope.result c.in_ok-table.table t i (omega (arith, c.next.ensures, le));
     }
 
 pub returns : goal.returns
@@ -27,12 +27,12 @@ returns g c = λ s of.
     let h = c.args.history.now in
     let p = rules_of c.args.program.now in
     let o : Option Occurrence = occurrence_of p s (c.args.task.goal.0, c.args.task.occurrence) in
-    let scope : IsScope o c.scope_of.result =
-    subst (λ (rows : List semantics.Row). IsScope (option_and_then (λ (a : Atom). occurrence p a.sym c.args.task.occurrence) (atom_of rows c.args.task.goal.0)) c.scope_of.result) (sym of.store) c.scope_of.ensures in
+    let scope : IsScope o c.scope_of-scope.result =
+    subst (λ (rows : List semantics.Row). IsScope (option_and_then (λ (a : Atom). occurrence p a.sym c.args.task.occurrence) (atom_of rows c.args.task.goal.0)) c.scope_of-scope.result) (sym of.store) c.scope_of-scope.ensures in
     let t = c.in_ok-table.table in
-    let entries = entries_of_scope st m h s of o c.scope_of.result scope in
+    let entries = entries_of_scope st m h s of o c.scope_of-scope.result scope in
     record {
-      shown = taken_is st m h c.scope_of.result t c.in_ok-table.ensures c.next.result.0 _ _ _ (rows_of_scope st m h s of o c.scope_of.result scope) entries (of.next ∙ sym c.next.ensures)
+      shown = taken_is st m h c.scope_of-scope.result t c.in_ok-table.ensures c.in_ok-firings.firings c.in_ok-firings.ensures c.next.result.0 _ _ _ (rows_of_scope st m h s of o c.scope_of-scope.result scope) entries (of.next ∙ sym c.next.ensures)
           (sym (ap tasks_view (c.in_ok-push.ensures.items ∙ ap (λ (l : List Task). l ++ c.args.task ∷ []) c.new-tasks.ensures.items))) refl;
-      firings = taken_firings st m h c.scope_of.result t c.in_ok-table.ensures _ entries;
+      firings = taken_firings st m h c.scope_of-scope.result t c.in_ok-table.ensures c.in_ok-firings.firings c.in_ok-firings.ensures _ entries;
     }

@@ -8,7 +8,7 @@ invariant_of-result g c = record { whole = c.in_ok-table.ensures.whole; keyed = 
 pub returns : goal.returns
 returns g c = λ q is. record {
   rows = record { rises = is.rows.rises; same = λ i. is.rows.same i ∙ sym (c.in_ok-table.ensures.atoms i) };
-  history = λ r ids short alive. is.history r ids short (not_dead_alike c.args.table.now c.args.next.0 c.in_ok-table.table c.in_ok-table.ensures.atoms ids alive) ∙ sym (c.in_ok-table.ensures.fired r ids);
+  history = λ r ids alive. is.history r ids (not_dead_alike c.args.table.now c.args.next.0 c.in_ok-table.table c.in_ok-table.ensures.atoms ids alive) ∙ sym (c.in_ok-firings.ensures r ids);
   next = is.next;
   tasks = is.tasks;
   guest = is.guest;

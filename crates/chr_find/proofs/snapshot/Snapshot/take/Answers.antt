@@ -12,7 +12,7 @@ invariant_of-result g c =
     record {
       whole = t.whole;
       keyed = t.keyed;
-      free = λ i le. taken_free c.args.store.now c.args.bindings.now.subst c.args.history.now c.whole.result c.in_ok-table.table t i (omega (arith, c.next.ensures, le));
+      free = λ i le. taken_free c.args.store.now c.args.bindings.now.subst c.args.history.now c.whole-scope.result c.in_ok-table.table t i (omega (arith, c.next.ensures, le));
     }
 
 pub returns : goal.returns
@@ -21,9 +21,9 @@ returns g c = λ s of.
     let m = c.args.bindings.now.subst in
     let h = c.args.history.now in
     let t = c.in_ok-table.table in
-    let entries = whole_entries st m h s of c.whole.result c.whole.ensures.rules in
+    let entries = whole_entries st m h s of c.whole-scope.result c.whole-scope.ensures.rules in
     record {
-      shown = taken_is st m h c.whole.result t c.in_ok-table.ensures c.next.result.0 _ _ _ (whole_rows st m h s of c.whole.result c.whole.ensures.rows) entries (of.next ∙ sym c.next.ensures) refl
+      shown = taken_is st m h c.whole-scope.result t c.in_ok-table.ensures c.in_ok-firings.firings c.in_ok-firings.ensures c.next.result.0 _ _ _ (whole_rows st m h s of c.whole-scope.result c.whole-scope.ensures.rows) entries (of.next ∙ sym c.next.ensures) refl
           (ap (λ (u : Subst). option_map (resolved_atom u) (guest_view c.args.guest)) of.subst ∙ sym c.in_ok-guest.ensures);
-      firings = taken_firings st m h c.whole.result t c.in_ok-table.ensures _ entries;
+      firings = taken_firings st m h c.whole-scope.result t c.in_ok-table.ensures c.in_ok-firings.firings c.in_ok-firings.ensures _ entries;
     }

@@ -1,7 +1,6 @@
 use Rattle.std.proofs.Common.{◌∙◌, ◌==◌, ◌+◌, Option, Some, ap, cond, subst, sym}
 use Rattle.chr_semantics.specs.Program.{Atom}
 use Rattle.chr_store.specs.Rows.{row_atom}
-use Rattle.chr_store.specs.declared.row.Row.{Row}
 use Rattle.chr_find.specs.KeyedView.{HasRoom}
 use Rattle.chr_find.specs.NotedView.{noted_atom}
 use Rattle.chr_find.specs.Newest.{with_newest}
@@ -25,12 +24,10 @@ invariant_of-self g c =
     record {
       shown = t.shown;
       apart = apart_added t.newest s (noted_atom t.noted) c.list_newest.ensures.newest absent;
-      listed = listed_alike (atoms_with f c.args.id.0 (Some (row_atom c.value.result.now))) (with_newest (Some s) (noted_atom t.noted)) c.enter.new.self
-          (λ i. added i ∙ ap (λ (r : Row g.row.A.Denot). atoms_with f c.args.id.0 (Some (row_atom r)) i) (sym c.value.ensures)) (c.enter.ensures.lists f t.listed absent);
+      listed = listed_alike (atoms_with f c.args.id.0 (Some (row_atom c.args.row))) (with_newest (Some s) (noted_atom t.noted)) c.enter.new.self added (c.enter.ensures.lists f t.listed absent);
       ground = λ none.
-          ground_alike (atoms_with f c.args.id.0 (Some (row_atom c.value-2.result.now))) (with_newest (Some s) (noted_atom t.noted))
-          (λ i. added i ∙ ap (λ (r : Row g.row.A.Denot). atoms_with f c.args.id.0 (Some (row_atom r)) i) (sym c.value-2.ensures))
-          (ground_added f c.args.id.0 (row_atom c.value-2.result.now) t.may_open c.is_open.result t.ground c.is_open.ensures none);
+          ground_alike (atoms_with f c.args.id.0 (Some (row_atom c.args.row))) (with_newest (Some s) (noted_atom t.noted)) added
+          (ground_added f c.args.id.0 (row_atom c.args.row) t.may_open c.is_open.result t.ground c.is_open.ensures none);
     }
 
 pub returns-clause-atoms : goal.returns-clause-atoms

@@ -1,6 +1,5 @@
 use Rattle.std.proofs.Common.{◌∙◌}
 use Rattle.chr_find.proofs.Newest.{none_for}
-use Rattle.chr_find.proofs.TableFired.{fired_same}
 use Rattle.chr_find.proofs.TableSame.{apart_kept, atoms_kept, ground_kept, listed_kept, shown_kept}
 use Rattle.chr_find.proofs.table.Table.enlist.Goals as goal
 
@@ -19,14 +18,8 @@ invariant_of-self g c =
 pub returns-in_err-room-clause-same : goal.returns-in_err-room-clause-same
 returns-in_err-room-clause-same g c = atoms_kept c.args.self.now c.room.new.self c.room.ensures.rows
 
-pub returns-in_err-room-clause-fired : goal.returns-in_err-room-clause-fired
-returns-in_err-room-clause-fired g c = fired_same c.room.new.self c.args.self.now.noted c.room.ensures.fired
-
 pub returns-in_ok-room-clause-same : goal.returns-in_ok-room-clause-same
 returns-in_ok-room-clause-same g c i = c.list_newest.ensures.same i ∙ atoms_kept c.args.self.now c.room.new.self c.room.ensures.rows i
-
-pub returns-in_ok-room-clause-fired : goal.returns-in_ok-room-clause-fired
-returns-in_ok-room-clause-fired g c r ids = c.list_newest.ensures.fired r ids ∙ fired_same c.room.new.self c.args.self.now.noted c.room.ensures.fired r ids
 
 pub returns-in_ok-room-clause-ok : goal.returns-in_ok-room-clause-ok
 returns-in_ok-room-clause-ok g c = none_for c.list_newest.new.self c.list_newest.ensures.newest

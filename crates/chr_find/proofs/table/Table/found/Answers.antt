@@ -2,9 +2,8 @@ use Rattle.std.proofs.Common.{◌≡◌, ◌∙◌, [], ap, subst, sym}
 use Rattle.chr_semantics.specs.Join.{own_joined}
 use Rattle.chr_semantics.specs.Program.{Atom}
 use Rattle.chr_store.specs.Rows.{row_atom}
-use Rattle.chr_find.specs.Finding.{heads_of, rule_of}
+use Rattle.chr_find.specs.Finding.{rule_of}
 use Rattle.chr_find.specs.Finds.{Finds}
-use Rattle.chr_find.specs.Firings.{history_of}
 use Rattle.chr_find.specs.Gate.{passed}
 use Rattle.chr_find.specs.ModeView.{gate_of}
 use Rattle.chr_find.specs.PlanView.{positions_of}
@@ -21,7 +20,7 @@ returns-clause-found g c =
     let s = c.args.active.now in
     ok_more _ _ c.first.result
     (λ found f a lives x at rows shown quiet.
-    let same : row_atom c.value-row.result.now ≡ a = ap row_atom c.value-row.ensures ∙ row_is (atom_at t s.id.0) c.in-Some.row.now a c.in-Some.ensures lives in
-    subst (λ (b : Atom). Finds (history_of t.noted.fired.all) s.number (rule_of t s).guard [] (heads_of t s) (passed c.args.from (gate_of c.args.mode c.args.after.now) (own_joined rows (rule_of t s) s.place x (s.id.0, b))) found c.args.tries.now c.first.new.tries) same
+    let same : row_atom c.in-Some.row.now ≡ a = row_is (atom_at t s.id.0) c.in-Some.row.now a c.in-Some.ensures lives in
+    subst (λ (b : Atom). Finds (g.P.Past.history c.args.past.now) s.number (rule_of s).guard [] (passed c.args.from (gate_of c.args.mode c.args.after.now) (own_joined rows (rule_of s) s.place x (s.id.0, b))) found c.args.tries.now c.first.new.tries) same
     (f x at rows (subst (λ (p : Plan g.row.A.Denot). IsShown (positions_of p) t.noted.rows rows) (sym c.value.ensures) shown) quiet))
     c.first.ensures

@@ -1,7 +1,6 @@
 use Rattle.std.proofs.Common.{◌≡◌, ◌∙◌, Some, sym}
 use Rattle.chr_find.specs.NotedView.{noted_atom}
 use Rattle.chr_find.proofs.Newest.{apart_none}
-use Rattle.chr_find.proofs.TableFired.{fired_same}
 use Rattle.chr_find.proofs.TableSame.{atoms_enlisted, ground_kept, listed_kept, shown_enlisted}
 use Rattle.chr_find.proofs.table.Table.list_newest.Goals as goal
 
@@ -25,6 +24,3 @@ returns-in-Some-clause-same g c =
     let s = c.in-Some.field-0 in
     let is : t.newest ≡ Some s = sym c.replace.ensures.value ∙ c.in-Some.is in
     atoms_enlisted t c.note.new.self s is c.note.ensures.rows c.replace.new.dest c.replace.ensures.after
-
-pub returns-in-Some-clause-fired : goal.returns-in-Some-clause-fired
-returns-in-Some-clause-fired g c = fired_same c.note.new.self c.args.self.now.noted c.note.ensures.fired

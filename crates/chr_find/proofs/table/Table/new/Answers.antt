@@ -5,18 +5,14 @@ use Rattle.chr_find.specs.Places.{held}
 use Rattle.chr_find.specs.declared.list.Place.{Place}
 use Rattle.chr_find.proofs.GroundRows.{ground_nowhere}
 use Rattle.chr_find.proofs.Newest.{apart_none}
-use Rattle.chr_find.proofs.TableFired.{fired_none}
 use Rattle.chr_find.proofs.TableRows.{atoms_none, shown_none}
 use Rattle.chr_find.proofs.table.Table.new.Goals as goal
 
 pub invariant_of-result : goal.invariant_of-result
 invariant_of-result g c =
-    let n = c.new-3.result in
-    let rows : (q : Place) → row_at n q ≡ None = λ q. c.new-3.ensures.rows q ∙ ap (λ (es : List (Place × Row g.row.A.Denot)). held es q) c.new.ensures in
+    let n = c.new-2.result in
+    let rows : (q : Place) → row_at n q ≡ None = λ q. c.new-2.ensures.rows q ∙ ap (λ (es : List (Place × Row g.row.A.Denot)). held es q) c.new.ensures in
     record { shown = shown_none n rows; apart = apart_none None (noted_atom n) refl; listed = c.off.ensures.lists (noted_atom n); ground = λ none. ground_nowhere (noted_atom n) (atoms_none n rows) }
 
 pub returns-clause-atoms : goal.returns-clause-atoms
-returns-clause-atoms g c = atoms_none c.new-3.result (λ q. c.new-3.ensures.rows q ∙ ap (λ (es : List (Place × Row g.row.A.Denot)). held es q) c.new.ensures)
-
-pub returns-clause-fired : goal.returns-clause-fired
-returns-clause-fired g c = fired_none c.new-3.result c.new-3.result (λ x. c.new-3.ensures.fired x ∙ c.new-2.ensures x)
+returns-clause-atoms g c = atoms_none c.new-2.result (λ q. c.new-2.ensures.rows q ∙ ap (λ (es : List (Place × Row g.row.A.Denot)). held es q) c.new.ensures)

@@ -15,15 +15,9 @@ returns-then-not-self-clause-woken g c rows has =
     let t = c.args.self.now in
     ap numbers c.new.ensures.items ∙ sym (ground_none_open c.args.bindings.now.subst rows has.rises (ground_alike (atom_at t) (atom_of rows) has.same (t.ground c.if-not-self.true)))
 
-pub returns-in_err-replaced-clause-fired : goal.returns-in_err-replaced-clause-fired
-returns-in_err-replaced-clause-fired g c r ids = c.rebound.ensures.fired r ids ∙ c.settle_all.ensures.fired r ids
-
-pub returns-clause-fired : goal.returns-clause-fired
-returns-clause-fired g c r ids = c.replace_all.ensures.fired r ids ∙ (c.rebound.ensures.fired r ids ∙ c.settle_all.ensures.fired r ids)
-
 pub returns-clause-atoms : goal.returns-clause-atoms
 returns-clause-atoms g c i =
-    c.replace_all.ensures.atoms i
+    c.replace_all.ensures i
     ∙ (c.in_ok-replaced.ensures.ok.atoms i ∙ ap (option_map (resolved_atom c.args.bindings.now.subst)) (c.rebound.ensures.same i ∙ c.settle_all.ensures.same i))
 
 pub returns-clause-woken : goal.returns-clause-woken

@@ -1,13 +1,11 @@
 use Rattle.std.proofs.Common.{◌∙◌, None, Some, ap, arith, refl, sym}
 use Rattle.chr_store.specs.Rows.{row_atom}
-use Rattle.chr_store.specs.declared.row.Row.{Row}
 use Rattle.chr_find.specs.Newest.{IsNot, with_newest}
 use Rattle.chr_find.specs.NotedView.{noted_atom}
 use Rattle.chr_find.specs.TableView.{atom_at, atoms_with}
 use Rattle.chr_find.proofs.GroundRows.{ground_alike, ground_without}
 use Rattle.chr_find.proofs.KeyedTables.{listed_alike}
 use Rattle.chr_find.proofs.Newest.{apart_none}
-use Rattle.chr_find.proofs.TableFired.{fired_same}
 use Rattle.chr_find.proofs.TableSame.{apart_out, atoms_gone, atoms_out, shown_out}
 use Rattle.chr_find.proofs.table.Table.remove.Goals as goal
 
@@ -19,7 +17,7 @@ invariant_of-self g c =
       shown = t.shown;
       apart = apart_none None (noted_atom t.noted) refl;
       listed = listed_alike (atoms_with (atom_at t) c.args.id.0 None) (noted_atom t.noted) c.leave.new.self atoms
-          (c.leave.ensures.lists (atom_at t) t.listed (c.requires.there ∙ ap (λ (r : Row g.row.A.Denot). Some (row_atom r)) (sym c.value.ensures)));
+          (c.leave.ensures.lists (atom_at t) t.listed c.requires.there);
       ground = λ none. ground_alike (atoms_with (atom_at t) c.args.id.0 None) (noted_atom t.noted) atoms (ground_without (atom_at t) c.args.id.0 (t.ground none));
     }
 
@@ -34,7 +32,7 @@ invariant_of-self-else-is_newest g c =
       shown = shown_out t n c.args.id c.args.row other c.requires.there rows c.note.ensures.plan;
       apart = apart_out t n c.args.id c.args.row other c.requires.there rows;
       listed = listed_alike (atoms_with (atom_at t) c.args.id.0 None) (with_newest t.newest (noted_atom n)) c.leave.new.self atoms
-          (c.leave.ensures.lists (atom_at t) t.listed (c.requires.there ∙ ap (λ (r : Row g.row.A.Denot). Some (row_atom r)) (sym c.value.ensures)));
+          (c.leave.ensures.lists (atom_at t) t.listed c.requires.there);
       ground = λ none. ground_alike (atoms_with (atom_at t) c.args.id.0 None) (with_newest t.newest (noted_atom n)) atoms (ground_without (atom_at t) c.args.id.0 (t.ground none));
     }
 
@@ -46,9 +44,6 @@ returns-then-is_newest-clause-room g c n room = (omega (arith, room.0), c.leave.
 
 pub returns-else-is_newest-clause-atoms : goal.returns-else-is_newest-clause-atoms
 returns-else-is_newest-clause-atoms g c = atoms_out c.args.self.now c.note.new.self c.args.id c.args.row (c.is_newest.ensures.no c.if-is_newest.false) c.requires.there c.note.ensures.rows
-
-pub returns-else-is_newest-clause-fired : goal.returns-else-is_newest-clause-fired
-returns-else-is_newest-clause-fired g c = fired_same c.note.new.self c.args.self.now.noted c.note.ensures.fired
 
 pub returns-else-is_newest-clause-room : goal.returns-else-is_newest-clause-room
 returns-else-is_newest-clause-room g c n room = (c.note.ensures.room n room.0, c.leave.ensures.room n room.1)

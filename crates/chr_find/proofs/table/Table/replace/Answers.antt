@@ -1,12 +1,10 @@
 use Rattle.std.proofs.Common.{◌∙◌, Some, ap, sym}
 use Rattle.chr_store.specs.Rows.{row_atom}
-use Rattle.chr_store.specs.declared.row.Row.{Row}
 use Rattle.chr_find.specs.Newest.{with_newest}
 use Rattle.chr_find.specs.NotedView.{noted_atom}
 use Rattle.chr_find.specs.TableView.{atom_at, atoms_with}
 use Rattle.chr_find.proofs.GroundRows.{ground_added, ground_alike}
 use Rattle.chr_find.proofs.KeyedTables.{listed_alike}
-use Rattle.chr_find.proofs.TableFired.{fired_same}
 use Rattle.chr_find.proofs.TableSame.{apart_over, atoms_over, shown_over}
 use Rattle.chr_find.proofs.table.Table.replace.Goals as goal
 
@@ -21,20 +19,15 @@ invariant_of-self g c =
     record {
       shown = shown_over t n c.requires.all r.id r.old r.new was rows c.note.ensures.plan;
       apart = apart_over t n c.requires.all r.id r.old r.new was rows;
-      listed = listed_alike (atoms_with (atom_at t) r.id.0 (Some (row_atom c.value-2.result.now))) (with_newest t.newest (noted_atom n)) c.replace.new.self
-          (λ i. atoms i ∙ ap (λ (x : Row g.row.A.Denot). atoms_with (atom_at t) r.id.0 (Some (row_atom x)) i) (sym c.value-2.ensures))
-          (c.replace.ensures.lists (atom_at t) t.listed (was ∙ ap (λ (x : Row g.row.A.Denot). Some (row_atom x)) (sym c.value.ensures)));
+      listed = listed_alike (atoms_with (atom_at t) r.id.0 (Some (row_atom r.new))) (with_newest t.newest (noted_atom n)) c.replace.new.self atoms
+          (c.replace.ensures.lists (atom_at t) t.listed was);
       ground = λ none.
-          ground_alike (atoms_with (atom_at t) r.id.0 (Some (row_atom c.value-3.result.now))) (with_newest t.newest (noted_atom n))
-          (λ i. atoms i ∙ ap (λ (x : Row g.row.A.Denot). atoms_with (atom_at t) r.id.0 (Some (row_atom x)) i) (sym c.value-3.ensures))
-          (ground_added (atom_at t) r.id.0 (row_atom c.value-3.result.now) t.may_open c.is_open.result t.ground c.is_open.ensures none);
+          ground_alike (atoms_with (atom_at t) r.id.0 (Some (row_atom r.new))) (with_newest t.newest (noted_atom n)) atoms
+          (ground_added (atom_at t) r.id.0 (row_atom r.new) t.may_open c.is_open.result t.ground c.is_open.ensures none);
     }
 
 pub returns-clause-atoms : goal.returns-clause-atoms
 returns-clause-atoms g c = let r = c.args.replaced in atoms_over c.args.self.now c.note.new.self c.requires.all r.id r.old r.new c.requires.there c.note.ensures.rows
-
-pub returns-clause-fired : goal.returns-clause-fired
-returns-clause-fired g c = fired_same c.note.new.self c.args.self.now.noted c.note.ensures.fired
 
 pub returns-clause-room : goal.returns-clause-room
 returns-clause-room g c n room = (c.note.ensures.room n room.0, c.replace.ensures.room n room.1)

@@ -1,5 +1,4 @@
 use Rattle.chr_find.specs.TableView.{atom_at}
-use Rattle.chr_find.proofs.TableFired.{fired_same}
 use Rattle.chr_find.proofs.TableSame.{apart_kept, atoms_kept, ground_kept, listed_kept, shown_kept}
 use Rattle.chr_find.proofs.table.Table.room.Goals as goal
 
@@ -20,6 +19,3 @@ invariant_of-self-2 g c =
 
 pub returns-clause-same : goal.returns-clause-same
 returns-clause-same g c = atoms_kept c.args.self.now c.room-2.new.self c.room-2.ensures.rows
-
-pub returns-clause-fired : goal.returns-clause-fired
-returns-clause-fired g c = fired_same c.room-2.new.self c.args.self.now.noted c.room-2.ensures.fired

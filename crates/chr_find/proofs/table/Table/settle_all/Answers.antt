@@ -2,8 +2,5 @@ use Rattle.std.proofs.Common.{◌∙◌}
 use Rattle.chr_map.proofs.Clauses.{ok_leads}
 use Rattle.chr_find.proofs.table.Table.settle_all.Goals as goal
 
-pub returns-clause-fired : goal.returns-clause-fired
-returns-clause-fired g c r ids = c.settle.ensures.fired r ids ∙ c.in_ok-enlist.ensures.fired r ids
-
 pub returns-clause-ok : goal.returns-clause-ok
 returns-clause-ok g c = ok_leads _ _ c.settle.result c.settle.ensures.ok (λ settled. record { settled = settled; all = λ i. c.settle.ensures.own i (c.in_ok-enlist.ensures.ok i) })

@@ -8,8 +8,8 @@ use Rattle.chr_semantics.specs.Trace.{activates}
 use Rattle.chr_rules.specs.ProgramView.{names_of, rules_of}
 use Rattle.chr_term.specs.TermView.{atom_over}
 use Rattle.chr_trace.specs.State.{stack_view}
-use Rattle.chr_base.specs.BaseView.{BaseModel}
-use Rattle.chr_resume.specs.ResumingView.{base_in, program_in}
+use Rattle.chr_base.specs.Model.{BaseModel}
+use Rattle.chr_base.specs.BaseView.{base_view, program_of}
 use Rattle.chr_machine.specs.Model.{model_of}
 use Rattle.chr_machine.proofs.Constraints.{activated, line_in}
 use Rattle.chr_machine.proofs.ShownTexts.{of_next, shown_added}
@@ -42,7 +42,7 @@ invariant_of-self g c =
     let text = c.in-Ok.ensures.text ∙ (λ p. known_text (names_of (sym kept.program p)) (sym kept.var_names p) (resolved_atom (sym kept.base p).subst a) (sym c.in-Ok.ensures.id p)) in
     let up = subst (λ (b : BaseModel). Ascends 0 b.store.rows b.store.next_id) (sym kept.base) c.requires.ascends in
     record {
-      shows = λ right. shown_added c.add.result (names_of (program_in t.base)) (names_of (program_in c.add.new.self)) t.var_names (base_in t.base) (base_in c.add.new.self) t.shown.id.0 a t.shown.text.items up (ap names_of c.add.ensures.program) id text
+      shows = λ right. shown_added c.add.result (names_of (program_of t.base)) (names_of (program_of c.add.new.self)) t.var_names (base_view t.base) (base_view c.add.new.self) t.shown.id.0 a t.shown.text.items up (ap names_of c.add.ensures.program) id text
           c.add.ensures.ok c.add.ensures.err (t.shows right);
     }
 
@@ -61,7 +61,7 @@ returns-in-Ok-add-clause-ok g c =
       makes = activated m (model_of c.put.new.self) a (record {
         stack = c.put.ensures.stack ∙ (λ p. at_occurrence (id p) 1 (record { sym = c.args.sym.0; args = copied p }) ∷ stack_view (c.log.ensures.stack p).items) ∙ ap (λ es. at_occurrence m.base.store.next_id 1 a ∷ stack_view es) kept.stack;
         status = c.put.ensures.status;
-        base = ap base_in (c.put.ensures.below.base ∙ c.log.ensures.base) ∙ is;
+        base = ap base_view (c.put.ensures.below.base ∙ c.log.ensures.base) ∙ is;
         lines = ap (λ ls. ls.made) c.put.ensures.below.lines ∙ (c.log.ensures.lines _ c.in-Ok.ensures.line ∙ (λ p. kept.lines p ++ line p ∷ []));
         steps = c.put.ensures.below.steps ∙ (c.log.ensures.steps ∙ ap (λ n. n + 1) kept.steps);
         same = record {

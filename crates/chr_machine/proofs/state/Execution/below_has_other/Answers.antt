@@ -8,13 +8,13 @@ use Rattle.chr_machine.specs.Gathering.{is_other, waiting_tasks, waiting_view}
 use Rattle.chr_machine.specs.Model.{model_of, state_in}
 use Rattle.chr_machine.proofs.Gathered.{waiting_none}
 use Rattle.chr_machine.proofs.OtherTasks.{other_below, other_here}
-use Rattle.chr_resume.specs.ResumingView.{program_in}
+use Rattle.chr_base.specs.BaseView.{program_of}
 use Rattle.chr_machine.proofs.state.Execution.below_has_other.Goals as goal
 
 pub returns-then-has_other : goal.returns-then-has_other
 returns-then-has_other g c =
     let l = c.loop-left in
-    let p = rules_of (program_in c.args.self.now.base) in
+    let p = rules_of (program_of c.args.self.now.base) in
     let s = state_in (model_of c.args.self.now) in
     let t = task_view c.args.task in
     let rest = list_any (is_other t) (waiting_tasks p s (l.wanted - 1) (stack_view (take (l.left - 1) c.args.below.now))) in
@@ -24,7 +24,7 @@ returns-then-has_other g c =
 pub loop-left-preserved-in-Some : goal.loop-left-preserved-in-Some
 loop-left-preserved-in-Some g c =
     let l = c.loop-left in
-    let p = rules_of (program_in c.args.self.now.base) in
+    let p = rules_of (program_of c.args.self.now.base) in
     let s = state_in (model_of c.args.self.now) in
     let t = task_view c.args.task in
     let rest = list_any (is_other t) (waiting_tasks p s (l.wanted - 1) (stack_view (take (l.left - 1) c.args.below.now))) in
@@ -37,7 +37,7 @@ loop-left-preserved-in-Some g c =
 pub loop-left-preserved : goal.loop-left-preserved
 loop-left-preserved g c =
     let l = c.loop-left in
-    let p = rules_of (program_in c.args.self.now.base) in
+    let p = rules_of (program_of c.args.self.now.base) in
     let s = state_in (model_of c.args.self.now) in
     record {
       within = omega arith;
@@ -48,7 +48,7 @@ pub returns-else-wanted-gt0 : goal.returns-else-wanted-gt0
 returns-else-wanted-gt0 g c =
     let l = c.loop-left in
     let none : l.wanted ≡ 0 = omega arith in
-    let p = rules_of (program_in c.args.self.now.base) in
+    let p = rules_of (program_of c.args.self.now.base) in
     let s = state_in (model_of c.args.self.now) in
     sym (l.invariant.same ∙ ap (λ (n : ℕ). list_any (is_other (task_view c.args.task)) (waiting_tasks p s n (stack_view (take l.left c.args.below.now)))) none)
 
@@ -56,7 +56,7 @@ pub returns-after-loop-left : goal.returns-after-loop-left
 returns-after-loop-left g c =
     let l = c.loop-left in
     let none : l.left ≡ 0 = omega arith in
-    let p = rules_of (program_in c.args.self.now.base) in
+    let p = rules_of (program_of c.args.self.now.base) in
     let s = state_in (model_of c.args.self.now) in
     let other = is_other (task_view c.args.task) in
     sym (l.invariant.same

@@ -6,12 +6,12 @@ use Rattle.chr_find.specs.SnapshotView.{task_view}
 use Rattle.chr_trace.specs.State.{stack_view}
 use Rattle.chr_machine.specs.Gathering.{is_other, waiting_tasks}
 use Rattle.chr_machine.specs.Model.{model_of, state_in}
-use Rattle.chr_resume.specs.ResumingView.{program_in}
+use Rattle.chr_base.specs.BaseView.{program_of}
 use Rattle.chr_machine.proofs.state.Execution.below_has_other.Given as goal
 
 abbrev pub invariant-loop-left : goal.invariant-loop-left
 invariant-loop-left g l =
-    let p = rules_of (program_in l.self.base) in
+    let p = rules_of (program_of l.self.base) in
     let s = state_in (model_of l.self) in
     let other = is_other (task_view l.task) in
     record {

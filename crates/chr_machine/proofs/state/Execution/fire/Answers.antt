@@ -1,8 +1,7 @@
-use Rattle.std.proofs.Common.{◌≡◌, ◌∙◌, ◌≤◌, ℕ, List, ap, false, length, subst, sym}
+use Rattle.std.proofs.Common.{◌≡◌, ◌≤◌, ℕ, List, false, length, subst, sym}
 use Rattle.chr_semantics.specs.Search.{fired_before}
 use Rattle.chr_rules.specs.RuleView.{rule_view}
 use Rattle.chr_term.specs.TermView.{atom_over}
-use Rattle.chr_machine.specs.Firing.{FiresBelow}
 use Rattle.chr_machine.specs.Model.{model_of}
 use Rattle.chr_machine.proofs.Firings.{fired_after, fired_makes}
 use Rattle.chr_machine.proofs.state.Execution.fire.Goals as goal

@@ -3,14 +3,14 @@ use Rattle.chr_semantics.specs.Tasks.{below_top, guest_in, guest_tasks, tasks_fr
 use Rattle.chr_rules.specs.ProgramView.{rules_of}
 use Rattle.chr_find.specs.SnapshotView.{task_view}
 use Rattle.chr_trace.specs.State.{stack_view}
-use Rattle.chr_resume.specs.ResumingView.{program_in}
+use Rattle.chr_base.specs.BaseView.{program_of}
 use Rattle.chr_machine.specs.Model.{model_of, state_in}
 use Rattle.chr_machine.proofs.OtherTasks.{in_first, in_second, in_third}
 use Rattle.chr_machine.proofs.state.Execution.has_other_at.Goals as goal
 
 pub returns-then-has_other : goal.returns-then-has_other
 returns-then-has_other g c =
-    let p = rules_of (program_in c.args.self.now.base) in
+    let p = rules_of (program_of c.args.self.now.base) in
     let s = state_in (model_of c.args.self.now) in
     let w = c.args.active in
     let es = stack_view c.args.below.now in
@@ -18,7 +18,7 @@ returns-then-has_other g c =
 
 pub returns-then-below_has_other : goal.returns-then-below_has_other
 returns-then-below_has_other g c =
-    let p = rules_of (program_in c.args.self.now.base) in
+    let p = rules_of (program_of c.args.self.now.base) in
     let s = state_in (model_of c.args.self.now) in
     let w = c.args.active in
     let es = stack_view c.args.below.now in
@@ -26,7 +26,7 @@ returns-then-below_has_other g c =
 
 pub returns : goal.returns
 returns g c =
-    let p = rules_of (program_in c.args.self.now.base) in
+    let p = rules_of (program_of c.args.self.now.base) in
     let s = state_in (model_of c.args.self.now) in
     let w = c.args.active in
     let es = stack_view c.args.below.now in

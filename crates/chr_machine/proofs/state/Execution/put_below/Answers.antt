@@ -7,13 +7,13 @@ use Rattle.chr_machine.specs.Gathering.{gathered, waiting_tasks, waiting_view}
 use Rattle.chr_machine.specs.Model.{model_of, state_in}
 use Rattle.chr_machine.proofs.Gathered.{waiting_none}
 use Rattle.chr_machine.proofs.Tops.{waiting_below, waiting_here}
-use Rattle.chr_resume.specs.ResumingView.{program_in}
+use Rattle.chr_base.specs.BaseView.{program_of}
 use Rattle.chr_machine.proofs.state.Execution.put_below.Goals as goal
 
 pub loop-left-preserved-in-Some : goal.loop-left-preserved-in-Some
 loop-left-preserved-in-Some g c =
     let l = c.loop-left in
-    let p = rules_of (program_in c.args.self.now.base) in
+    let p = rules_of (program_of c.args.self.now.base) in
     let s = state_in (model_of c.args.self.now) in
     let ts = tasks_view l.tasks.items in
     let us = tasks_view c.put_tasks.new.tasks.items in
@@ -25,7 +25,7 @@ loop-left-preserved-in-Some g c =
 pub loop-left-preserved : goal.loop-left-preserved
 loop-left-preserved g c =
     let l = c.loop-left in
-    let p = rules_of (program_in c.args.self.now.base) in
+    let p = rules_of (program_of c.args.self.now.base) in
     let s = state_in (model_of c.args.self.now) in
     record {
       within = omega arith;
@@ -36,7 +36,7 @@ pub returns-else-wanted-gt0 : goal.returns-else-wanted-gt0
 returns-else-wanted-gt0 g c =
     let l = c.loop-left in
     let none : l.wanted ≡ 0 = omega arith in
-    let p = rules_of (program_in c.args.self.now.base) in
+    let p = rules_of (program_of c.args.self.now.base) in
     let s = state_in (model_of c.args.self.now) in
     sym (l.invariant.same ∙ ap (λ (n : ℕ). gathered MAX_TASKS (tasks_view l.tasks.items) (waiting_tasks p s n (stack_view (take l.left c.args.below.now)))) none)
 
@@ -44,7 +44,7 @@ pub returns-after-loop-left : goal.returns-after-loop-left
 returns-after-loop-left g c =
     let l = c.loop-left in
     let none : l.left ≡ 0 = omega arith in
-    let p = rules_of (program_in c.args.self.now.base) in
+    let p = rules_of (program_of c.args.self.now.base) in
     let s = state_in (model_of c.args.self.now) in
     sym (l.invariant.same
     ∙ (ap (λ (n : ℕ). gathered MAX_TASKS (tasks_view l.tasks.items) (waiting_tasks p s l.wanted (stack_view (take n c.args.below.now)))) none

@@ -6,12 +6,12 @@ use Rattle.chr_rules.specs.ProgramView.{rules_of}
 use Rattle.chr_find.specs.SnapshotView.{task_view, tasks_view}
 use Rattle.chr_machine.specs.Gathering.{gathered}
 use Rattle.chr_machine.proofs.Gathered.{gathered_full, tasks_next}
-use Rattle.chr_resume.specs.ResumingView.{program_in}
+use Rattle.chr_base.specs.BaseView.{program_of}
 use Rattle.chr_machine.proofs.state.Execution.put_tasks.Goals as goal
 
 pub loop-waiting-preserved : goal.loop-waiting-preserved
 loop-waiting-preserved g c =
-    let p = rules_of (program_in c.args.self.now.base) in
+    let p = rules_of (program_of c.args.self.now.base) in
     let w = c.args.waiting in
     let l = c.loop-waiting in
     let next = tasks_next p w.sym.0 w.id.0 l.number c.if-reaches.ensures.cases in
@@ -23,4 +23,4 @@ returns-after-loop-waiting g c =
     let l = c.loop-waiting in
     let w = c.args.waiting in
     let full : MAX_TASKS ≤ length (tasks_view l.tasks.items) = omega (arith, length-map l.tasks.items task_view, l.tasks.ok.0, c.len.ensures, c.loop-waiting-test.false) in
-    sym (l.invariant ∙ gathered_full MAX_TASKS (tasks_view l.tasks.items) (tasks_from (rules_of (program_in c.args.self.now.base)) w.sym.0 w.id.0 l.number) full)
+    sym (l.invariant ∙ gathered_full MAX_TASKS (tasks_view l.tasks.items) (tasks_from (rules_of (program_of c.args.self.now.base)) w.sym.0 w.id.0 l.number) full)

@@ -1,8 +1,8 @@
 use Rattle.std.proofs.Common.{◌∙◌, ap}
 use Rattle.chr_rules.specs.ProgramView.{names_of, rules_of}
 use Rattle.chr_rules.specs.RuleView.{query_view}
-use Rattle.chr_base.specs.BaseView.{BaseModel}
-use Rattle.chr_resume.specs.ResumingView.{base_in}
+use Rattle.chr_base.specs.Model.{BaseModel}
+use Rattle.chr_base.specs.BaseView.{base_view}
 use Rattle.chr_machine.specs.Model.{model_of}
 use Rattle.chr_machine.proofs.Starts.{proper_start, started}
 use Rattle.chr_machine.proofs.state.Execution.start.Goals as goal
@@ -10,7 +10,7 @@ use Rattle.chr_machine.proofs.state.Execution.start.Goals as goal
 pub returns-clause-starts : goal.returns-clause-starts
 returns-clause-starts g c =
     let below = c.in_ok-load.ensures.below in
-    let base = ap base_in below.base in
+    let base = ap base_view below.base in
     let made = c.in_ok-base.ensures in
     let program = below.program ∙ made.program in
     started (names_of c.args.program.now) (rules_of c.args.program.now) c.args.query.goals.items c.args.query.var_names (model_of c.load.new.self) (ap names_of program) (ap rules_of program) below.var_names

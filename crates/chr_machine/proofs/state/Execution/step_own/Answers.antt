@@ -1,10 +1,10 @@
-use Rattle.std.proofs.Common.{◌∙◌, List, None, Some, ℕ, ap, subst, sym}
+use Rattle.std.proofs.Common.{subst, sym}
 use Rattle.chr_term.specs.TermView.{atom_over}
 use Rattle.chr_rules.specs.ProgramView.{names_of, rules_of}
 use Rattle.chr_rules.specs.declared.program.Program.{Program}
 use Rattle.chr_semantics.proofs.OccurrenceRule.{occurrence_rule}
-use Rattle.chr_base.specs.BaseView.{BaseModel}
-use Rattle.chr_resume.specs.ResumingView.{base_in}
+use Rattle.chr_base.specs.Model.{BaseModel}
+use Rattle.chr_base.specs.BaseView.{base_view}
 use Rattle.chr_machine.specs.Firing.{ComesTo, occurrence_of}
 use Rattle.chr_machine.specs.Model.{model_of}
 use Rattle.chr_machine.proofs.Searched.{own_found}
@@ -21,18 +21,6 @@ go_on-requires-clause-comes g c =
     let s = c.args.active.now in
     let a = atom_over c.args.sym c.args.args in
     let at = c.requires.at in
-    let found = rw c.in-Ok-None.field-0-is at c.in-Ok-None.ensures.found in
-    subst (λ (p : Program g.row.A.Denot). ComesTo (record m { names = names_of p; rules = rules_of p; base = base_in c.search.new.base }) s c.args.number a None) (sym c.search.ensures.program)
-    (subst (λ (b : BaseModel). ComesTo (record m { base = b }) s c.args.number a None) (sym c.search.ensures.same) (record { at = at; found = own_found m s c.args.number a at.occurs at.lives None found }))
-
-pub go_on-requires-in-Ok-Some-clause-comes : goal.go_on-requires-in-Ok-Some-clause-comes
-go_on-requires-in-Ok-Some-clause-comes g c =
-    let m = model_of c.args.self.now in
-    let s = c.args.active.now in
-    let a = atom_over c.args.sym c.args.args in
-    let at = c.requires.at in
-    let ids = c.in-Ok-Some.ids.items in
-    let found = rw c.in-Ok-Some.field-0-is at c.in-Ok-Some.ensures.found in
-    subst (λ (p : Program g.row.A.Denot). ComesTo (record m { names = names_of p; rules = rules_of p; base = base_in c.search.new.base }) s c.args.number a (Some c.as_slice.result.now)) (sym c.search.ensures.program)
-    (subst (λ (b : BaseModel). ComesTo (record m { base = b }) s c.args.number a (Some c.as_slice.result.now)) (sym c.search.ensures.same)
-    (record { at = at; found = ap (λ (xs : List ℕ). Some xs) c.as_slice.ensures.value ∙ own_found m s c.args.number a at.occurs at.lives (Some ids) found }))
+    let found = c.in-Ok.found in
+    subst (λ (p : Program g.row.A.Denot). ComesTo (record m { names = names_of p; rules = rules_of p; base = base_view c.search.new.base }) s c.args.number a found) (sym c.search.ensures.program)
+    (subst (λ (b : BaseModel). ComesTo (record m { base = b }) s c.args.number a found) (sym c.search.ensures.same) (record { at = at; found = own_found m s c.args.number a at.occurs at.lives found c.in-Ok.ensures.found }))

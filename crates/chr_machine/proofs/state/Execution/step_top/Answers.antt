@@ -2,7 +2,7 @@ use Rattle.std.proofs.Common.{subst}
 use Rattle.chr_rules.specs.ProgramView.{rules_of}
 use Rattle.chr_trace.specs.State.{elem_view}
 use Rattle.chr_trace.specs.declared.state.Elem.{Elem}
-use Rattle.chr_resume.specs.ResumingView.{program_in}
+use Rattle.chr_base.specs.BaseView.{program_of}
 use Rattle.chr_machine.specs.Model.{model_of, state_in, topped}
 use Rattle.chr_machine.specs.Step.{IsProper}
 use Rattle.chr_machine.proofs.state.Execution.step_top.Goals as goal

@@ -1,7 +1,0 @@
-use Rattle.std.proofs.Common.{length}
-use Rattle.chr_rules.specs.RuleView.{rule_view}
-use Rattle.chr_bodies.proofs.Matched.{IsMatchedTo}
-use Rattle.chr_bodies.proofs.fired.match_heads.Given as goal
-
-abbrev pub invariant-loop-head : goal.invariant-loop-head
-invariant-loop-head g l = IsMatchedTo l.table (rule_view l.rule).heads l.ids (length l.yielded) l.matching

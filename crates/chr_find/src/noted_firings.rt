@@ -1,0 +1,82 @@
+//! Firings that are noted first and entered later.
+ghost use Rattle.std.specs.Prelude.{◌≡◌, ◌||◌, ◌&&◌, ◌==◌, ◌+◌, ◌≤◌, ℕ, IfOk, List, OnOk, is_some, vec_len};
+ghost use Rattle.std.specs.List.{list_all};
+ghost use Rattle.chr_semantics.specs.Search.{atom_of, fired_before, same_ids};
+ghost use Rattle.chr_store.specs.HistoryView.{entries_view};
+ghost use Rattle.chr_store.specs.StoreView.{store_view};
+
+use crate::Memory;
+use crate::firings::Firings;
+use crate::scope::Scope;
+use crate::taking::firings_taken;
+use chr_store::{Fired, History, Store};
+use std::alloc::{Allocator, Global};
+
+/// Firings that snapshots lend. One is noted where there is room for it, which takes no memory, and `settle` enters it. Contracts see all
+/// that are entered or noted.
+#[derive(Drop)]
+pub struct NotedFirings<A: Allocator = Global> {
+    pub(crate) firings: Firings<A>,
+    notes: Vec<Fired, A>,
+    /// How many of the notes are entered.
+    made: usize,
+    ghost noted: { made ≤ vec_len notes },
+}
+
+impl<A: Allocator + Copy> NotedFirings<A> {
+    ghost use Rattle.chr_find.specs.Firings.{fired_in};
+    ghost use Rattle.chr_find.specs.NotedFiringsView.{HasRoom, IsSettled, noted_in};
+
+    /// Those of a history whose constraints all live.
+    pub fn of(alloc: A, store: &Store<A>, history: &History<A>) -> Result<NotedFirings<A>, Memory>
+        ensures { IfOk result (λ firings. (r : ℕ) (ids : List ℕ) → noted_in firings r ids
+            ≡ (fired_before (entries_view history.now).list r ids
+            && list_all (λ i. is_some (atom_of (store_view store.now).rows i)) ids)) }
+    {
+        Ok(NotedFirings {
+            firings: firings_taken(alloc, store, history, Scope::whole(store))?,
+            notes: Vec::new(alloc),
+            made: 0,
+        })
+    }
+
+    /// Makes room for so many notes.
+    pub fn room(&mut self, more: usize) -> Result<(), Memory>
+        ensures same { (r : ℕ) (ids : List ℕ) → noted_in self.new r ids ≡ noted_in self.old r ids }
+        ensures ok { OnOk result (HasRoom more self.new) }
+    {
+        self.notes.reserve(more)?;
+        Ok(())
+    }
+
+    /// Notes a firing.
+    pub fn note(&mut self, fired: Fired)
+        requires { HasRoom 1 self.old }
+        ensures { (r : ℕ) (ids : List ℕ) → noted_in self.new r ids
+            ≡ (noted_in self.old r ids || (r == fired.rule && same_ids ids fired.ids)) }
+    {
+        self.notes.push_reserved(fired);
+    }
+
+    /// Enters all that are noted. Where that is refused, those that are left stay noted.
+    pub fn settle(&mut self) -> Result<(), Memory>
+        ensures same { (r : ℕ) (ids : List ℕ) → noted_in self.new r ids ≡ noted_in self.old r ids }
+        ensures ok { OnOk result (IsSettled self.new) }
+    {
+        while let Some(fired) = self.notes.get(self.made) {
+            self.firings.enter(*fired)?;
+            self.made += 1;
+        }
+        self.made = 0;
+        self.notes.clear();
+        Ok(())
+    }
+
+    /// The firings, at the price of a pointer.
+    pub(crate) fn share(&self) -> Result<Firings<A>, Memory>
+        requires { IsSettled self.now }
+        ensures { IfOk result (λ shared. (r : ℕ) (ids : List ℕ) → fired_in shared r ids ≡ noted_in self.now r ids) }
+    {
+        self.firings.share()
+    }
+}

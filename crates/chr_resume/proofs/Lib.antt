@@ -1,4 +1,0 @@
-pub mod Fired
-pub mod Parts
-pub mod Bookmarked
-pub mod Found

@@ -1,2 +1,0 @@
-pub mod Bookmarks
-pub mod ResumingView
