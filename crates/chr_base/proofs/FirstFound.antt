@@ -13,7 +13,7 @@ use Rattle.chr_semantics.specs.Search.{History, IsTuple, atom_of, can_fire, fire
 use Rattle.chr_semantics.specs.Subst.{Subst}
 use Rattle.chr_semantics.proofs.Lookups.{Ascends-ends, Ascends-resolved}
 use Rattle.chr_semantics.proofs.TuplesLaw.{tuples_law}
-use Rattle.chr_bounds.proofs.Steps.{find_so, passes_some, tuples_so}
+use Rattle.chr_laws.proofs.Steps.{find_so, passes_some, tuples_so}
 use Rattle.chr_rules.specs.RuleView.{rule_view}
 use Rattle.chr_find.specs.declared.active.Active.{Active}
 use Rattle.chr_base.specs.Agreement.{is_alive}

@@ -117,7 +117,7 @@ drop_least k n ids e = by (nat_lt k (length ids)) refl
         let past : length ids ≤ k = grind (arith, ge) in
         drop_past n ids (omega (arith, same)) ∙ sym (drop_past k ids past)
 
--- of at most so many no more leave
+-- of a number of constraints no more than that leave
 pub few_leave : {A : Type 0} (ls : List (Leaving A)) (ids : List ℕ) (k : ℕ) → leaving_ids ls ≡ drop k ids → length ids ≤ 8 → length ls ≤ 8
 few_leave ls ids k is few =
     let all : length (leaving_ids ls) ≡ length ls = length-map (reverse ls) (λ (l : Leaving _). l.id.0) ∙ length-reverse ls in

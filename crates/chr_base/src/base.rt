@@ -1,5 +1,5 @@
 //! The base of a run.
-ghost use Rattle.std.specs.Prelude.{◌≡◌, ◌<◌, [], IfErr, IfOk, OnErr, OnOk};
+ghost use Rattle.std.specs.Prelude.{◌≡◌, ◌<◌, [], IfOk, OnErr, OnOk};
 ghost use Rattle.std.proofs.Props.{props};
 ghost use Rattle.chr_semantics.specs.Changes.{added, empty_store, no_entries};
 ghost use Rattle.chr_semantics.specs.State.{resolved_atom};
@@ -53,7 +53,7 @@ pub struct Base<'p, A: Allocator = Global> {
 impl<'p, A: Allocator + Copy> Base<'p, A> {
     ghost use Rattle.chr_base.specs.BaseView.{base_view, program_of};
 
-    /// The base of a run of this program before the first transition: no constraint, nothing fired, and so many variables of which none is
+    /// The base of a run of this program before the first transition: no constraint, nothing fired, and the query's variables, of which none is
     /// bound.
     pub fn new(alloc: A, program: &'p Program<A>, variables: usize) -> Result<Base<'p, A>, Memory>
         ensures program { IfOk result (λ base. program_of base ≡ program.now) }
@@ -116,26 +116,25 @@ impl<'p, A: Allocator + Copy> Base<'p, A> {
         Ok(Row { sym, args })
     }
 
-    /// Adds a constraint under the next identity. Where memory is refused, nothing changes, and the arguments come back.
-    pub fn add(&mut self, sym: Sym, args: Args<A>) -> Result<Id, (Args<A>, Memory)>
+    /// Adds a constraint under the next identity. Where memory is refused, nothing changes.
+    pub fn add(&mut self, sym: Sym, args: &Args<A>) -> Result<Id, Memory>
         requires { (base_view self.old).store.changes < MAX_CHANGES }
         ensures ok { OnOk result (base_view self.new
-            ≡ record (base_view self.old) { store = added (base_view self.old).store (atom_over sym args) }) }
+            ≡ record (base_view self.old) { store = added (base_view self.old).store (atom_over sym args.now) }) }
         ensures id { IfOk result (λ id. id.0 ≡ (base_view self.old).store.next_id) }
-        ensures back { IfErr result (λ refused. refused.0 ≡ args) }
         ensures err { OnErr result (base_view self.new ≡ base_view self.old) }
         ensures program { program_of self.new ≡ program_of self.old }
     {
-        let row = match self.resolved_row(sym, &args) {
-            Err(error) => return Err((args, error)),
-            Ok(row) => row,
-        };
-        if let Err(error) = self.table.room(1) {
-            return Err((args, error));
+        let row = self.resolved_row(sym, args)?;
+        let shared = args.share()?;
+        self.table.room(1)?;
+        match self.store.add(sym, shared) {
+            Err((_, error)) => Err(error),
+            Ok(id) => {
+                self.table.add(id, row);
+                Ok(id)
+            }
         }
-        let id = self.store.add(sym, args)?;
-        self.table.add(id, row);
-        Ok(id)
     }
 
     /// The constraints, the bindings, and what has fired.

@@ -95,7 +95,7 @@ impl<'p, A: Allocator + Copy> Base<'p, A> {
         }
     }
 
-    /// Enters a firing, and makes so many variables, for which there is room.
+    /// Enters a firing, and makes new variables, for which there is room.
     fn enter(&mut self, fired: &Fired, variables: usize) -> Result<(), Memory>
         requires alive { list_all (is_alive (base_view self.old).store) fired.now.ids ≡ true }
         requires is_new { fired_before (base_view self.old).entries.list fired.now.rule fired.now.ids ≡ false }
@@ -119,7 +119,7 @@ impl<'p, A: Allocator + Copy> Base<'p, A> {
         Ok(())
     }
 
-    /// The same where one of the constraints is removed: no snapshot asks for what fired with it, so it is never noted.
+    /// Enters a firing that removes one of its constraints: no snapshot asks for what fired with that, so it is never noted.
     fn enter_without(
         &mut self,
         fired: &Fired,
@@ -157,7 +157,7 @@ impl<'p, A: Allocator + Copy> Base<'p, A> {
         Ok(())
     }
 
-    /// Enters a firing, makes so many variables, and removes those of its constraints that leave, the last one first, with room for all.
+    /// Enters a firing, makes new variables, and removes those of its constraints that leave, the last one first, with room for all.
     fn enter_all(
         &mut self,
         fired: &Fired,
@@ -193,7 +193,7 @@ impl<'p, A: Allocator + Copy> Base<'p, A> {
         }
     }
 
-    /// Enters a firing of which the first `kept` constraints stay and the others are removed, and makes so many variables. Where memory is
+    /// Enters a firing of which the first `kept` constraints stay and the others are removed, and makes new variables. Where memory is
     /// refused, nothing changes.
     fn settle_fired(&mut self, fired: &Fired, kept: usize, variables: usize) -> Result<(), Memory>
         requires can { CanEnter (base_view self.old) fired.now }
@@ -228,7 +228,7 @@ impl<'p, A: Allocator + Copy> Base<'p, A> {
     }
 
     /// The rule fires with the constraints that were found first for the active one, given in head order. Those behind the rule's kept
-    /// heads are removed; the body has so many new variables. Where memory is refused, nothing changes.
+    /// heads are removed; `variables` is how many new ones the body has. Where memory is refused, nothing changes.
     pub fn fire(
         &mut self,
         active: &Active<'_, A>,

@@ -1,6 +1,6 @@
 //! Values of arithmetic terms.
-ghost use Rattle.std.specs.Prelude.{◌≡◌, ◌≢◌, ◌∷◌, [], pos, IsTrue, ◌↔◌, ◌≤◌, MatchOption, Ok, length};
-ghost use Rattle.chr_semantics.specs.Value.{operator_value, modulo as modulo_of, node_value, value as value_of, values};
+ghost use Rattle.std.specs.Prelude.{◌≡◌, ◌≢◌, ◌∷◌, [], ◌*ℤ◌, int_div, int_rem, negsuc, pos, IsTrue, ◌↔◌, ◌≤◌, MatchOption, Ok, length};
+ghost use Rattle.chr_semantics.specs.Value.{operator_value, modulo as modulo_of, node_value, value as value_of, value_in_range, values};
 ghost use Rattle.chr_term.specs.TermView.{trees_view, view};
 ghost use Rattle.chr_bind.specs.Values.{checked_value, value_view};
 
@@ -82,11 +82,11 @@ fn apply_operator(sym: Sym, left: i128, right: i128) -> Result<i128, Fault>
     } else if sym == Sym::MINUS {
         in_range(left.checked_sub(right))
     } else if sym == Sym::TIMES {
-        in_range(left.checked_mul(right))
+        in_range(product(left, right))
     } else if right == 0 {
         Err(Fault::ZeroDivisor)
     } else if sym == Sym::DIVIDE {
-        in_range(left.checked_div(right))
+        in_range(quotient(left, right))
     } else {
         modulo(left, right)
     }
@@ -102,6 +102,59 @@ fn in_range(number: Option<i128>) -> Result<i128, Fault>
     }
 }
 
+/// The product of two numbers of 64 bits.
+fn short_product(left: i64, right: i64) -> i128
+    ensures { value_in_range (left *ℤ right) ≡ Ok result }
+{
+    i128::from(left) * i128::from(right)
+}
+
+/// The product, if it is in range. Two numbers of 64 bits are multiplied by one instruction.
+fn product(left: i128, right: i128) -> Option<i128>
+    ensures { checked_value result ≡ value_in_range (left *ℤ right) }
+{
+    match (i64::try_from(left), i64::try_from(right)) {
+        (Ok(left), Ok(right)) => Some(short_product(left, right)),
+        _ => left.checked_mul(right),
+    }
+}
+
+/// The quotient of two numbers of 64 bits.
+fn short_quotient(left: i64, right: i64) -> i128
+    requires some { right ≢ pos 0 }
+    requires in_range { right ≢ negsuc 0 }
+    ensures { value_in_range (int_div left right) ≡ Ok result }
+{
+    i128::from(left / right)
+}
+
+/// The quotient, if it is in range. Two numbers of 64 bits are divided by one instruction, where 128 bits take a loop.
+fn quotient(left: i128, right: i128) -> Option<i128>
+    requires { right ≢ pos 0 }
+    ensures { checked_value result ≡ value_in_range (int_div left right) }
+{
+    // The least number of 64 bits has no quotient by -1 among them.
+    if right == -1 {
+        return left.checked_div(right);
+    }
+    match (i64::try_from(left), i64::try_from(right)) {
+        (Ok(left), Ok(right)) => Some(short_quotient(left, right)),
+        _ => left.checked_div(right),
+    }
+}
+
+/// The remainder with the sign of the left number. Two numbers of 64 bits are divided by one instruction.
+fn remainder(left: i128, right: i128) -> i128
+    requires some { right ≢ pos 0 }
+    requires in_range { right ≢ negsuc 0 }
+    ensures { result ≡ int_rem left right }
+{
+    match (i64::try_from(left), i64::try_from(right)) {
+        (Ok(left), Ok(right)) => i128::from(left % right),
+        _ => left % right,
+    }
+}
+
 /// The remainder with the sign of the divisor, which is in range.
 fn modulo(left: i128, right: i128) -> Result<i128, Fault>
     requires { right ≢ pos 0 }
@@ -111,7 +164,7 @@ fn modulo(left: i128, right: i128) -> Result<i128, Fault>
     if right == -1 {
         return Ok(0);
     }
-    let rest = left % right;
+    let rest = remainder(left, right);
     if rest == 0 {
         return Ok(rest);
     }

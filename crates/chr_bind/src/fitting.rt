@@ -30,7 +30,7 @@ pub fn fit<'t, A: Allocator>(
     false
 }
 
-/// The same, but where it is not possible, some variables more may be matched: for a match that is then taken back, or not used again.
+/// As `fit`, but where it is not possible, some variables more may be matched: for a match that is then taken back, or not used again.
 /// What was matched stays.
 pub fn fit_or_spoil<'t, A: Allocator>(
     patterns: &[Term<A>],

@@ -14,7 +14,7 @@ const AMPLE: u64 = 1_000_000;
 /// More than a call that is refused in turn asks for.
 const MOST: u64 = 60;
 
-/// Whether a growth was refused since so many were allowed. From now on memory is ample.
+/// Whether a growth was refused since `left` of them were allowed. From now on memory is ample.
 fn was_refused(meter: &Refusing<Global>, left: u64) -> bool {
     let is_refused = meter.asked() > left;
     meter.allow(AMPLE);

@@ -21,7 +21,7 @@ abbrev pub are_once : List ℕ → Bool
 are_once [] = true
 are_once (k ∷ posts) = not (is_among posts k) && are_once posts
 
--- the tasks of a round, from an index on, so many
+-- the tasks of a round, from an index on, as many as the number says
 abbrev pub tasks_at : ℕ → ℕ → ℕ → List Serial
 tasks_at place from n = map (λ x. record { place = place; index = x; phase = waiting }) (numbers_from from n)
 

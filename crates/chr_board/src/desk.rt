@@ -99,7 +99,7 @@ impl<J: Run, A: Allocator + Copy> Desk<J, A> {
         }
     }
 
-    /// Room for so many tasks more, and for their answers.
+    /// Makes room for more tasks, and for their answers.
     fn room(&mut self, tasks: usize) -> Result<(), Memory>
         requires { self.old.owed + tasks ≤ 18446744073709551615 }
         ensures same { desk_view self.new ≡ desk_view self.old }

@@ -9,9 +9,9 @@ use Rattle.chr_semantics.specs.Schedule.{Progress, double, is_late, kept, late, 
 use Rattle.chr_semantics.specs.State.{State}
 use Rattle.chr_semantics.specs.Step.{after}
 use Rattle.chr_semantics.specs.Tasks.{same_task, tasks}
-use Rattle.chr_rounds.specs.Kept.{Answered, IsPlaced}
-use Rattle.chr_rounds.specs.Rounds.{Round, ats}
-use Rattle.chr_rounds.proofs.Places.{get_some}
+use Rattle.chr_laws.specs.Kept.{Answered, IsPlaced}
+use Rattle.chr_laws.specs.Rounds.{Round, ats}
+use Rattle.chr_laws.proofs.Places.{get_some}
 use Rattle.chr_core.specs.CoreView.{AllowsArrival, IsThere, took_view}
 use Rattle.chr_core.specs.Shown.{at_in}
 use Rattle.chr_core.specs.declared.arriving.Took.{Took}

@@ -11,8 +11,8 @@ use Rattle.chr_semantics.specs.Step.{after}
 use Rattle.chr_semantics.specs.Tasks.{Task}
 use Rattle.chr_semantics.proofs.SnapshotLaw.{snapshot_law}
 use Rattle.chr_find.specs.declared.snapshot.Snapshot.{Snapshot}
-use Rattle.chr_rounds.specs.Kept.{IsPlaced}
-use Rattle.chr_rounds.specs.Rounds.{Round, ats}
+use Rattle.chr_laws.specs.Kept.{IsPlaced}
+use Rattle.chr_laws.specs.Rounds.{Round, ats}
 use Rattle.chr_shelf.specs.Answers.{IsTrueIn, IsTrueOf}
 use Rattle.chr_core.specs.Shown.{AreShown, at_in}
 

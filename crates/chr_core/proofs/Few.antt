@@ -6,7 +6,7 @@ use Rattle.chr_semantics.specs.State.{Element, State, active, goal, known}
 use Rattle.chr_semantics.specs.Tasks.{below_top, guest_in, guest_tasks, lives, tasks, tasks_at, tasks_from, tasks_top, without_repeats}
 use Rattle.chr_semantics.specs.declared.limits.TheConstants.{MAX_ROUNDS, MAX_TASKS}
 use Rattle.std.specs.Prelude.{nat_le}
-use Rattle.chr_rounds.specs.Rounds as rounds
+use Rattle.chr_laws.specs.Rounds as rounds
 use Rattle.chr_core.specs.RoundView.{round_view, rounds_view}
 use Rattle.chr_core.specs.declared.round.Round.{Round}
 

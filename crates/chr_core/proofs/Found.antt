@@ -10,8 +10,8 @@ use Rattle.chr_semantics.specs.State.{State}
 use Rattle.chr_semantics.specs.Step.{after}
 use Rattle.chr_semantics.specs.Tasks.{Task, tasks}
 use Rattle.chr_semantics.specs.Touch.{footprint_at, footprint_of}
-use Rattle.chr_rounds.specs.Kept.{Answered, IsPlaced}
-use Rattle.chr_rounds.specs.Rounds.{AreRounds, IsRound, Round, ats, task_sum}
+use Rattle.chr_laws.specs.Kept.{Answered, IsPlaced}
+use Rattle.chr_laws.specs.Rounds.{AreRounds, IsRound, Round, ats, task_sum}
 use Rattle.chr_core.specs.Shown.{at_in}
 
 -- what a call of `get` gives of a slice

@@ -8,12 +8,12 @@ use Rattle.chr_semantics.specs.Stamps.{Rise}
 use Rattle.chr_semantics.specs.State.{State}
 use Rattle.chr_semantics.specs.Step.{after}
 use Rattle.chr_semantics.specs.Tasks.{Task, same_task}
-use Rattle.chr_rounds.specs.Kept.{Answered, IsPlaced, is_guests, newest}
-use Rattle.chr_rounds.specs.Rounds.{Round, ats}
-use Rattle.chr_rounds.specs.Stands.{Core, Stands}
-use Rattle.chr_rounds.proofs.Flags.{ats_set, flagged, flags_set, rounds_set}
-use Rattle.chr_rounds.proofs.Served.{same_task_true}
-use Rattle.chr_rounds.proofs.Stands.{stands_law}
+use Rattle.chr_laws.specs.Kept.{Answered, IsPlaced, is_guests, newest}
+use Rattle.chr_laws.specs.Rounds.{Round, ats}
+use Rattle.chr_laws.specs.Stands.{Core, Stands}
+use Rattle.chr_laws.proofs.Flags.{ats_set, flagged, flags_set, rounds_set}
+use Rattle.chr_laws.proofs.Served.{same_task_true}
+use Rattle.chr_laws.proofs.Stands.{stands_law}
 use Rattle.chr_core.specs.Shown.{at_in}
 use Rattle.chr_core.proofs.Found.{at_of_round, flag_within, round_at}
 

@@ -1,8 +1,10 @@
+pub mod AfterStep
 pub mod Allowed
 pub mod Arrived
 pub mod Few
 pub mod Found
 pub mod Guests
+pub mod Heads
 pub mod Keeps
 pub mod Made
 pub mod Moves

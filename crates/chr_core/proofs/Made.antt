@@ -10,8 +10,8 @@ use Rattle.chr_semantics.specs.Stamps.{stamp}
 use Rattle.chr_semantics.specs.State.{State, start}
 use Rattle.chr_semantics.specs.Step.{after}
 use Rattle.chr_semantics.specs.Tasks.{Task, tasks}
-use Rattle.chr_rounds.specs.Rounds.{IsRound, Round, task_sum}
-use Rattle.chr_rounds.specs.Sums.{guest_goal, marks_at, sum_of}
+use Rattle.chr_laws.specs.Rounds.{IsRound, Round, task_sum}
+use Rattle.chr_laws.specs.Sums.{guest_goal, marks_at, sum_of}
 use Rattle.chr_machine.specs.Model.{Model, state_in}
 use Rattle.chr_core.specs.IsAt.{IsAt}
 use Rattle.chr_core.specs.RoundView.{round_of, touches_at}

@@ -11,12 +11,12 @@ use Rattle.chr_semantics.specs.Step.{after}
 use Rattle.chr_semantics.specs.Touch.{Mark, rule, symbol}
 use Rattle.chr_semantics.proofs.CallsLaw.{calls_law}
 use Rattle.chr_semantics.proofs.Soundness.{sound_after, sound_start}
-use Rattle.chr_rounds.proofs.Risen.{stamp_add}
-use Rattle.chr_footprint.specs.Marks.{mark_stamp}
+use Rattle.chr_laws.proofs.Risen.{stamp_add}
 use Rattle.chr_machine.specs.MachineView.{Further, Moves, Starts}
 use Rattle.chr_machine.specs.Model.{Model, state_in}
 use Rattle.chr_machine.proofs.Runs.{further_more}
 use Rattle.chr_core.specs.IsAt.{IsAt, begun}
+use Rattle.chr_core.specs.Marks.{mark_stamp}
 
 pub at_start : (names : Names) (p : Program) (r : Query) (m : Model) → Starts names p r m → IsAt names p r m
 at_start names p r m s = record {

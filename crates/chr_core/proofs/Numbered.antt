@@ -6,7 +6,7 @@ use Rattle.std.proofs.lemmas.List.Quantifiers.{position-Some}
 use Rattle.std.proofs.lemmas.Option.{slice_get-get_or}
 use Rattle.std.specs.Prelude.{get_or, slice_get}
 use Rattle.std.specs.List.{position_from}
-use Rattle.chr_spots.specs.PlaceView.{or_number}
+use Rattle.chr_core.specs.PlaceView.{or_number}
 use Rattle.chr_core.specs.Shown.{AreNumbered}
 
 from_push : (test : ℕ → Bool) (i : ℕ) (xs : List ℕ) (y : ℕ) → position_from test i (xs ++ y ∷ []) ≡ or_number (position_from test i xs) (test y) (i + length xs)

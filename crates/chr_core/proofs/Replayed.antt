@@ -12,8 +12,8 @@ use Rattle.chr_semantics.proofs.AppendedLaw.{appended_law}
 use Rattle.chr_semantics.proofs.IdleLaw.{idle_law}
 use Rattle.chr_schedule.specs.EventView.{event_view, events_view}
 use Rattle.chr_schedule.specs.declared.event.Event as declared
-use Rattle.chr_rounds.specs.Replay.{or_later}
-use Rattle.chr_rounds.proofs.Replay.{replay_law}
+use Rattle.chr_laws.specs.Replay.{or_later}
+use Rattle.chr_laws.proofs.Replay.{replay_law}
 use Rattle.chr_core.specs.Replaying.{HasReplayed, IsRefusal}
 use Rattle.chr_core.specs.declared.error.ReplayError.{ReplayError}
 use Rattle.chr_core.specs.declared.error.ReplayError.TheVariants.{Memory, TooManyRounds, TooManySteps, UnknownRound, UnknownTask}

@@ -15,17 +15,17 @@ use Rattle.chr_semantics.specs.Step.{after}
 use Rattle.chr_semantics.specs.Tasks.{Task, needed_task, same_task}
 use Rattle.chr_semantics.specs.Touch.{footprint_at, footprint_of}
 use Rattle.chr_semantics.proofs.CallsLaw.{calls_law}
-use Rattle.chr_rounds.specs.Kept.{Answered, is_guests, passes, serves_at}
-use Rattle.chr_rounds.specs.Rounds.{ats}
-use Rattle.chr_rounds.specs.Stands.{Core, HasOccurrence, Stands, goal_kept, sum_kept}
-use Rattle.chr_rounds.specs.Sums.{sum_of}
-use Rattle.chr_rounds.proofs.Places.{passing}
-use Rattle.chr_rounds.proofs.Stands.{is_own, is_used}
-use Rattle.chr_rounds.proofs.Tells.{guest_at, row_at, tells_law}
-use Rattle.chr_footprint.specs.Marks.{mark_stamp}
+use Rattle.chr_laws.specs.Kept.{Answered, is_guests, passes, serves_at}
+use Rattle.chr_laws.specs.Rounds.{ats}
+use Rattle.chr_laws.specs.Stands.{Core, HasOccurrence, Stands, goal_kept, sum_kept}
+use Rattle.chr_laws.specs.Sums.{sum_of}
+use Rattle.chr_laws.proofs.Places.{passing}
+use Rattle.chr_laws.proofs.Stands.{is_own, is_used}
+use Rattle.chr_laws.proofs.Tells.{guest_at, row_at, tells_law}
 use Rattle.chr_machine.specs.Model.{Model, state_in}
 use Rattle.chr_machine.specs.NeedView.{Answers, need, search_of}
 use Rattle.chr_core.specs.IsAt.{IsAt}
+use Rattle.chr_core.specs.Marks.{mark_stamp}
 use Rattle.chr_core.specs.Serving.{GuestPasses, IsAsked, NoneServes, ServesAt, guest_passes, row_passes}
 use Rattle.chr_core.proofs.Needs.{need_search}
 

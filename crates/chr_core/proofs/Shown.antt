@@ -9,8 +9,8 @@ use Rattle.chr_semantics.specs.State.{State, start}
 use Rattle.chr_semantics.specs.Step.{after}
 use Rattle.chr_find.specs.SnapshotView.{IsSnapshot}
 use Rattle.chr_find.specs.declared.snapshot.Snapshot.{Snapshot}
-use Rattle.chr_rounds.specs.Rounds.{Round, ats}
-use Rattle.chr_rounds.proofs.Places.{get_before, get_cases, get_last, get_some}
+use Rattle.chr_laws.specs.Rounds.{Round, ats}
+use Rattle.chr_laws.proofs.Places.{get_before, get_cases, get_last, get_some}
 use Rattle.chr_core.specs.Shown.{AreShown, at_in}
 
 -- no snapshot, and no round

@@ -7,8 +7,8 @@ use Rattle.chr_semantics.specs.Schedule.{Event, move}
 use Rattle.chr_semantics.specs.State.{start}
 use Rattle.chr_semantics.specs.Step.{after}
 use Rattle.chr_semantics.specs.Tasks.{Task, needed_task}
-use Rattle.chr_rounds.specs.Stands.{Core, Stands}
-use Rattle.chr_rounds.proofs.Stands.{stands_law}
+use Rattle.chr_laws.specs.Stands.{Core, Stands}
+use Rattle.chr_laws.proofs.Stands.{stands_law}
 use Rattle.chr_machine.specs.MachineView.{Moves}
 use Rattle.chr_machine.specs.Model.{Model, state_in}
 use Rattle.chr_machine.specs.NeedView.{need, plain, search_of}

@@ -1,8 +1,8 @@
 -- What the kept answers show.
 use Rattle.std.specs.Prelude.{◌<◌, ℕ, List, Option, map, vec_capacity, vec_len}
 use Rattle.chr_semantics.specs.Tasks.{Task}
-use Rattle.chr_rounds.specs.Kept.{Answered}
-use Rattle.chr_spots.specs.SpotsView.{guests_at, row_at, spare_at}
+use Rattle.chr_laws.specs.Kept.{Answered}
+use Rattle.chr_core.specs.SpotsView.{guests_at, row_at, spare_at}
 use Rattle.chr_core.specs.KeptView.{kept_view}
 use Rattle.chr_core.specs.declared.answers.Answers.{Answers}
 

@@ -8,18 +8,18 @@ use Rattle.chr_semantics.specs.Schedule.{Event, Progress, arrive, move, progress
 use Rattle.chr_semantics.specs.State.{State, start}
 use Rattle.chr_rules.specs.RuleView.{query_view}
 use Rattle.chr_schedule.specs.EventView.{events_view}
-use Rattle.chr_rounds.specs.Stands as stands
+use Rattle.chr_laws.specs.Stands as stands
 use Rattle.chr_shelf.specs.Seat.{places_in}
 use Rattle.chr_shelf.specs.declared.run.Run.{Ghosts}
 use Rattle.chr_machine.specs.MachineView.{machine_view}
 use Rattle.chr_machine.specs.Model.{Model}
-use Rattle.chr_machine.specs.declared.state.Stepped.{Stepped}
-use Rattle.chr_machine.specs.declared.state.Stepped.TheVariants.{Moved, Ended, Spent}
+use Rattle.chr_machine.specs.declared.stepped.Stepped.{Stepped}
+use Rattle.chr_machine.specs.declared.stepped.Stepped.TheVariants.{Moved, Ended, Spent}
 use Rattle.chr_core.specs.RoundView.{parts}
 use Rattle.chr_core.specs.declared.arriving.Took.{Took}
 use Rattle.chr_core.specs.declared.arriving.Took.TheVariants.{Kept, Late, Double, Stranger}
-use Rattle.chr_core.specs.declared.speculation.Core.{Core}
-use Rattle.chr_core.specs.declared.speculation.Counts.{Counts}
+use Rattle.chr_core.specs.declared.run_core.Core.{Core}
+use Rattle.chr_core.specs.declared.run_core.Counts.{Counts}
 
 module _ {J A : Type 0} {G : Ghosts J} where
   -- the schedule that it stands at

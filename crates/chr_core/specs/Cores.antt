@@ -6,8 +6,8 @@ use Rattle.chr_semantics.specs.Program.{Program}
 use Rattle.chr_semantics.specs.Stamps.{Rise}
 use Rattle.chr_semantics.specs.State.{State}
 use Rattle.chr_find.specs.AtomCode.{atom_code}
-use Rattle.chr_rounds.specs.Kept.{Answered, ArePlaced, IsPlaced}
-use Rattle.chr_rounds.specs.Rounds.{AreAnswers, AreRounds, IsRound, Round}
+use Rattle.chr_laws.specs.Kept.{Answered, ArePlaced, IsPlaced}
+use Rattle.chr_laws.specs.Rounds.{AreAnswers, AreRounds, IsRound, Round}
 use Rattle.chr_core.specs.Codes.{rule_code, state_code}
 
 IsRound-prop : (p : Program) (rise : Rise) (q : State) (d : Round) → IsProp (IsRound p rise q d)

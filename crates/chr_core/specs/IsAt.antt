@@ -7,9 +7,9 @@ use Rattle.chr_semantics.specs.Program.{Program, Query}
 use Rattle.chr_semantics.specs.Stamps.{stamp}
 use Rattle.chr_semantics.specs.State.{start}
 use Rattle.chr_semantics.specs.Touch.{Mark}
-use Rattle.chr_footprint.specs.Marks.{mark_stamp}
 use Rattle.chr_machine.specs.MachineView.{Further}
 use Rattle.chr_machine.specs.Model.{Model}
+use Rattle.chr_core.specs.Marks.{mark_stamp}
 
 -- a machine before the first transition of a query
 abbrev pub begun : Names → Program → Query → Model

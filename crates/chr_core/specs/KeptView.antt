@@ -1,5 +1,5 @@
 -- A kept answer, as the laws have it.
-use Rattle.chr_rounds.specs.Kept.{Answered}
+use Rattle.chr_laws.specs.Kept.{Answered}
 use Rattle.chr_find.specs.SnapshotView.{task_view}
 use Rattle.chr_core.specs.declared.kept.Kept.{Kept}
 

@@ -7,9 +7,14 @@ pub mod ErrorText
 pub mod ErrorView
 pub mod IsAt
 pub mod KeptView
+pub mod Marks
 pub mod Outcomes
+pub mod PlaceView
+pub mod PositionsValue
 pub mod Replaying
 pub mod Rooms
 pub mod RoundView
 pub mod Serving
 pub mod Shown
+pub mod SpotsView
+pub mod Stepping

@@ -10,9 +10,9 @@ use Rattle.chr_semantics.specs.Step.{steps}
 use Rattle.chr_semantics.specs.Touch.{Mark}
 use Rattle.chr_store.specs.HistoryView.{entries_view}
 use Rattle.chr_store.specs.StoreView.{store_view}
-use Rattle.chr_footprint.specs.Marks.{mark_stamp}
 use Rattle.chr_machine.specs.OutcomeView.{outcome_view}
 use Rattle.chr_machine.specs.declared.outcome.Outcome.{Outcome}
+use Rattle.chr_core.specs.Marks.{mark_stamp}
 
 -- it is what the first n transitions of a query give on one thread, and its stamps rose as they do in these
 pub record IsOutcomeOf {A : Type 0} (names : Names) (p : Program) (r : Query) (n : ℕ) (o : Outcome A) : Type 0 where

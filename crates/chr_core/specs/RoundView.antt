@@ -3,16 +3,16 @@ use Rattle.std.specs.Prelude.{ℕ, false, List, Option, Vec, length, map, option
 use Rattle.chr_semantics.specs.Program.{Atom}
 use Rattle.chr_semantics.specs.Tasks.{Task}
 use Rattle.chr_semantics.specs.Tree.{Trees}
-use Rattle.chr_footprint.specs.Marks.{mark_stamp}
-use Rattle.chr_rounds.specs.Rounds as rounds
-use Rattle.chr_rounds.specs.Stands as stands
-use Rattle.chr_rounds.specs.Sums.{marks_at, sum_of}
+use Rattle.chr_laws.specs.Rounds as rounds
+use Rattle.chr_laws.specs.Stands as stands
+use Rattle.chr_laws.specs.Sums.{marks_at, sum_of}
 use Rattle.chr_term.specs.TermView.{atom_over}
 use Rattle.chr_term.specs.declared.term.Sym.{Sym}
 use Rattle.chr_machine.specs.MachineView.{machine_view}
 use Rattle.chr_machine.specs.Model.{Model, state_in}
 use Rattle.chr_machine.specs.declared.machine.Machine.{Machine}
 use Rattle.chr_core.specs.AnswersView.{answers_in, guests_in, row_in}
+use Rattle.chr_core.specs.Marks.{mark_stamp}
 use Rattle.chr_core.specs.declared.answers.Answers.{Answers}
 use Rattle.chr_core.specs.declared.round.Round.{Round}
 

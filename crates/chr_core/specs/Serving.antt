@@ -8,13 +8,13 @@ use Rattle.chr_semantics.specs.Search.{atom_of, has_number}
 use Rattle.chr_semantics.specs.State.{State}
 use Rattle.chr_semantics.specs.Tasks.{Task, same_task}
 use Rattle.chr_semantics.specs.Touch.{footprint_at}
-use Rattle.chr_footprint.specs.Marks.{mark_stamp}
-use Rattle.chr_rounds.specs.Kept.{Answered, passes, serves_at}
-use Rattle.chr_rounds.specs.Rounds.{ats}
-use Rattle.chr_rounds.specs.Stands.{Core, goal_kept, sum_kept}
-use Rattle.chr_rounds.specs.Sums.{sum_of}
+use Rattle.chr_laws.specs.Kept.{Answered, passes, serves_at}
+use Rattle.chr_laws.specs.Rounds.{ats}
+use Rattle.chr_laws.specs.Stands.{Core, goal_kept, sum_kept}
+use Rattle.chr_laws.specs.Sums.{sum_of}
 use Rattle.chr_machine.specs.Model.{Model}
 use Rattle.chr_machine.specs.NeedView.{Needed, ended, plain, search_of}
+use Rattle.chr_core.specs.Marks.{mark_stamp}
 
 -- the answer at a position is to the task, and serves it
 pub record ServesAt (p : Program) (q : State) (c : Core) (t : Task) (n : ℕ) : Type 0 where

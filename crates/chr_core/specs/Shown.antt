@@ -6,7 +6,7 @@ use Rattle.chr_semantics.specs.State.{State}
 use Rattle.chr_semantics.specs.Step.{after}
 use Rattle.chr_find.specs.SnapshotView.{IsSnapshot}
 use Rattle.chr_find.specs.declared.snapshot.Snapshot.{Snapshot}
-use Rattle.chr_rounds.specs.Rounds.{Round, ats}
+use Rattle.chr_laws.specs.Rounds.{Round, ats}
 
 -- the transitions before a round
 abbrev pub at_in : List Round → ℕ → ℕ

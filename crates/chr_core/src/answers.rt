@@ -3,12 +3,12 @@ ghost use Rattle.std.specs.Prelude.{◌≡◌, ◌&&◌, ◌++◌, ◌∷◌, []
 ghost use Rattle.chr_semantics.specs.Tasks as semantics;
 ghost use Rattle.chr_semantics.specs.Tasks.{same_task};
 ghost use Rattle.chr_find.specs.SnapshotView.{task_view};
-ghost use Rattle.chr_rounds.specs.Kept.{Answered};
+ghost use Rattle.chr_laws.specs.Kept.{Answered};
 
 use crate::Memory;
 use crate::kept::Kept;
+use crate::spots::{Key, Spots};
 use chr_find::Task;
-use chr_spots::{Key, Spots};
 use chr_store::HeadIds;
 use std::alloc::Allocator;
 
@@ -67,28 +67,28 @@ impl<A: Allocator> Answers<A> {
         self.kept.len()
     }
 
-    /// The answer at a place.
-    pub(crate) fn get(&self, place: usize) -> Option<&Kept>
-        ensures { option_map (λ kept. kept_view kept.now) result ≡ slice_get (answers_in self.now) place }
+    /// The answer at a position.
+    pub(crate) fn get(&self, position: usize) -> Option<&Kept>
+        ensures { option_map (λ kept. kept_view kept.now) result ≡ slice_get (answers_in self.now) position }
     {
-        self.kept.get(place)
+        self.kept.get(position)
     }
 
-    /// What was found for the answer at a place: nothing also where there is none.
-    pub(crate) fn ids(&self, place: usize) -> Option<HeadIds>
-        ensures { result ≡ option_and_then (λ (k : Answered). k.ids) (slice_get (answers_in self.now) place) }
+    /// What was found for the answer at a position: nothing also where there is none.
+    pub(crate) fn ids(&self, position: usize) -> Option<HeadIds>
+        ensures { result ≡ option_and_then (λ (k : Answered). k.ids) (slice_get (answers_in self.now) position) }
     {
-        self.get(place)?.ids
+        self.get(position)?.ids
     }
 
-    /// The place of the newest answer to a stored constraint's task.
+    /// The position of the newest answer to a stored constraint's task.
     pub(crate) fn row(&self, task: Task) -> Option<usize>
         ensures { result ≡ row_in self.now (task_view task) }
     {
         self.spots.row(key_of(task))
     }
 
-    /// The places of the answers to a guest's task.
+    /// The positions of the answers to a guest's task.
     pub(crate) fn guests(&self, task: Task) -> &[usize]
         ensures { result.now ≡ guests_in self.now (task_view task) }
     {
@@ -113,11 +113,11 @@ impl<A: Allocator> Answers<A> {
         ensures guests { (t : semantics.Task) → guests_in self.new t ≡ cond (same_task t (task_view kept.task) && is_guests)
             (guests_in self.old t ++ length (answers_in self.old) ∷ []) (guests_in self.old t) }
     {
-        let (key, place) = (key_of(kept.task), self.kept.len());
+        let (key, position) = (key_of(kept.task), self.kept.len());
         if is_guests {
-            self.spots.push_guest(key, place);
+            self.spots.push_guest(key, position);
         } else if is_newest {
-            self.spots.set_row(key, place);
+            self.spots.set_row(key, position);
         }
         self.kept.push_reserved(kept);
     }

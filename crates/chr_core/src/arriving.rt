@@ -4,15 +4,15 @@ ghost use Rattle.chr_semantics.specs.Footprint.{answer as answer_in};
 ghost use Rattle.chr_semantics.specs.Schedule.{arrive, double, kept, late, took, took_at};
 ghost use Rattle.chr_semantics.specs.Step.{after};
 ghost use Rattle.chr_semantics.specs.declared.limits.TheConstants.{KEPT_ROUNDS};
-ghost use Rattle.chr_rounds.specs.Kept.{IsPlaced, at_of, newest, passes};
-ghost use Rattle.chr_rounds.specs.Rounds.{ats, flag_at};
+ghost use Rattle.chr_laws.specs.Kept.{IsPlaced, at_of, newest, passes};
+ghost use Rattle.chr_laws.specs.Rounds.{ats, flag_at};
 ghost use Rattle.chr_find.specs.SnapshotView.{task_view};
 ghost use Rattle.chr_shelf.specs.Seat.{index_of, place_of, shot_of, shots_in, task_of, ticket_of};
-ghost use Rattle.chr_spots.specs.PlaceView.{number_at};
+ghost use Rattle.chr_core.specs.PlaceView.{number_at};
 
 use crate::Memory;
 use crate::kept::Kept;
-use crate::speculation::Core;
+use crate::run_core::Core;
 use chr_find::Task;
 use chr_schedule::Event;
 use chr_semantics::limits::KEPT_ROUNDS;
@@ -34,7 +34,8 @@ pub enum Took {
 impl<'p, J: Run, A: Allocator + Copy> Core<'p, J, A> {
     ghost use Rattle.chr_core.specs.CoreView.{AllowsArrival, IsAsBefore, IsSameRun, arrived, core_in, events_of, machine_in, places_of, progress_of, start_of, took_view};
     ghost use Rattle.chr_core.specs.AnswersView.{HasRoom};
-    ghost use Rattle.chr_core.specs.Arriving.{answered};
+    ghost use Rattle.chr_core.specs.Arriving.{HasArrived, answered};
+    ghost use Rattle.chr_core.specs.Rooms.{HasEventRoom};
     ghost use Rattle.chr_core.specs.Shown.{at_in};
 
     /// Whether a round is not among the last eight.
@@ -64,12 +65,12 @@ impl<'p, J: Run, A: Allocator + Copy> Core<'p, J, A> {
         }
     }
 
-    /// Whether the answer at a place is of a round that is no newer than this one.
-    fn is_no_newer(&self, place: usize, round: u32) -> bool
+    /// Whether the answer at a position is of a round that is no newer than this one.
+    fn is_no_newer(&self, position: usize, round: u32) -> bool
         ensures { result ≡ passes (λ l. nat_le (at_of (ats (core_in self.now).rounds) l)
-            (at_in (core_in self.now).rounds round)) (slice_get (core_in self.now).answers place) }
+            (at_in (core_in self.now).rounds round)) (slice_get (core_in self.now).answers position) }
     {
-        match self.answers.get(place) {
+        match self.answers.get(position) {
             None => false,
             Some(kept) => self.transitions_before(kept.round) <= self.transitions_before(round),
         }
@@ -83,7 +84,7 @@ impl<'p, J: Run, A: Allocator + Copy> Core<'p, J, A> {
     {
         match self.answers.row(task) {
             None => true,
-            Some(place) => self.is_no_newer(place, round),
+            Some(position) => self.is_no_newer(position, round),
         }
     }
 
@@ -93,7 +94,7 @@ impl<'p, J: Run, A: Allocator + Copy> Core<'p, J, A> {
         ensures parts { core_in self.new ≡ core_in self.old }
         ensures tickets { self.new.tickets ≡ self.old.tickets }
         ensures by_place { self.new.by_place ≡ self.old.by_place }
-        ensures events { OnOk result (vec_len self.new.events < vec_capacity self.new.events) }
+        ensures events { OnOk result (HasEventRoom self.new) }
         ensures answers { OnOk result (HasRoom self.new.answers (task_view task)) }
     {
         self.events.reserve(2)?;
@@ -102,15 +103,13 @@ impl<'p, J: Run, A: Allocator + Copy> Core<'p, J, A> {
 
     /// Keeps an answer of a round, for which room was made.
     fn keep(&mut self, round: u32, answer: &Answer<J, A>)
-        requires events { vec_len self.old.events < vec_capacity self.old.events }
+        requires events { HasEventRoom self.old }
         requires room { HasRoom self.old.answers (task_of answer.now) }
         requires kept { took (progress_of self.old) round (index_of answer.now) ≡ kept round }
         requires there { IsPlaced J.rules (start_of self.old) (ats (core_in self.old).rounds) (answered round answer.now) }
         requires right { (answered round answer.now).ids ≡ answer_in J.rules
             (after J.rules (start_of self.old) (at_in (core_in self.old).rounds round)) (task_of answer.now) }
-        ensures events { events_of self.new ≡ events_of self.old ++ arrive round (index_of answer.now) ∷ [] }
-        ensures places { places_of self.new ≡ places_of self.old }
-        ensures run { IsSameRun self.old self.new }
+        ensures { HasArrived self.old self.new round (index_of answer.now) }
     {
         let (index, task) = (answer.index(), answer.task());
         let is_guests = self.rounds[round as usize].is_guest(task.goal);
@@ -134,9 +133,7 @@ impl<'p, J: Run, A: Allocator + Copy> Core<'p, J, A> {
     ) -> Result<(), (Answer<J, A>, Memory)>
         requires shown { slice_get (shots_in self.old.tickets.items) round ≡ Some (shot_of (ticket_of answer)) }
         requires kept { took (progress_of self.old) round (index_of answer) ≡ kept round }
-        ensures events { OnOk result (events_of self.new ≡ events_of self.old ++ arrive round (index_of answer) ∷ []) }
-        ensures places { places_of self.new ≡ places_of self.old }
-        ensures run { IsSameRun self.old self.new }
+        ensures ok { OnOk result (HasArrived self.old self.new round (index_of answer)) }
         ensures back { IfErr result (λ refused. refused.0 ≡ answer) }
         ensures err { OnErr result (IsAsBefore self.old self.new) }
     {
@@ -149,11 +146,9 @@ impl<'p, J: Run, A: Allocator + Copy> Core<'p, J, A> {
 
     /// Notes an arrival that comes late, for which room was made.
     pub(crate) fn note_late(&mut self, round: u32, index: u32)
-        requires room { vec_len self.old.events < vec_capacity self.old.events }
+        requires room { HasEventRoom self.old }
         requires late { took (progress_of self.old) round index ≡ late round }
-        ensures events { events_of self.new ≡ events_of self.old ++ arrive round index ∷ [] }
-        ensures places { places_of self.new ≡ places_of self.old }
-        ensures run { IsSameRun self.old self.new }
+        ensures { HasArrived self.old self.new round index }
     {
         self.events.push_reserved(Event::Arrive(round, index));
         self.late += 1;
@@ -161,11 +156,9 @@ impl<'p, J: Run, A: Allocator + Copy> Core<'p, J, A> {
 
     /// Notes one that comes again.
     pub(crate) fn note_double(&mut self, round: u32, index: u32)
-        requires room { vec_len self.old.events < vec_capacity self.old.events }
+        requires room { HasEventRoom self.old }
         requires double { took (progress_of self.old) round index ≡ double round }
-        ensures events { events_of self.new ≡ events_of self.old ++ arrive round index ∷ [] }
-        ensures places { places_of self.new ≡ places_of self.old }
-        ensures run { IsSameRun self.old self.new }
+        ensures { HasArrived self.old self.new round index }
     {
         self.events.push_reserved(Event::Arrive(round, index));
         self.double += 1;

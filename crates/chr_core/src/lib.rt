@@ -4,13 +4,18 @@
 
 mod answers;
 mod arriving;
+mod by_place;
 mod error;
 mod kept;
+mod positions;
 mod publishing;
 mod replaying;
 mod round;
+// `Core` stands there: the toolchain allows no module with the name `core`.
+mod run_core;
 mod serving;
-mod speculation;
+mod spots;
+mod stamps;
 mod stepping;
 mod touching;
 
@@ -20,4 +25,4 @@ pub use chr_schedule::{Event, ScheduleError, ScheduleErrorKind, print_schedule, 
 pub use chr_term::Memory;
 pub use error::{CoreError, ReplayError};
 pub use replaying::replay;
-pub use speculation::{Core, Counts};
+pub use run_core::{Core, Counts};

@@ -6,12 +6,12 @@ ghost use Rattle.chr_semantics.specs.Tasks.{tasks};
 ghost use Rattle.chr_semantics.specs.declared.limits.TheConstants.{MAX_ROUNDS};
 ghost use Rattle.chr_find.specs.SnapshotView.{IsSnapshot};
 ghost use Rattle.chr_shelf.specs.Seat.{place_of, shot_of};
-ghost use Rattle.chr_spots.specs.PlaceView.{room_in};
 ghost use Rattle.chr_machine.specs.Model.{state_in};
+ghost use Rattle.chr_core.specs.PlaceView.{room_in};
 
 use crate::error::CoreError;
 use crate::round::Round;
-use crate::speculation::Core;
+use crate::run_core::Core;
 use chr_schedule::Event;
 use chr_semantics::limits::MAX_ROUNDS;
 use chr_shelf::{Run, Shelf, Ticket};

@@ -1,7 +1,7 @@
 //! Replays of schedules.
 ghost use Rattle.std.specs.Prelude.{◌≡◌, ◌≤◌, ◌<◌, ◌+◌, ◌++◌, ◌∷◌, [], IfErr, IfOk, None, OnOk, Some, cond, length, nat_lt, take};
 ghost use Rattle.chr_semantics.specs.Bounds.{IsQueryBounded};
-ghost use Rattle.chr_semantics.specs.Schedule.{arrive, first_refusal, kept, move, no_progress, performed, publish, refusal, too_many_steps, took};
+ghost use Rattle.chr_semantics.specs.Schedule.{arrive, first_refusal, kept, move, no_progress, performed, publish, too_many_steps, took};
 ghost use Rattle.chr_semantics.specs.State.{start};
 ghost use Rattle.chr_semantics.specs.Step.{is_running};
 ghost use Rattle.chr_semantics.specs.declared.limits.TheConstants.{MAX_TRANSITIONS};
@@ -9,10 +9,10 @@ ghost use Rattle.chr_rules.specs.ProgramView.{names_of, rules_of};
 ghost use Rattle.chr_rules.specs.RuleView.{query_view};
 ghost use Rattle.chr_schedule.specs.EventView.{events_view};
 ghost use Rattle.chr_machine.specs.Model.{state_in};
-ghost use Rattle.chr_core.specs.Replaying.{HasReplayed, IsRefusal, Replays};
+ghost use Rattle.chr_core.specs.Replaying.{HasReplayed, IsOfRun, IsRefusal, Replays};
 
 use crate::error::{CoreError, ReplayError};
-use crate::speculation::{Core, Counts};
+use crate::run_core::{Core, Counts};
 use chr_machine::Outcome;
 use chr_rules::{Program, Query};
 use chr_schedule::Event;
@@ -38,14 +38,13 @@ pub(crate) struct Turn {
 }
 
 impl<'p, J: Run, A: Allocator + Copy> Core<'p, J, A> {
-    ghost use Rattle.chr_core.specs.CoreView.{IsSameRun, events_of, machine_in, names_in, progress_of, query_of, start_of};
+    ghost use Rattle.chr_core.specs.CoreView.{events_of, machine_in, progress_of, query_of, start_of};
+    ghost use Rattle.chr_core.specs.Replaying.{IsReplayed, IsSameQuery, refusal_after};
 
     /// Why an arrival is refused, if it is.
     fn check_arrival(&self, arrival: Arrival) -> Result<(), ReplayError>
-        ensures ok { OnOk result (refusal J.rules (start_of self.now) (progress_of self.now) arrival.place
-            (arrive arrival.round arrival.index) ≡ None) }
-        ensures err { IfErr result (IsRefusal (refusal J.rules (start_of self.now) (progress_of self.now)
-            arrival.place (arrive arrival.round arrival.index))) }
+        ensures ok { OnOk result (refusal_after self.now arrival.place (arrive arrival.round arrival.index) ≡ None) }
+        ensures err { IfErr result (IsRefusal (refusal_after self.now arrival.place (arrive arrival.round arrival.index))) }
     {
         match self.rounds.get(arrival.round as usize) {
             None => Err(ReplayError::UnknownRound(arrival.place)),
@@ -66,15 +65,10 @@ impl<'p, J: Run, A: Allocator + Copy> Core<'p, J, A> {
         shelf: &Shelf<A>,
         arrival: Arrival,
     ) -> Result<(), ReplayError>
-        requires name { shelf.now ≡ J.shelf }
-        requires rules { rules_of program.now ≡ J.rules }
-        requires there { refusal J.rules (start_of self.old) (progress_of self.old) arrival.place
-            (arrive arrival.round arrival.index) ≡ None }
+        requires run { IsOfRun J.shelf J.rules shelf.now program.now }
+        requires there { refusal_after self.old arrival.place (arrive arrival.round arrival.index) ≡ None }
         requires kept { took (progress_of self.old) arrival.round arrival.index ≡ kept arrival.round }
-        ensures events { OnOk result (events_of self.new
-            ≡ events_of self.old ++ arrive arrival.round arrival.index ∷ []) }
-        ensures run { IsSameRun self.old self.new }
-        ensures err { IfErr result (IsRefusal None) }
+        ensures { IsReplayed self.old self.new arrival.place (arrive arrival.round arrival.index) result }
     {
         let ticket = self.tickets[arrival.round as usize].again();
         let answer = match solve(program, shelf, ticket, arrival.index) {
@@ -94,15 +88,8 @@ impl<'p, J: Run, A: Allocator + Copy> Core<'p, J, A> {
         shelf: &Shelf<A>,
         arrival: Arrival,
     ) -> Result<(), ReplayError>
-        requires name { shelf.now ≡ J.shelf }
-        requires rules { rules_of program.now ≡ J.rules }
-        ensures events { OnOk result (events_of self.new
-            ≡ events_of self.old ++ arrive arrival.round arrival.index ∷ []) }
-        ensures there { OnOk result (refusal J.rules (start_of self.old) (progress_of self.old) arrival.place
-            (arrive arrival.round arrival.index) ≡ None) }
-        ensures run { IsSameRun self.old self.new }
-        ensures err { IfErr result (IsRefusal (refusal J.rules (start_of self.old) (progress_of self.old)
-            arrival.place (arrive arrival.round arrival.index))) }
+        requires run { IsOfRun J.shelf J.rules shelf.now program.now }
+        ensures { IsReplayed self.old self.new arrival.place (arrive arrival.round arrival.index) result }
     {
         self.check_arrival(arrival)?;
         self.room_for_step()?;
@@ -117,16 +104,15 @@ impl<'p, J: Run, A: Allocator + Copy> Core<'p, J, A> {
         self.replay_answer(program, shelf, arrival)
     }
 
-    /// Replays a Step, with so many before it. A Step of a run that has ended is passed over. How many were replayed then.
-    #[tactic(auto, using(crate::proofs::SameNames::step_names))]
+    /// Replays a Step, and answers how many Steps were replayed then. One of a run that has ended is passed over.
+    #[tactic(auto, using(crate::proofs::SameNames::step_same))]
     fn replay_step(&mut self, place: u64, steps: u64) -> Result<u64, ReplayError>
         requires few { (machine_in self.old).steps ≤ steps }
         ensures steps { IfOk result (λ made. made ≡ steps + 1) }
         ensures events { OnOk result (events_of self.new
             ≡ cond (is_running (state_in (machine_in self.old)).status) (events_of self.old ++ move ∷ []) (events_of self.old)) }
         ensures few { OnOk result (steps < MAX_TRANSITIONS) }
-        ensures query { query_of self.new ≡ query_of self.old }
-        ensures names { names_in self.new ≡ names_in self.old }
+        ensures same { IsSameQuery self.old self.new }
         ensures err { IfErr result (IsRefusal (cond (nat_lt steps MAX_TRANSITIONS) None (Some (too_many_steps place)))) }
     {
         if steps >= MAX_TRANSITIONS {
@@ -144,10 +130,7 @@ impl<'p, J: Run, A: Allocator + Copy> Core<'p, J, A> {
         place: u64,
     ) -> Result<(), ReplayError>
         requires name { shelf.now ≡ J.shelf }
-        ensures events { OnOk result (events_of self.new ≡ events_of self.old ++ publish ∷ []) }
-        ensures there { OnOk result (refusal J.rules (start_of self.old) (progress_of self.old) place publish ≡ None) }
-        ensures run { IsSameRun self.old self.new }
-        ensures err { IfErr result (IsRefusal (refusal J.rules (start_of self.old) (progress_of self.old) place publish)) }
+        ensures { IsReplayed self.old self.new place publish result }
     {
         if self.rounds.len() >= MAX_ROUNDS {
             return Err(ReplayError::TooManyRounds(place));
@@ -160,7 +143,7 @@ impl<'p, J: Run, A: Allocator + Copy> Core<'p, J, A> {
     }
 
     /// Replays the next event of a schedule. How many of its Steps were replayed then.
-    #[tactic(auto, using(crate::proofs::SameNames::run_names))]
+    #[tactic(auto, using(crate::proofs::SameNames::run_same))]
     fn replay_event(
         &mut self,
         rt: &impl Wait,
@@ -169,13 +152,11 @@ impl<'p, J: Run, A: Allocator + Copy> Core<'p, J, A> {
         events: &[Event],
         turn: Turn,
     ) -> Result<u64, ReplayError>
-        requires name { shelf.now ≡ J.shelf }
-        requires rules { rules_of program.now ≡ J.rules }
+        requires run { IsOfRun J.shelf J.rules shelf.now program.now }
         requires within { turn.place < length events.now }
         requires before { HasReplayed J.rules (query_of self.old) (take turn.place (events_view events.now)) (events_of self.old) turn.steps }
         ensures after { IfOk result (HasReplayed J.rules (query_of self.old) (take (turn.place + 1) (events_view events.now)) (events_of self.new)) }
-        ensures query { query_of self.new ≡ query_of self.old }
-        ensures names { names_in self.new ≡ names_in self.old }
+        ensures same { IsSameQuery self.old self.new }
         ensures err { IfErr result (IsRefusal (first_refusal J.rules (start_of self.old) no_progress 0 (events_view events.now))) }
     {
         let place = turn.place as u64;
@@ -202,11 +183,9 @@ impl<'p, J: Run, A: Allocator + Copy> Core<'p, J, A> {
         shelf: &Shelf<A>,
         events: &[Event],
     ) -> Result<(), ReplayError>
-        requires name { shelf.now ≡ J.shelf }
-        requires rules { rules_of program.now ≡ J.rules }
+        requires run { IsOfRun J.shelf J.rules shelf.now program.now }
         requires start { events_of self.old ≡ [] }
-        ensures query { query_of self.new ≡ query_of self.old }
-        ensures names { names_in self.new ≡ names_in self.old }
+        ensures same { IsSameQuery self.old self.new }
         ensures ok { OnOk result (events_of self.new ≡ performed J.rules (start_of self.old) (events_view events.now)) }
         ensures none { OnOk result (first_refusal J.rules (start_of self.old) no_progress 0 (events_view events.now) ≡ None) }
         ensures err { IfErr result (IsRefusal (first_refusal J.rules (start_of self.old) no_progress 0 (events_view events.now))) }
@@ -220,7 +199,7 @@ impl<'p, J: Run, A: Allocator + Copy> Core<'p, J, A> {
     }
 }
 
-/// The same over a shelf, under the name of its run.
+/// As `replay`, over a shelf and under the name of its run.
 fn replay_named<J: Run, A: Allocator + Copy>(
     rt: &impl Wait,
     alloc: A,
@@ -229,8 +208,7 @@ fn replay_named<J: Run, A: Allocator + Copy>(
     query: Query<A>,
     events: &[Event],
 ) -> Result<(Outcome<A>, Counts), ReplayError>
-    requires name { shelf.now ≡ J.shelf }
-    requires rules { rules_of program.now ≡ J.rules }
+    requires run { IsOfRun J.shelf J.rules shelf.now program.now }
     requires bounded { IsQueryBounded (query_view query) }
     ensures ok { IfOk result (Replays (names_of program.now) (rules_of program.now) (query_view query) (events_view events.now)) }
     ensures err { IfErr result (IsRefusal (first_refusal (rules_of program.now) (start (query_view query)) no_progress 0 (events_view events.now))) }
@@ -242,7 +220,7 @@ fn replay_named<J: Run, A: Allocator + Copy>(
     Ok((outcome, counts))
 }
 
-/// The same over a shelf with nothing on it, whose run gets a name of its own.
+/// As `replay`, over a shelf with nothing on it, whose run gets a name of its own.
 fn replay_over<A: Allocator + Copy>(
     rt: &impl Wait,
     alloc: A,

@@ -6,7 +6,7 @@ ghost use Rattle.chr_semantics.specs.State.{resolved_atom};
 ghost use Rattle.chr_store.specs.Rows.{row_atom};
 ghost use Rattle.chr_find.specs.SnapshotView.{IsSnapshot};
 ghost use Rattle.chr_machine.specs.MachineView.{machine_view};
-ghost use Rattle.chr_rounds.specs.Rounds.{flag_in};
+ghost use Rattle.chr_laws.specs.Rounds.{flag_in};
 ghost use Rattle.chr_core.specs.RoundView.{kept_guest, round_of, round_view};
 
 use crate::Memory;

@@ -6,9 +6,9 @@ ghost use Rattle.chr_store.specs.Rows.{row_atom};
 ghost use Rattle.chr_find.specs.SnapshotView.{task_view};
 ghost use Rattle.chr_machine.specs.NeedView.{need, search_of};
 
-use crate::speculation::Core;
+use crate::run_core::Core;
+use crate::stamps::{own_touches, touches};
 use chr_find::Task;
-use chr_footprint::{own_touches, touches};
 use chr_machine::Need;
 use chr_shelf::Run;
 use chr_store::Row;
@@ -54,11 +54,11 @@ impl<'p, J: Run, A: Allocator + Copy> Core<'p, J, A> {
         })
     }
 
-    /// Whether the answer at a place, to a stored constraint's task, serves.
-    fn row_serves(&self, place: usize, touches: u128) -> bool
-        ensures { result ≡ row_passes (core_in self.now) touches place }
+    /// Whether the answer at a position, to a stored constraint's task, serves.
+    fn row_serves(&self, position: usize, touches: u128) -> bool
+        ensures { result ≡ row_passes (core_in self.now) touches position }
     {
-        match self.answers.get(place) {
+        match self.answers.get(position) {
             None => false,
             Some(kept) => match self.rounds.get(kept.round as usize) {
                 None => touches == 0,
@@ -67,12 +67,12 @@ impl<'p, J: Run, A: Allocator + Copy> Core<'p, J, A> {
         }
     }
 
-    /// Whether the answer at a place, to a guest's task, serves.
-    fn guest_serves(&self, place: usize, asked: Asked<'_, A>) -> bool
+    /// Whether the answer at a position, to a guest's task, serves.
+    fn guest_serves(&self, position: usize, asked: Asked<'_, A>) -> bool
         ensures { result ≡ guest_passes (core_in self.now)
-            (resolved_atom (machine_in self.now).base.subst (row_atom asked.entry.row.now)) asked.entry.own asked.entry.touches place }
+            (resolved_atom (machine_in self.now).base.subst (row_atom asked.entry.row.now)) asked.entry.own asked.entry.touches position }
     {
-        match self.answers.get(place) {
+        match self.answers.get(position) {
             None => false,
             Some(kept) => match self.rounds.get(kept.round as usize) {
                 None => false,
@@ -84,7 +84,7 @@ impl<'p, J: Run, A: Allocator + Copy> Core<'p, J, A> {
         }
     }
 
-    /// The place of an answer to a guest's task that serves.
+    /// The position of an answer to a guest's task that serves.
     fn guest_serving(&self, task: Task, asked: Asked<'_, A>) -> Option<usize>
         ensures some { IfSome result (λ n. GuestPasses (core_in self.now) (task_view task)
             (resolved_atom (machine_in self.now).base.subst (row_atom asked.entry.row.now)) asked.entry.own asked.entry.touches n) }
@@ -92,15 +92,15 @@ impl<'p, J: Run, A: Allocator + Copy> Core<'p, J, A> {
             (resolved_atom (machine_in self.now).base.subst (row_atom asked.entry.row.now)) asked.entry.own asked.entry.touches)
             ((core_in self.now).guests (task_view task)) ≡ false) }
     {
-        for place in self.answers.guests(task) {
-            if self.guest_serves(*place, asked) {
-                return Some(*place);
+        for position in self.answers.guests(task) {
+            if self.guest_serves(*position, asked) {
+                return Some(*position);
             }
         }
         None
     }
 
-    /// The place of a kept answer that serves the search of the next step.
+    /// The position of a kept answer that serves the search of the next step.
     pub(crate) fn serving(&self, task: Task) -> Option<usize>
         requires { need (machine_in self.now) ≡ search_of (task_view task) }
         ensures some { IfSome result
@@ -112,9 +112,9 @@ impl<'p, J: Run, A: Allocator + Copy> Core<'p, J, A> {
             return None;
         }
         let asked = self.asked(task)?;
-        if let Some(place) = self.answers.row(task) {
-            if self.row_serves(place, asked.touches) {
-                return Some(place);
+        if let Some(position) = self.answers.row(task) {
+            if self.row_serves(position, asked.touches) {
+                return Some(position);
             }
         }
         self.guest_serving(task, asked)

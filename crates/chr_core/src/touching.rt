@@ -1,15 +1,15 @@
 //! How often the footprints of tasks were touched.
 ghost use Rattle.std.specs.Prelude.{◌≡◌, IfOk, map, option_map};
 ghost use Rattle.chr_semantics.specs.Program.{Atom};
-ghost use Rattle.chr_rounds.specs.Sums.{task_atom};
+ghost use Rattle.chr_laws.specs.Sums.{task_atom};
 ghost use Rattle.chr_find.specs.SnapshotView.{task_view, tasks_view};
 ghost use Rattle.chr_machine.specs.MachineView.{machine_view};
 ghost use Rattle.chr_machine.specs.Model.{state_in};
 ghost use Rattle.chr_core.specs.RoundView.{touches_at};
 
 use crate::Memory;
+use crate::stamps::touches;
 use chr_find::Task;
-use chr_footprint::touches;
 use chr_machine::Machine;
 use chr_term::Sym;
 use std::alloc::Allocator;
@@ -43,7 +43,7 @@ fn task_touches<A: Allocator + Copy>(machine: &Machine<A>, task: Task) -> u128
     }
 }
 
-/// The same of each task.
+/// How often the footprint of each task was touched.
 pub(crate) fn touches_of<A: Allocator + Copy>(
     alloc: A,
     machine: &Machine<A>,

@@ -22,6 +22,6 @@ module _ {A : Type 0} where
   abbrev pub IsSettled : NotedFirings A → Type 0
   IsSettled n = (x : Fired) → noted_firing n x ≡ is_in n.firings.all x
 
-  -- there is room for so many notes more
+  -- there is room for this number of further notes
   abbrev pub HasRoom : ℕ → NotedFirings A → Type 0
   HasRoom k n = vec_len n.notes + k ≤ vec_capacity n.notes

@@ -21,7 +21,7 @@ module _ {A : Type 0} where
   abbrev pub IsSettled : Noted A → Type 0
   IsSettled n = (q : Place) → row_at n q ≡ held n.rows q
 
-  -- there is room for so many notes more
+  -- there is room for this number of further notes
   abbrev pub HasRoom : ℕ → Noted A → Type 0
   HasRoom k n = vec_len n.notes + k ≤ vec_capacity n.notes
 

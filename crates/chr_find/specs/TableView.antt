@@ -41,7 +41,7 @@ module _ {A : Type 0} where
     pub settled : IsSettled t
     pub all : IsForAll t
 
-  -- there is room for so many changes more
+  -- there is room for this number of further changes
   abbrev pub HasRoom : ℕ → Table A → Type 0
   HasRoom k t = noted.HasRoom k t.noted × keyed.HasRoom k t.keyed
 

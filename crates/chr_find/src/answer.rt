@@ -38,7 +38,7 @@ impl Found<HeadIds> {
     }
 }
 
-/// The same identities in a list.
+/// A firing's identities as the list that `find` hands out.
 fn list_of<A: Allocator + Copy>(alloc: A, found: &HeadIds) -> Result<SmallVec<Id, 8, A>, Memory>
     ensures { IfOk result (λ ids. numbers ids.items ≡ found.now) }
 {

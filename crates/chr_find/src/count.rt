@@ -15,7 +15,7 @@ pub(crate) fn count<A: Allocator + Copy>(part: Part<'_, Place, Row<A>, A>, list:
     }
 }
 
-/// The same in a part that begins in the list, or ends in it where `is_last`.
+/// The number of rows of a list in a part that begins in it, or ends in it where `is_last`.
 fn count_edge<A: Allocator + Copy>(
     part: Part<'_, Place, Row<A>, A>,
     list: &List,

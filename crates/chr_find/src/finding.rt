@@ -34,6 +34,7 @@ impl<A: Allocator + Copy> Table<A> {
         ensures dead { atom_at self.now active.now.id.0 ≡ None →
             IfOk result (λ found. found ≡ None) }
     {
+        // For the proof: that the count has 64 bits is known once it is read.
         let _so_far = *tries;
         let row = match self.row(active.id) {
             None => return Ok(None),
@@ -71,12 +72,13 @@ impl<A: Allocator + Copy> Table<A> {
         ensures dead { atom_at self.now active.now.id.0 ≡ None →
             IfOk result (λ found. found ≡ None) }
     {
+        // For the proof: that the count has 64 bits is known once it is read.
         let _so_far = *tries;
         let quiet = active.rule.heads.len();
         self.found(active, past, Mode::Free, &HeadIds::new(), 0, quiet, tries)
     }
 
-    /// The same where each list that can fire is ahead of the cursor: no other is looked at.
+    /// As `first`, where each list that can fire is ahead of the cursor: no other is looked at.
     pub fn next<P: Past>(
         &self,
         active: &Active<'_, A>,
@@ -91,6 +93,7 @@ impl<A: Allocator + Copy> Table<A> {
         ensures dead { atom_at self.now active.now.id.0 ≡ None →
             IfOk result (λ found. found ≡ None) }
     {
+        // For the proof: that the count has 64 bits is known once it is read.
         let _so_far = *tries;
         let rows = &self.noted.rows;
         let quiet = quiet_from(rows, active.rule, active.place, active.id.0, cursor.from);

@@ -35,7 +35,7 @@ impl<A: Allocator + Copy> Firings<A> {
         self.all.put(fired, ())
     }
 
-    /// The same firings again, at the price of a pointer.
+    /// The firings a second time, at the price of a pointer.
     pub(crate) fn share(&self) -> Result<Firings<A>, Memory>
         ensures { IfOk result (λ shared. (r : ℕ) (ids : List ℕ) → fired_in shared r ids ≡ fired_in self.now r ids) }
     {

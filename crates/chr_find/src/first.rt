@@ -58,6 +58,7 @@ impl<'a, P: Past, A: Allocator + Copy> Search<'a, P, A> {
         ensures { IfOk result (λ found. OwnFinds (P.history self.now.past.now) self.now
             (row_atom row.now) mode found tries.old tries.new) }
     {
+        // For the proof: that the count has 64 bits is known once it is read.
         let _so_far = *tries;
         let mut matching = Match::new();
         if !fits(&self.rule.heads[self.place], row, &mut matching) {

@@ -122,7 +122,7 @@ impl<'a, P: Past, A: Allocator + Copy> Search<'a, P, A> {
         self.visit(&part, &list, least, prefix, matching, reached)
     }
 
-    /// The same with the rows of a part that are in a list, but for those with identities below `least`.
+    /// As `join`, where the next partner is a row of a part that is in a list, and its identity is not below `least`.
     #[cycle(join)]
     fn visit(
         &self,
@@ -142,6 +142,7 @@ impl<'a, P: Past, A: Allocator + Copy> Search<'a, P, A> {
         ensures { IfOk result (WalkLeads (P.history self.now.past.now) self.now prefix.now
             (walk list.now part.now) matching.old matching.new reached.old reached.new) }
     {
+        // For the proof: that the count has 64 bits is known once it is read.
         let _so_far = reached.tries;
         let middle = match part.middle() {
             None => return Ok(false),
@@ -166,7 +167,7 @@ impl<'a, P: Past, A: Allocator + Copy> Search<'a, P, A> {
         }
     }
 
-    /// The same with one row.
+    /// As `join`, where the next partner is this row.
     #[cycle(join)]
     fn try_row(
         &self,
@@ -190,7 +191,7 @@ impl<'a, P: Past, A: Allocator + Copy> Search<'a, P, A> {
         Ok(false)
     }
 
-    /// The same, but where nothing is found, some variables more may be matched.
+    /// As `try_row`, but where nothing is found, some variables more may be matched.
     #[cycle(join)]
     fn join_row(
         &self,
@@ -206,6 +207,7 @@ impl<'a, P: Past, A: Allocator + Copy> Search<'a, P, A> {
         ensures { IfOk result (RowLeads (P.history self.now.past.now) self.now prefix.now
             (id.0, row_atom row.now) matching.old matching.new reached.old reached.new) }
     {
+        // For the proof: that the count has 64 bits is known once it is read.
         let _so_far = reached.tries;
         let head = &self.rule.heads[prefix.partners.len()];
         if takes(self.own, &prefix.partners, head, id, row, matching) {
@@ -227,6 +229,7 @@ impl<'a, P: Past, A: Allocator + Copy> Search<'a, P, A> {
         ensures { IfOk result (JoinLeads (P.history self.now.past.now) self.now prefix.now
             matching.now matching.now reached.old reached.new) }
     {
+        // For the proof: that the count has 64 bits is known once it is read.
         let _so_far = reached.tries;
         if !prefix.mode.is_free() {
             return Ok(false);

@@ -57,7 +57,7 @@ impl<A: Allocator + Copy> Keyed<A> {
         self.keys.is_some()
     }
 
-    /// Makes room for so many notes.
+    /// Makes room for more notes.
     pub(crate) fn room(&mut self, more: usize) -> Result<(), Memory>
         ensures lists { (f : ℕ → Option Atom) → AreListed f self.old → AreListed f self.new }
         ensures ok { OnOk result (HasRoom more self.new) }
@@ -115,7 +115,7 @@ impl<A: Allocator + Copy> Keyed<A> {
         }
     }
 
-    /// The same again, at the price of a pointer.
+    /// The lists a second time, at the price of a pointer.
     pub(crate) fn share(&self) -> Result<Keyed<A>, Memory>
         requires { IsSettled self.now }
         ensures lists { IfOk result (λ shared. (f : ℕ → Option Atom) → AreListed f self.now → AreListed f shared) }

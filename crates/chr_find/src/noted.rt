@@ -40,7 +40,7 @@ impl<A: Allocator + Copy> Noted<A> {
         }
     }
 
-    /// Makes room for so many notes.
+    /// Makes room for more notes.
     pub(crate) fn room(&mut self, more: usize) -> Result<(), Memory>
         ensures rows { (q : Place) → row_at self.new q ≡ row_at self.old q }
         ensures plan { self.new.plan ≡ self.old.plan }

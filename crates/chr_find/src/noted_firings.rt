@@ -40,7 +40,7 @@ impl<A: Allocator + Copy> NotedFirings<A> {
         })
     }
 
-    /// Makes room for so many notes.
+    /// Makes room for more notes.
     pub fn room(&mut self, more: usize) -> Result<(), Memory>
         ensures same { (r : ℕ) (ids : List ℕ) → noted_in self.new r ids ≡ noted_in self.old r ids }
         ensures ok { OnOk result (HasRoom more self.new) }

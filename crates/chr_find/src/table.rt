@@ -77,7 +77,7 @@ impl<A: Allocator + Copy> Table<A> {
         }
     }
 
-    /// Makes room for so many changes.
+    /// Makes room for more changes.
     pub fn room(&mut self, more: usize) -> Result<(), Memory>
         ensures same { (i : ℕ) → atom_at self.new i ≡ atom_at self.old i }
         ensures own { (i : ℕ) → IsFor i self.old → IsFor i self.new }
@@ -238,7 +238,7 @@ impl<A: Allocator + Copy> Table<A> {
         }
     }
 
-    /// The same constraints again, at the price of some pointers.
+    /// A second table of the same constraints, at the price of some pointers.
     pub fn share(&self) -> Result<Table<A>, Memory>
         requires { IsWhole self.now }
         ensures atoms { IfOk result (λ shared. (i : ℕ) → atom_at shared i ≡ atom_at self.now i) }

@@ -79,7 +79,7 @@ fn scene_of<A: Allocator + Copy>(
     })
 }
 
-/// The same of texts.
+/// As `scene_of`, of texts.
 fn scene_of_texts<A: Allocator + Copy>(
     rt: &impl Abort,
     alloc: A,
@@ -179,7 +179,7 @@ fn finds<A: Allocator + Copy>(
     Ok(is_found && least <= found.tries && found.tries <= most)
 }
 
-/// The same in a snapshot of all that is stored.
+/// As `finds`, in a snapshot of all that is stored.
 fn finds_taken<A: Allocator + Copy>(
     lists: &Lists<A>,
     scene: &Scene<A>,
@@ -191,7 +191,7 @@ fn finds_taken<A: Allocator + Copy>(
     finds(lists, &scene.program, &snapshot, at, wanted, tries)
 }
 
-/// The same in the task's own snapshot.
+/// As `finds_taken`, in the task's own snapshot.
 fn finds_own<A: Allocator + Copy>(
     lists: &Lists<A>,
     scene: &Scene<A>,
@@ -340,7 +340,7 @@ fn assert_guest(
     Ok(())
 }
 
-/// The same in a snapshot of the scene.
+/// As `assert_guest`, in a snapshot of the scene.
 fn follow_guest(rt: &impl Abort, alloc: Global, scene: &Scene<Global>) -> Result<(), Memory> {
     let snapshot = taken(alloc, scene, (4, 1), Id(3))?;
     assert_guest(rt, &lists_of(alloc), &scene.program, &snapshot)

@@ -16,6 +16,6 @@ module _ {A : Type 0} where
   pub record IsSettled (n : NotedKeys A) : Type 0 where
     pub listed : (f : ℕ) (k : Option semantics.Key) (i : ℕ) → is_listed n f k i ≡ is_in_list n.keys.lists (place_of f k, i)
 
-  -- there is room for so many notes more
+  -- there is room for this number of further notes
   abbrev pub HasRoom : ℕ → NotedKeys A → Type 0
   HasRoom k n = vec_len n.notes + k ≤ vec_capacity n.notes

@@ -67,7 +67,7 @@ impl<A: Allocator + Copy> KeyLists<A> {
         }
     }
 
-    /// The same lists again, at the price of a pointer.
+    /// The lists a second time, at the price of a pointer.
     pub(crate) fn share(&self) -> Result<KeyLists<A>, Memory>
         ensures { IfOk result (λ shared. (p : Place) → ids_at shared.lists p ≡ ids_at self.now.lists p) }
     {

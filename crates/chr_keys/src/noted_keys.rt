@@ -41,7 +41,7 @@ impl<A: Allocator + Copy> NotedKeys<A> {
         }
     }
 
-    /// Makes room for so many notes.
+    /// Makes room for more notes.
     pub fn room(&mut self, more: usize) -> Result<(), Memory>
         ensures same { (f : ℕ) (k : Option semantics.Key) (i : ℕ) →
             is_listed self.new f k i ≡ is_listed self.old f k i }
@@ -89,7 +89,7 @@ impl<A: Allocator + Copy> NotedKeys<A> {
         self.keys.at(Place::new(sym, key))
     }
 
-    /// The same lists again, at the price of a pointer.
+    /// The lists a second time, at the price of a pointer.
     pub fn share(&self) -> Result<NotedKeys<A>, Memory>
         requires { IsSettled self.now }
         ensures listed { IfOk result (λ shared. (f : ℕ) (k : Option semantics.Key) (i : ℕ) →

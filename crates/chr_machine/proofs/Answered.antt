@@ -13,7 +13,7 @@ use Rattle.chr_semantics.proofs.Lists.{All-got}
 use Rattle.chr_semantics.proofs.Lookups.{atom_resolved}
 use Rattle.chr_semantics.proofs.OccurrenceRule.{occurrence_rule}
 use Rattle.chr_semantics.proofs.TuplesLaw.{tuples_law}
-use Rattle.chr_bounds.proofs.Steps.{find_so}
+use Rattle.chr_laws.proofs.Steps.{find_so}
 use Rattle.chr_machine.specs.Answering.{AnswersStep}
 use Rattle.chr_machine.specs.Model.{Model, state_in}
 use Rattle.chr_machine.specs.NeedView.{Answers, need_by, search_of}

@@ -1,9 +1,13 @@
+pub mod Stacks
 pub mod Models
-pub mod Constraints
+pub mod Courses
+pub mod Transitions
 pub mod Woken
 pub mod Solved
+pub mod Solves
 pub mod Searched
 pub mod Firings
+pub mod OnTop
 pub mod Runs
 pub mod Moved
 pub mod Gathered

@@ -1,69 +1,56 @@
--- Models of executions.
-use Rattle.std.proofs.Common.{◌≡◌, ◌∙◌, ◌++◌, ◌<◌, ◌∷◌, [], List, Vec, Result, Ok, Err, ap, subst, sym}
-use Rattle.std.specs.Prelude.{OnErr, vec_capacity, vec_len}
-use Rattle.chr_semantics.specs.State.{Element}
-use Rattle.chr_rules.specs.ProgramView.{names_of, rules_of}
-use Rattle.chr_trace.specs.State.{elem_view, stack_view, status_view}
+-- What executions show, and what their steps need.
+use Rattle.std.proofs.Common.{◌≡◌, ◌∙◌, ◌<◌, ◌∷◌, [], ℕ, List, ap, arith, length, map, subst, sym}
+use Rattle.chr_semantics.specs.State.{Element, Status, running}
+use Rattle.chr_trace.specs.State.{stack_view, status_view}
 use Rattle.chr_trace.specs.declared.state.Elem.{Elem}
-use Rattle.chr_trace.proofs.Stacks.{stack_put}
-use Rattle.chr_machine.specs.Model.{Model, model_of, topped}
-use Rattle.chr_base.specs.BaseView.{base_view}
-use Rattle.chr_machine.specs.Step.{IsSameBeside, Kept}
-use Rattle.chr_machine.specs.declared.state.Execution.{Execution}
+use Rattle.chr_trace.proofs.Stacks.{length-stack}
+use Rattle.chr_machine.specs.Model.{CourseModel, Model, course_of, model_of, model_with, state_in}
+use Rattle.chr_machine.specs.Step.{CanMove, CanStep, IsCounted, IsProper, IsSteady, Makes}
+use Rattle.chr_machine.specs.declared.execution.Execution.{Execution}
 
-module _ {A : Type 0} where
-  -- where nothing has changed
-  pub kept_model : (old new : Execution A) → Kept old new → model_of new ≡ model_of old
-  kept_model old new h =
-      λ k. record {
-        names = names_of (h.program k);
-        rules = rules_of (h.program k);
-        var_names = h.var_names k;
-        stack = stack_view (h.stack k);
-        status = status_view (h.status k);
-        base = h.base k;
-        steps = h.steps k;
-        lines = h.lines k;
-      }
+module _ {A : Type 0} (old new : Execution A) where
+  -- a transition, by what was on the stack of a running execution, and what there is now
+  pub makes_by : (es fs : List Element) (w : Status) (d : CourseModel) → stack_view old.stack.items ≡ es → status_view old.status ≡ running → stack_view new.stack.items ≡ fs → status_view new.status ≡ w → course_of new.course ≡ d
+      → Makes (model_with es running (course_of old.course)) (model_with fs w d) → Makes (model_of old) (model_of new)
+  makes_by es fs w d stood ran stack status course makes =
+      let before : model_of old ≡ model_with es running (course_of old.course) = λ k. model_with (stood k) (ran k) (course_of old.course) in
+      let after : model_of new ≡ model_with fs w d = λ k. model_with (stack k) (status k) (course k) in
+      subst (λ (m : Model). Makes m (model_of new)) (sym before) (subst (Makes (model_with es running (course_of old.course))) (sym after) makes)
 
-  -- nothing that shows has changed, twice
-  pub kept_twice : (old mid new : Execution A) → Kept old mid → Kept mid new → Kept old new
-  kept_twice old mid new h k = record {
-    stack = k.stack ∙ h.stack;
-    room = λ r. k.room (h.room r);
-    status = k.status ∙ h.status;
-    base = k.base ∙ h.base;
-    lines = k.lines ∙ h.lines;
-    steps = k.steps ∙ h.steps;
-    program = k.program ∙ h.program;
-    var_names = k.var_names ∙ h.var_names;
-  }
+-- as many elements as there are to be seen
+same_length : {A : Type 0} (es fs : List (Elem A)) → stack_view es ≡ stack_view fs → length es ≡ length fs
+same_length es fs same =
+    let seen : Element → List ℕ = λ e. [] in
+    omega (arith, length-stack seen es, length-stack seen fs, ap (λ (xs : List Element). length (map seen xs)) same)
 
-  -- where the base shows the same
-  pub kept_beside : (old new : Execution A) → IsSameBeside old new → base_view new.base ≡ base_view old.base → Kept old new
-  kept_beside old new h base = record {
-    stack = ap (λ v. v.items) h.stack;
-    room = subst (λ (v : Vec (Elem A) A). vec_len old.stack < vec_capacity old.stack → vec_len v < vec_capacity v) (sym h.stack) (λ r. r);
-    status = h.status;
-    base = base;
-    lines = ap (λ ls. ls.made) h.lines;
-    steps = h.steps;
-    program = h.program;
-    var_names = h.var_names;
-  }
+-- there is a top where one is seen
+pub has_top : {A : Type 0} (es : List (Elem A)) (top : Element) (rest : List Element) → stack_view es ≡ top ∷ rest → 0 < length es
+has_top es top rest is =
+    let seen : Element → List ℕ = λ e. [] in
+    omega (arith, length-stack seen es, ap (λ (xs : List Element). length (map seen xs)) is)
 
-  -- with the top taken off
-  pub popped : (old : Execution A) (v : Vec (Elem A) A) (e : Elem A) → old.stack.items ≡ v.items ++ e ∷ [] → model_of old ≡ topped (elem_view e) (model_of (record old { stack = v }))
-  popped old v e is = ap (λ (es : List Element). record (model_of old) { stack = es }) (ap stack_view is ∙ stack_put v.items e)
+-- and none where none is
+pub no_top : {A : Type 0} (es : List (Elem A)) → stack_view es ≡ [] → length es ≡ 0
+no_top es is =
+    let seen : Element → List ℕ = λ e. [] in
+    omega (arith, length-stack seen es, ap (λ (xs : List Element). length (map seen xs)) is)
 
-  -- with a top put back that shows the same
-  pub put_back : (old low mid : Execution A) (w : Vec (Elem A) A) (e f : Elem A) → model_of old ≡ topped (elem_view e) (model_of low) → w.items ≡ mid.stack.items ++ f ∷ [] → elem_view f ≡ elem_view e → Kept low mid → model_of (record mid { stack = w }) ≡ model_of old
-  put_back old low mid w e f popped_is back same kept =
-      ap (λ (es : List Element). record (model_of mid) { stack = es }) (ap stack_view back ∙ stack_put mid.stack.items f)
-      ∙ (ap (λ (m : Model). topped (elem_view f) m) (kept_model low mid kept)
-      ∙ (ap (λ (x : Element). topped x (model_of low)) same ∙ sym popped_is))
+-- what a transition needs below the stack
+pub can_move : {A : Type 0} (e : Execution A) (top : Element) (rest : List Element) → CanStep (model_of e) → stack_view e.stack.items ≡ top ∷ rest → CanMove (course_of e.course) top
+can_move e top rest h at = record {
+  rest = rest;
+  few = h.few;
+  changes = h.changes;
+  proper = subst (λ (m : Model). IsProper m.rules (state_in m)) (λ k. model_with (at k) (h.runs k) (course_of e.course)) h.proper;
+}
 
--- where it is refused
-pub on_err : {T E : Type 0} {P : Type 0} (r : Result T E) → P → OnErr r P
-on_err (Ok x) p = tt
-on_err (Err e) p = p
+-- where nothing that shows has changed, what held goes on to hold
+pub steady_same : {A : Type 0} (old new : Execution A) → model_of new ≡ model_of old → IsSteady old → IsSteady new
+steady_same old new same h = record {
+  ready = λ runs.
+      let some = h.ready (sym (ap (λ (m : Model). m.status) same) ∙ runs) in
+      let lengths = same_length new.stack.items old.stack.items (ap (λ (m : Model). m.stack) same) in
+      omega (arith, some, lengths, old.stack.ok.0, new.stack.ok.0);
+  counted = subst IsCounted (sym same) h.counted;
+  proper = subst (λ (m : Model). IsProper m.rules (state_in m)) (sym same) h.proper;
+}

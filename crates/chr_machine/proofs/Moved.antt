@@ -8,7 +8,7 @@ use Rattle.chr_semantics.specs.Step.{step, step_at}
 use Rattle.chr_semantics.specs.Text.{line_texts}
 use Rattle.chr_semantics.specs.Trace.{line_at}
 use Rattle.chr_semantics.specs.declared.limits.TheConstants.{MAX_TRANSITIONS}
-use Rattle.chr_bounds.proofs.Steps.{bounds_law}
+use Rattle.chr_laws.proofs.Steps.{bounds_law}
 use Rattle.chr_machine.specs.MachineView.{Moves}
 use Rattle.chr_machine.specs.Model.{Model, state_in}
 use Rattle.chr_machine.specs.Step.{IsCounted, IsProper, Makes}

@@ -11,7 +11,7 @@ use Rattle.std.specs.declared.alloc.AllocError.{AllocError}
 use Rattle.chr_semantics.specs.declared.limits.TheConstants.{MAX_TRANSITIONS}
 use Rattle.chr_machine.specs.MachineView.{Further, IsDue, Moves, Runs}
 use Rattle.chr_machine.specs.Model.{Model, state_in}
-use Rattle.chr_machine.specs.declared.state.Stepped.TheVariants.{Moved, Ended, Spent}
+use Rattle.chr_machine.specs.declared.stepped.Stepped.TheVariants.{Moved, Ended, Spent}
 
 after-suc : (p : Program) (s : State) (n : ℕ) → after p s (suc n) ≡ step p (after p s n)
 after-suc p s zero = refl
@@ -79,7 +79,7 @@ further_more n a b c r m = record {
 pub further_same : (n : ℕ) (a b c : Model) → Further n a b → c ≡ b → Further n a c
 further_same n a b c r e = subst (Further n a) (sym e) r
 
--- so many transitions stand between the two
+-- this number of transitions stands between the two
 counted : (k : ℕ) (a b : Model) → Further k a b → b.steps - a.steps ≡ k
 counted k a b r = omega (arith, r.steps_are)
 

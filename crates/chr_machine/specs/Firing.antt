@@ -1,55 +1,64 @@
--- What a firing is, and what it changes below the stack.
-use Rattle.std.specs.Prelude.{◌≡◌, ℕ, ◌+◌, ◌-◌, ◌≤◌, ◌++◌, List, [], ◌∷◌, All, Option, Some, true, false, cond, drop, is_some, length, map, nat_lt, slice_get}
+-- What a search of a course comes to, and what a firing changes there.
+use Rattle.std.specs.Prelude.{◌≡◌, ℕ, ◌+◌, ◌-◌, ◌≤◌, List, All, Option, Some, cond, drop, false, length, map, nat_lt, slice_get, true}
 use Rattle.std.specs.List.{fold}
 use Rattle.chr_semantics.specs.Bounds.{IsBounded}
 use Rattle.chr_semantics.specs.Changes.{entered, removed}
 use Rattle.chr_semantics.specs.Match.{Row, fits}
 use Rattle.chr_semantics.specs.Program as program
 use Rattle.chr_semantics.specs.Program.{Atom, Rule, occurrence}
-use Rattle.chr_semantics.specs.Search.{atom_of, fired_before, firing, ids_found, ids_of}
-use Rattle.chr_semantics.specs.State.{active, goal, resolved_atom}
-use Rattle.chr_semantics.specs.Step.{body_of, search_at}
+use Rattle.chr_semantics.specs.Search.{Found, atom_of, fired_before, firing, ids_of, no_firing, no_occurrence, search_for}
+use Rattle.chr_semantics.specs.State.{Element, active, goal, resolved_atom}
+use Rattle.chr_semantics.specs.Step.{body_of}
 use Rattle.chr_semantics.specs.Subst.{Subst}
-use Rattle.chr_semantics.specs.Text.{line_text}
-use Rattle.chr_semantics.specs.Trace.{propagates, simplifies}
+use Rattle.chr_semantics.specs.Trace.{Line, defaults, drops, propagates, simplifies}
 use Rattle.chr_rules.specs.RuleView.{goal_view, rule_view}
-use Rattle.chr_rules.specs.declared.goal.Goal.{Goal}
 use Rattle.chr_find.specs.declared.active.Active.{Active}
+use Rattle.chr_term.specs.TermView.{atom_over}
 use Rattle.chr_base.specs.Agreement.{is_alive}
+use Rattle.chr_base.specs.BaseView.{base_view}
 use Rattle.chr_base.specs.Model.{BaseModel, rows_of}
-use Rattle.chr_base.specs.BaseView.{base_view, program_of}
 use Rattle.chr_base.specs.Searching.{FindsFirst}
-use Rattle.chr_machine.specs.Model.{Model, model_of, state_in, topped}
-use Rattle.chr_machine.specs.declared.state.Execution.{Execution}
+use Rattle.chr_machine.specs.Model.{CourseModel, course_of, line_in, logged}
+use Rattle.chr_machine.specs.declared.course.Course.{Course}
+use Rattle.chr_machine.specs.declared.turning.ActiveConstraint.{ActiveConstraint}
+use Rattle.chr_machine.specs.declared.turning.Firing.{Firing}
+use Rattle.chr_machine.specs.declared.turning.Turn.{Turn}
+use Rattle.chr_machine.specs.declared.turning.Turn.TheVariants.{Drops, Defaults, Fires}
+
+-- the goal of an active constraint, and what it is on the stack
+abbrev pub atom_at : {A : Type 0} → ActiveConstraint A → Atom
+atom_at x = atom_over x.sym x.args.now
+
+abbrev pub top_at : {A : Type 0} → ActiveConstraint A → Element
+top_at x = active x.id.0 x.occurrence (atom_at x)
+
+-- the search for the constraint i, whose goal is a, at its occurrence j
+abbrev pub search_in : CourseModel → ℕ → ℕ → Atom → Found
+search_in c i j a = search_for c.rules (rows_of c.base) c.base.entries.list a.sym i j
 
 -- the occurrence at which a constraint is active
 abbrev pub occurrence_of : {A : Type 0} → Active A → program.Occurrence
 occurrence_of s = record { number = s.number; rule = rule_view s.rule.now; place = s.place }
 
--- the active constraint, a with its number of an occurrence, lives and stands at that occurrence
-pub record IsAt {A : Type 0} (m : Model) (s : Active A) (number : ℕ) (a : Atom) : Type 0 where
-  pub occurs : occurrence m.rules a.sym number ≡ Some (occurrence_of s)
-  pub lives : is_some (atom_of m.base.store.rows s.id.0) ≡ true
+-- the active constraint has that occurrence
+pub record IsAt {A : Type 0} (c : CourseModel) (s : Active A) (x : ActiveConstraint A) : Type 0 where
+  pub id : s.id.0 ≡ x.id.0
+  pub occurs : occurrence c.rules x.sym.0 x.occurrence ≡ Some (occurrence_of s)
 
--- the search for it comes to these identities
-pub record ComesTo {A : Type 0} (m : Model) (s : Active A) (number : ℕ) (a : Atom) (ids : Option (List ℕ)) : Type 0 where
-  pub at : IsAt m s number a
-  pub found : ids ≡ ids_found (search_at m.rules (state_in (topped (active s.id.0 number a) m)) s.id.0 number a)
-
--- the search for the active constraint, a with its number of an occurrence, found a firing with these identities
-pub record IsFiring {A : Type 0} (m : Model) (s : Active A) (number : ℕ) (a : Atom) (ids : List ℕ) : Type 0 where
+-- the search for the constraint, a at its occurrence j, found a firing with these identities
+pub record IsFiring {A : Type 0} (c : CourseModel) (s : Active A) (j : ℕ) (a : Atom) (ids : List ℕ) : Type 0 where
   pub rows : List Row
   pub matched : Subst
-  pub found : search_at m.rules (state_in (topped (active s.id.0 number a) m)) s.id.0 number a ≡ firing s.number (rule_view s.rule.now) s.place rows
+  pub found : search_in c s.id.0 j a ≡ firing s.number (rule_view s.rule.now) s.place rows
   pub ids_are : ids_of rows ≡ ids
   pub fit : fits (rule_view s.rule.now).heads rows ≡ Some matched
-  pub standing : All (λ (r : Row). atom_of (rows_of m.base) r.0 ≡ Some r.1) rows
+  pub standing : All (λ (r : Row). atom_of (rows_of c.base) r.0 ≡ Some r.1) rows
   pub few : length ids ≤ 8
-  pub is_new : fired_before m.base.entries.list s.number ids ≡ false
+  pub is_new : fired_before c.base.entries.list s.number ids ≡ false
   pub bounded : IsBounded (rule_view s.rule.now)
-  pub of_program : slice_get m.rules s.number ≡ Some (rule_view s.rule.now)
-  pub lives : is_alive m.base.store s.id.0 ≡ true
-  pub first : FindsFirst m.base s (Some ids)
+  pub of_program : slice_get c.rules s.number ≡ Some (rule_view s.rule.now)
+  pub lives : is_alive c.base.store s.id.0 ≡ true
+  pub first : FindsFirst c.base s (Some ids)
 
 -- what is below the stack after a firing
 abbrev pub fired_base : BaseModel → ℕ → Rule → List ℕ → BaseModel
@@ -59,17 +68,26 @@ fired_base b number rule ids = record b {
   next_var = b.next_var + (rule.vars - rule.head_vars);
 }
 
--- the rule has fired with these identities below the stack, its line is there, and these are the goals of its body
-pub record FiresBelow {A : Type 0} (old : Execution A) (s : Active A) (number : ℕ) (a : Atom) (ids : List ℕ) (new : Execution A) (goals : List (Goal A)) : Type 0 where
-  pub base : base_view new.base ≡ fired_base (base_view old.base) s.number (rule_view s.rule.now) ids
-  pub goals_are : (f : IsFiring (model_of old) s number a ids) → map (λ g. goal (goal_view g)) goals ≡ body_of (rule_view s.rule.now) f.rows (base_view old.base).next_var
-  pub lines :
-      let m = model_of old in
-      let b = resolved_atom m.base.subst a in
-      new.lines.made ≡ m.lines ++ line_text m.names m.var_names (m.steps + 1)
-      (cond (nat_lt s.place (rule_view s.rule.now).kept) (propagates b s.id.0 number (rule_view s.rule.now).label ids) (simplifies b s.id.0 number (rule_view s.rule.now).label ids)) ∷ []
-  pub stack : new.stack.items ≡ old.stack.items
-  pub status : new.status ≡ old.status
-  pub steps : new.steps ≡ old.steps + 1
-  pub program : program_of new.base ≡ program_of old.base
-  pub var_names : new.var_names ≡ old.var_names
+-- the line of a firing
+abbrev pub firing_line : ℕ → ℕ → Atom → Rule → ℕ → List ℕ → Line
+firing_line i j a rule place ids = cond (nat_lt place rule.kept) (propagates a i j rule.label ids) (simplifies a i j rule.label ids)
+
+-- A firing of the active constraint that is ready: its line is drafted, and it has the goals of the body.
+pub record IsPrepared {A : Type 0} (x : ActiveConstraint A) (f : Firing A) (d : Course A) : Type 0 where
+  pub id : f.active.id.0 ≡ x.id.0
+  pub is : IsFiring (course_of d) f.active x.occurrence (atom_at x) f.ids
+  pub goals_are : map (λ g. goal (goal_view g)) f.goals.items ≡ body_of (rule_view f.active.rule.now) is.rows (base_view d.base).next_var
+  pub drafted : d.lines.draft ≡ Some (line_in (course_of d) (firing_line x.id.0 x.occurrence (resolved_atom (base_view d.base).subst (atom_at x)) (rule_view f.active.rule.now) f.active.place f.ids))
+
+-- What comes of an active constraint: a Drop or a Default, whose line is there, or a firing that is ready, with nothing else that shows.
+abbrev pub Turns : {A : Type 0} → CourseModel → ActiveConstraint A → Turn A → Course A → Type 0
+Turns c x Drops d = (search_in c x.id.0 x.occurrence (atom_at x) ≡ no_occurrence) × (course_of d ≡ logged c.base (drops (resolved_atom c.base.subst (atom_at x)) x.id.0 x.occurrence) c)
+Turns c x (Defaults j) d = (j ≡ x.occurrence + 1) × (search_in c x.id.0 x.occurrence (atom_at x) ≡ no_firing) × (course_of d ≡ logged c.base (defaults (resolved_atom c.base.subst (atom_at x)) x.id.0 x.occurrence) c)
+Turns c x (Fires f) d = (course_of d ≡ c) × IsPrepared x f d
+
+-- what is below the stack once a firing is made
+module _ {A : Type 0} (f : Firing A) (d : Course A) where
+  abbrev pub AreFired : CourseModel → Type 0
+  AreFired new =
+      (x : ActiveConstraint A) → IsPrepared x f d → (let c = course_of d in let rule = rule_view f.active.rule.now in
+      new ≡ logged (fired_base c.base f.active.number rule f.ids) (firing_line x.id.0 x.occurrence (resolved_atom c.base.subst (atom_at x)) rule f.active.place f.ids) c)

@@ -2,9 +2,11 @@ pub mod Shown
 pub mod Model
 pub mod Step
 pub mod Proper
+pub mod Stack
 pub mod Waking
 pub mod Solving
 pub mod Firing
+pub mod Ready
 pub mod NeedView
 pub mod Answering
 pub mod Gathering

@@ -12,8 +12,8 @@ use Rattle.chr_semantics.specs.Trace.{line}
 use Rattle.chr_semantics.specs.declared.limits.TheConstants.{MAX_TRANSITIONS}
 use Rattle.chr_machine.specs.Model.{Model, model_of, state_in}
 use Rattle.chr_machine.specs.Step.{SameRun}
-use Rattle.chr_machine.specs.declared.state.Stepped.{Stepped}
-use Rattle.chr_machine.specs.declared.state.Stepped.TheVariants.{Moved, Ended, Spent}
+use Rattle.chr_machine.specs.declared.stepped.Stepped.{Stepped}
+use Rattle.chr_machine.specs.declared.stepped.Stepped.TheVariants.{Moved, Ended, Spent}
 use Rattle.chr_machine.specs.declared.machine.Machine.{Machine}
 
 abbrev pub machine_view : {A : Type 0} → Machine A → Model

@@ -1,99 +1,82 @@
 -- What a Solve does.
-use Rattle.std.specs.Prelude.{◌≡◌, ◌⊎◌, ℕ, ℤ, ◌<◌, ◌+◌, ◌++◌, List, [], ◌∷◌, Result, Ok, Err, vec_capacity, vec_len}
+use Rattle.std.specs.Prelude.{◌≡◌, ◌⊎◌, ◌<◌, ℕ, ℤ, ◌++◌, List, [], ◌∷◌, Result, Ok, Err}
 use Rattle.chr_semantics.specs.Calls.{bind_calls}
+use Rattle.chr_semantics.specs.Changes.{woken}
 use Rattle.chr_semantics.specs.Mgu.{mgu}
-use Rattle.chr_semantics.specs.Program.{Comparison, Goal, constraint, tell, evaluate, compare, fail}
-use Rattle.chr_semantics.specs.State.{State, goal, with_stack}
+use Rattle.chr_semantics.specs.Program.{Comparison, Goal, tell, evaluate, compare}
+use Rattle.chr_semantics.specs.State.{Element, State, goal, running, status_at}
 use Rattle.chr_semantics.specs.Step.{bind_step, compare_step, evaluate_step, goal_instance, solve, with_status, woken_elements}
 use Rattle.chr_semantics.specs.Subst.{Subst, apply, value_at}
-use Rattle.chr_semantics.specs.Text.{line_text}
 use Rattle.chr_semantics.specs.Trace.{solve_line}
 use Rattle.chr_semantics.specs.Tree.{Tree}
 use Rattle.chr_semantics.specs.Value.{value}
+use Rattle.chr_semantics.specs.declared.limits.TheConstants.{MAX_CHANGES, MAX_TRANSITIONS}
 use Rattle.chr_bind.specs.Comparison.{comparison_view}
 use Rattle.chr_bind.specs.Values.{fault_view}
 use Rattle.chr_bind.specs.declared.fault.Fault.{Fault}
 use Rattle.chr_trace.specs.State.{status_view}
-use Rattle.chr_base.specs.BaseView.{base_view, program_of}
-use Rattle.chr_machine.specs.Model.{Model, model_of, state_in, topped}
-use Rattle.chr_machine.specs.Step.{Counts, IsReady, SameRun}
+use Rattle.chr_machine.specs.Model.{CourseModel, Model, line_in, logged, model_with, state_in}
+use Rattle.chr_machine.specs.Step.{Counts, SameRun}
 use Rattle.chr_machine.specs.declared.solving.Kind.{Kind}
 use Rattle.chr_machine.specs.declared.solving.Kind.TheVariants.{Tell, Evaluate, Compare}
 use Rattle.chr_machine.specs.declared.solving.Solved.{Solved}
 use Rattle.chr_machine.specs.declared.solving.Solved.TheVariants.{Holds, Ends}
-use Rattle.chr_machine.specs.declared.state.Execution.{Execution}
 
--- a line is there for the transition, and nothing else has changed
-pub record Logged {A : Type 0} (line : List ℕ) (old new : Execution A) : Type 0 where
-  pub stack : new.stack.items ≡ old.stack.items
-  pub room : vec_len old.stack < vec_capacity old.stack → vec_len new.stack < vec_capacity new.stack
-  pub status : new.status ≡ old.status
-  pub base : base_view new.base ≡ base_view old.base
-  pub lines : new.lines.made ≡ old.lines.made ++ line ∷ []
-  pub steps : new.steps ≡ old.steps + 1
-  pub program : program_of new.base ≡ program_of old.base
-  pub var_names : new.var_names ≡ old.var_names
+-- a Solve can be made, which wakes the constraints with these identities
+pub record CanSolve (c : CourseModel) (ids : List ℕ) : Type 0 where
+  pub few : c.steps < MAX_TRANSITIONS
+  pub changes : c.base.store.changes < MAX_CHANGES
+  pub ids_are : ids ≡ woken c.base.store c.base.subst
 
 -- a goal with the bindings applied
-abbrev pub shown : Model → Goal → Goal
-shown m g = goal_instance (value_at m.base.subst) g
+abbrev pub shown : CourseModel → Goal → Goal
+shown c g = goal_instance (value_at c.base.subst) g
 
--- the line of a Solve by the status that it leads to
-abbrev pub line_of : Model → Goal → State → List ℕ
-line_of m g t = line_text m.names m.var_names (m.steps + 1) (solve_line (shown m g) t.status)
+-- the state with the goal on top of these elements
+abbrev pub with_goal : Goal → List Element → CourseModel → State
+with_goal g rest c = state_in (model_with (goal g ∷ rest) running c)
 
--- a Solve of the goal, which was taken off the stack of m, leads to the state t
-pub record Reaches (g : Goal) (t : State) (m n : Model) : Type 0 where
+-- what wakes
+abbrev pub woken_in : CourseModel → List Element
+woken_in c = woken_elements (state_in (model_with [] running c))
+
+-- a Solve of the goal, which was on top of m, leads to the state t
+pub record Reaches (g : Goal) (t : State) (rest : List Element) (c : CourseModel) (n : Model) : Type 0 where
   pub state : state_in n ≡ t
-  pub store : n.base.store ≡ bind_calls (state_in (topped (goal g) m)) t m.base.store
-  pub entries : n.base.entries ≡ m.base.entries
-  pub lines : n.lines ≡ m.lines ++ line_of m g t ∷ []
-  pub counts : Counts m n
-  pub same : SameRun m n
+  pub store : n.base.store ≡ bind_calls (with_goal g rest c) t c.base.store
+  pub entries : n.base.entries ≡ c.base.entries
+  pub lines : n.lines ≡ c.lines ++ line_in c (solve_line (shown c g) t.status) ∷ []
+  pub counts : Counts (model_with rest running c) n
+  pub same : SameRun (model_with rest running c) n
 
--- what came of a Solve that is to lead to the state t: it has, or it does once the goal is put back and the run ends
-abbrev pub Solves : {A : Type 0} → Goal → State → Execution A → Execution A → Solved → Type 0
-Solves g t old new Holds = Reaches g t (model_of old) (model_of new) × IsReady new
-Solves g t old new (Ends w) = (t ≡ with_status (state_in (topped (goal g) (model_of old))) (status_view w)) × Logged (line_of (model_of old) g t) old new
+-- What came of a Solve that is to lead to a state, by what lies below the goal: it holds, and the woken elements go in the place of the
+-- goal, or the run ends, with the goal on its stack.
+abbrev pub Solves : Goal → (List Element → State) → CourseModel → Solved → CourseModel → Type 0
+Solves g t c Holds d = (rest : List Element) → Reaches g (t rest) rest c (model_with (woken_in c ++ rest) (status_at (woken_in c ++ rest)) d)
+Solves g t c (Ends w) d = (rest : List Element) → Reaches g (t rest) rest c (model_with (goal g ∷ rest) (status_view w) d)
 
--- the state with the goal on top, and the stack below it
-abbrev pub with_goal : Goal → Model → State
-with_goal g m = state_in (topped (goal g) m)
-
-module _ {A : Type 0} (g : Goal) (old new : Execution A) (solved : Solved) where
+module _ (g : Goal) (c : CourseModel) (solved : Solved) (d : CourseModel) where
   -- that two terms are equal is told
   abbrev pub Tells : Tree → Tree → Type 0
-  Tells t u = let m = model_of old in Solves g (bind_step (with_goal g m) m.stack (mgu m.base.subst t u)) old new solved
+  Tells t u = Solves g (λ rest. bind_step (with_goal g rest c) rest (mgu c.base.subst t u)) c solved d
 
   -- a value is told
   abbrev pub Evaluates : Tree → Tree → Type 0
-  Evaluates t u = let m = model_of old in Solves g (evaluate_step (with_goal g m) m.stack t (value (apply m.base.subst u))) old new solved
-
-  -- nothing is told
-  abbrev pub Passes : Type 0
-  Passes = let m = model_of old in Solves g (with_stack (with_goal g m) (woken_elements (with_goal g m) ++ m.stack)) old new solved
+  Evaluates t u = Solves g (λ rest. evaluate_step (with_goal g rest c) rest t (value (apply c.base.subst u))) c solved d
 
   -- two values are compared
   abbrev pub Compares : Comparison → Tree → Tree → Type 0
-  Compares c t u = let m = model_of old in Solves g (compare_step (with_goal g m) m.stack c (value (apply m.base.subst t)) (value (apply m.base.subst u))) old new solved
+  Compares f t u = Solves g (λ rest. compare_step (with_goal g rest c) rest f (value (apply c.base.subst t)) (value (apply c.base.subst u))) c solved d
 
   -- the goal is solved
   abbrev pub SolvesGoal : Type 0
-  SolvesGoal = let m = model_of old in Solves g (solve (with_goal g m) m.stack g) old new solved
+  SolvesGoal = Solves g (λ rest. solve (with_goal g rest c) rest g) c solved d
 
 -- the built-in of a kind, of these sides
 abbrev pub kind_view : Kind → Tree → Tree → Goal
 kind_view Tell t u = tell t u
 kind_view Evaluate t u = evaluate t u
 kind_view (Compare c) t u = compare (comparison_view c) t u
-
--- the goal is no constraint
-abbrev pub IsBuiltIn : Goal → Type 0
-IsBuiltIn (constraint a) = ⊥
-IsBuiltIn (tell t u) = Unit {0}
-IsBuiltIn (evaluate t u) = Unit {0}
-IsBuiltIn (compare c t u) = Unit {0}
-IsBuiltIn fail = Unit {0}
 
 -- the values of both terms, or the first fault
 abbrev pub AreValues : Subst → Tree → Tree → Result (ℤ × ℤ) Fault → Type 0

@@ -2,17 +2,19 @@
 #![tactic(auto)]
 
 mod answer;
-mod firing;
+mod course;
+mod execution;
 mod machine;
 mod need;
 mod others;
 mod outcome;
 mod run;
+mod sharing;
 mod solving;
-mod state;
-mod steps;
-mod taking;
+mod stack;
+mod stepped;
 mod tasks;
+mod turning;
 mod waking;
 
 pub use chr_bind::Fault;
@@ -22,4 +24,4 @@ pub use chr_trace::{Elem, Lines, Status};
 pub use machine::Machine;
 pub use need::Need;
 pub use outcome::Outcome;
-pub use state::Stepped;
+pub use stepped::Stepped;

@@ -12,17 +12,17 @@ ghost use Rattle.chr_store.specs.Numbers.{numbers};
 ghost use Rattle.chr_store.specs.StoreView.{store_view};
 ghost use Rattle.chr_find.specs.SnapshotView.{IsSnapshot, guest_view, task_view, tasks_view};
 ghost use Rattle.chr_trace.specs.State.{stack_view, status_view};
-ghost use Rattle.chr_base.specs.BaseView.{program_of};
 ghost use Rattle.chr_machine.specs.Model.{model_of, state_in};
 ghost use Rattle.chr_machine.specs.NeedView.{Answers, need, need_view, plain, search_of};
 ghost use Rattle.chr_machine.specs.OutcomeView.{outcome_view};
 ghost use Rattle.chr_machine.specs.Proper.{propers};
-ghost use Rattle.chr_machine.specs.Step.{IsCounted, IsProper, IsReady};
+ghost use Rattle.chr_machine.specs.Step.{IsSteady};
 
 use crate::answer::Answer;
+use crate::execution::Execution;
 use crate::need::Need;
 use crate::outcome::Outcome;
-use crate::state::{Execution, Stepped};
+use crate::stepped::Stepped;
 use chr_bind::Bindings;
 use chr_find::{Found, Snapshot, Task};
 use chr_rules::{Program, Query};
@@ -36,9 +36,7 @@ use std::alloc::{Allocator, Global};
 #[derive(Drop)]
 pub struct Machine<'p, A: Allocator = Global> {
     execution: Execution<'p, A>,
-    ghost ready: { IsReady execution },
-    ghost counted: { IsCounted (model_of execution) },
-    ghost proper: { IsProper (rules_of (program_of execution.base)) (state_in (model_of execution)) } by { Prim.hlevel propers },
+    ghost steady: { IsSteady execution } by { Prim.hlevel propers },
 }
 
 impl<'p, A: Allocator + Copy> Machine<'p, A> {
@@ -66,7 +64,7 @@ impl<'p, A: Allocator + Copy> Machine<'p, A> {
             (λ stepped. Steps stepped (machine_view self.old) (machine_view self.new)) }
         ensures err { OnErr result (IsRefused (machine_view self.old) (machine_view self.new)) }
     {
-        self.execution.step(Answer::Missing)
+        self.execution.step(&Answer::Missing)
     }
 
     /// Makes one transition that asks for no search. It answers Spent where 1,000,000 transitions were made; this and Memory leave the
@@ -95,14 +93,14 @@ impl<'p, A: Allocator + Copy> Machine<'p, A> {
         self.step_answered(ids)
     }
 
-    /// The same with the identities that the answer has.
+    /// As `step_with`, with the identities that the answer has.
     pub fn step_answered(&mut self, ids: Option<HeadIds>) -> Result<Stepped, Memory>
         requires { Answers (machine_view self.old) ids }
         ensures ok { IfOk result
             (λ stepped. Steps stepped (machine_view self.old) (machine_view self.new)) }
         ensures err { OnErr result (IsRefused (machine_view self.old) (machine_view self.new)) }
     {
-        self.execution.step(Answer::Found(ids))
+        self.execution.step(&Answer::Found(ids))
     }
 
     /// Makes transitions until it has made n, the run has ended or 1,000,000 stand. It answers Ended where the run has ended then, Spent
@@ -180,7 +178,7 @@ impl<'p, A: Allocator + Copy> Machine<'p, A> {
         ensures value { result ≡ (machine_view self.now).steps }
         ensures limit { result ≤ MAX_TRANSITIONS }
     {
-        self.execution.steps
+        self.execution.course.steps
     }
 
     /// The goal stack, its top last.
@@ -194,7 +192,7 @@ impl<'p, A: Allocator + Copy> Machine<'p, A> {
     pub fn store(&self) -> &Store<A>
         ensures { store_view result.now ≡ (machine_view self.now).base.store }
     {
-        self.execution.base.store()
+        self.execution.course.base.store()
     }
 
     /// The bindings.
@@ -202,14 +200,14 @@ impl<'p, A: Allocator + Copy> Machine<'p, A> {
         ensures subst { result.now.subst ≡ (machine_view self.now).base.subst }
         ensures len { result.now.len ≡ (machine_view self.now).base.next_var }
     {
-        self.execution.base.bindings()
+        self.execution.course.base.bindings()
     }
 
     /// The propagation history.
     pub fn history(&self) -> &History<A>
         ensures { entries_view result.now ≡ (machine_view self.now).base.entries }
     {
-        self.execution.base.history()
+        self.execution.course.base.history()
     }
 
     /// How the run stands.
@@ -223,7 +221,7 @@ impl<'p, A: Allocator + Copy> Machine<'p, A> {
     pub fn lines(&self) -> &Lines<A>
         ensures { result.now.made ≡ (machine_view self.now).lines }
     {
-        &self.execution.lines
+        &self.execution.course.lines
     }
 
     /// The program that it runs.
@@ -231,13 +229,13 @@ impl<'p, A: Allocator + Copy> Machine<'p, A> {
         ensures names { names_of result.now ≡ (machine_view self.now).names }
         ensures rules { rules_of result.now ≡ (machine_view self.now).rules }
     {
-        self.execution.base.program()
+        self.execution.course.base.program()
     }
 
     /// The names of the query's variables.
     pub fn var_names(&self) -> &VarNames<A>
         ensures { result.now ≡ (machine_view self.now).var_names }
     {
-        &self.execution.var_names
+        &self.execution.course.var_names
     }
 }

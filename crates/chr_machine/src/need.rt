@@ -9,7 +9,8 @@ ghost use Rattle.chr_machine.specs.Gathering.{active_of, waiting_view};
 ghost use Rattle.chr_machine.specs.Model.{model_of, state_in};
 ghost use Rattle.chr_machine.specs.NeedView.{asked, need, need_view};
 
-use crate::state::Execution;
+use crate::execution::Execution;
+use crate::stack::top_of;
 use crate::tasks::Waiting;
 use chr_find::Task;
 use chr_store::Id;
@@ -28,26 +29,13 @@ pub enum Need {
     Ended,
 }
 
-/// The top of a stack, and what is below it.
-pub fn top_of<A: Allocator>(stack: &[Elem<A>]) -> Option<(&Elem<A>, &[Elem<A>])>
-    ensures some { IfSome result (λ parts. stack_view stack.now
-        ≡ elem_view parts.0.now ∷ stack_view parts.1.now) }
-    ensures none { IfNone result (stack_view stack.now ≡ []) }
-{
-    let height = stack.len();
-    if height == 0 {
-        return None;
-    }
-    Some((&stack[height - 1], &stack[..height - 1]))
-}
-
 impl<'p, A: Allocator + Copy> Execution<'p, A> {
     /// Whether a symbol has an occurrence of that number.
     pub fn has_occurrence(&self, sym: Sym, number: u32) -> bool
-        ensures is { result ≡ is_some (occurrence (rules_of (program_of self.now.base)) sym.0 number) }
+        ensures is { result ≡ is_some (occurrence (rules_of (program_of self.now.course.base)) sym.0 number) }
         ensures few { IsTrue result → number < 2 ^ 31 }
     {
-        self.base.program().occurrence(sym, number).is_some()
+        self.course.base.program().occurrence(sym, number).is_some()
     }
 
     /// The constraint, where it lives.
@@ -55,7 +43,7 @@ impl<'p, A: Allocator + Copy> Execution<'p, A> {
         ensures { option_map waiting_view result
             ≡ cond (lives (state_in (model_of self.now)) id.0) (Some (sym.0, id.0, number)) None }
     {
-        if self.base.store().alive(id) {
+        if self.course.base.store().alive(id) {
             Some(Waiting { sym, id, number })
         } else {
             None
@@ -83,7 +71,7 @@ impl<'p, A: Allocator + Copy> Execution<'p, A> {
     /// What the top of the stack asks for.
     fn need_top(&self) -> Need
         ensures { need_view result
-            ≡ asked (needed_task (rules_of (program_of self.now.base)) (state_in (model_of self.now))) }
+            ≡ asked (needed_task (rules_of (program_of self.now.course.base)) (state_in (model_of self.now))) }
     {
         let active = match self.active_top() {
             None => return Need::Plain,

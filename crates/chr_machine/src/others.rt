@@ -10,7 +10,7 @@ ghost use Rattle.chr_machine.specs.Gathering.{is_other};
 ghost use Rattle.chr_machine.specs.Model.{model_of, state_in};
 ghost use Rattle.chr_machine.specs.NeedView.{need, search_of};
 
-use crate::state::Execution;
+use crate::execution::Execution;
 use crate::tasks::{Waiting, first_told};
 use chr_find::Task;
 use chr_semantics::limits::MAX_WAITING_ELEMENTS;
@@ -21,7 +21,7 @@ impl<'p, A: Allocator + Copy> Execution<'p, A> {
     /// Whether a constraint has a task beside that one.
     fn has_other(&self, waiting: Waiting, task: Task) -> bool
         ensures { result ≡ list_any (is_other (task_view task))
-            (tasks_from (rules_of (program_of self.now.base)) waiting.sym.0 waiting.id.0 waiting.number) }
+            (tasks_from (rules_of (program_of self.now.course.base)) waiting.sym.0 waiting.id.0 waiting.number) }
     {
         if !self.reaches(waiting.sym, waiting.number) {
             return false;
@@ -35,7 +35,7 @@ impl<'p, A: Allocator + Copy> Execution<'p, A> {
     /// Whether one of the first eight elements that wait below the top has one.
     fn below_has_other(&self, below: &[Elem<A>], task: Task) -> bool
         ensures { result ≡ list_any (is_other (task_view task))
-            (below_top (rules_of (program_of self.now.base)) (state_in (model_of self.now)) (stack_view below.now)) }
+            (below_top (rules_of (program_of self.now.course.base)) (state_in (model_of self.now)) (stack_view below.now)) }
     {
         let mut left = below.len();
         let mut wanted = MAX_WAITING_ELEMENTS;
@@ -54,13 +54,13 @@ impl<'p, A: Allocator + Copy> Execution<'p, A> {
     /// Whether the guest has one.
     fn guest_has_other(&self, below: &[Elem<A>], task: Task) -> bool
         ensures { result ≡ list_any (is_other (task_view task))
-            (guest_tasks (rules_of (program_of self.now.base)) (state_in (model_of self.now))
+            (guest_tasks (rules_of (program_of self.now.course.base)) (state_in (model_of self.now))
             (guest_in (stack_view below.now))) }
     {
         match first_told(below) {
             None => false,
             Some((sym, _)) => {
-                let id = self.base.store().next();
+                let id = self.course.base.store().next();
                 self.has_other(Waiting { sym, id, number: 1 }, task)
             }
         }
@@ -68,7 +68,7 @@ impl<'p, A: Allocator + Copy> Execution<'p, A> {
 
     /// Whether one of these has one: the constraint that is active on top, an element below it, the guest.
     fn has_other_at(&self, active: Waiting, below: &[Elem<A>], task: Task) -> bool
-        ensures { let p = rules_of (program_of self.now.base) in let s = state_in (model_of self.now) in
+        ensures { let p = rules_of (program_of self.now.course.base) in let s = state_in (model_of self.now) in
             result ≡ list_any (is_other (task_view task)) (tasks_from p active.sym.0 active.id.0 active.number
             ++ below_top p s (stack_view below.now) ++ guest_tasks p s (guest_in (stack_view below.now))) }
     {
@@ -85,7 +85,7 @@ impl<'p, A: Allocator + Copy> Execution<'p, A> {
     pub fn has_other_tasks(&self, task: Task) -> bool
         requires { need (model_of self.now) ≡ search_of (task_view task) }
         ensures { result
-            ≡ nat_le 2 (length (tasks (rules_of (program_of self.now.base)) (state_in (model_of self.now)))) }
+            ≡ nat_le 2 (length (tasks (rules_of (program_of self.now.course.base)) (state_in (model_of self.now)))) }
     {
         match self.active_top() {
             None => false,

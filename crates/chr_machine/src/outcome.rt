@@ -8,7 +8,8 @@ ghost use Rattle.chr_store.specs.StoreView.{store_view};
 ghost use Rattle.chr_machine.specs.Model.{model_of, state_in};
 ghost use Rattle.chr_machine.specs.OutcomeView.{ended_in, outcome_view};
 
-use crate::state::Execution;
+use crate::course::Course;
+use crate::execution::Execution;
 use chr_bind::Bindings;
 use chr_rules::Program;
 use chr_store::{History, Store};
@@ -79,16 +80,29 @@ impl<'p, A: Allocator + Copy> Execution<'p, A> {
         ensures store { store_view result.store ≡ (model_of self.entry).base.store }
         ensures history { entries_view result.history ≡ (model_of self.entry).base.entries }
     {
-        let (store, bindings, history) = self.base.into_parts();
+        let Execution {
+            stack,
+            status,
+            course,
+        } = self;
+        let Course {
+            base,
+            var_names,
+            steps,
+            lines,
+            shown: _,
+            alloc: _,
+        } = course;
+        let (store, bindings, history) = base.into_parts();
         Outcome {
-            status: self.status,
-            steps: self.steps,
-            stack: self.stack,
+            status,
+            steps,
+            stack,
             store,
             bindings,
             history,
-            lines: self.lines,
-            var_names: self.var_names,
+            lines,
+            var_names,
         }
     }
 }

@@ -1,39 +1,35 @@
-//! Solve: the transitions of built-ins.
-//!
-//! A Solve makes all its growths first. A goal that fails or faults goes back on the stack, and the run ends.
-ghost use Rattle.chr_semantics.specs.declared.limits.TheConstants.{MAX_CHANGES, MAX_TRANSITIONS};
-ghost use Rattle.std.specs.Prelude.{◌≡◌, ◌<◌, ◌≤◌, ◌+◌, ◌∷◌, IfErr, IfOk, OnErr, OnOk, vec_capacity, vec_len};
-ghost use Rattle.chr_semantics.specs.Bounds.{IsBelow, IsGoalBelow};
+//! What a Solve does below the stack: equations are told, values compared, and the run ends.
+ghost use Rattle.std.specs.Prelude.{◌≡◌, ◌<◌, IfOk, OnErr, OnOk};
+ghost use Rattle.chr_semantics.specs.Bounds.{IsBelow};
 ghost use Rattle.chr_semantics.specs.Changes.{woken};
-ghost use Rattle.chr_semantics.specs.Footprint.{Ascends};
 ghost use Rattle.chr_semantics.specs.State.{goal as goal_element};
 ghost use Rattle.chr_semantics.specs.Subst.{apply};
-ghost use Rattle.chr_semantics.specs.Text.{line_text};
 ghost use Rattle.chr_semantics.specs.Trace.{solve_line};
-ghost use Rattle.chr_semantics.specs.Tree.{Tree, int};
+ghost use Rattle.chr_semantics.specs.Tree.{Tree};
 ghost use Rattle.chr_semantics.specs.Value.{value as value_in};
+ghost use Rattle.chr_semantics.specs.declared.limits.TheConstants.{MAX_TRANSITIONS};
 ghost use Rattle.chr_bind.specs.Comparison.{comparison_view};
 ghost use Rattle.chr_bind.specs.Values.{value_view};
 ghost use Rattle.chr_rules.specs.RuleView.{builtin_view, goal_view};
 ghost use Rattle.chr_store.specs.Numbers.{numbers};
 ghost use Rattle.chr_term.specs.TermView.{view};
-ghost use Rattle.chr_trace.specs.State.{elem_view, stack_view, status_view};
-ghost use Rattle.chr_base.specs.Told.{IsTold};
+ghost use Rattle.chr_trace.specs.State.{status_view};
 ghost use Rattle.chr_base.specs.BaseView.{base_view};
-ghost use Rattle.chr_machine.specs.Model.{model_of};
-ghost use Rattle.chr_machine.specs.Solving.{AreValues, Compares, Evaluates, IsBuiltIn, Logged, Passes, SolvesGoal, Tells, kind_view, shown};
-ghost use Rattle.chr_machine.specs.Step.{IsSameBelow, IsSameBeside, Kept, Made};
+ghost use Rattle.chr_base.specs.Told.{IsTold};
+ghost use Rattle.chr_machine.specs.Model.{course_of, line_in, logged};
+ghost use Rattle.chr_machine.specs.Solving.{AreValues, CanSolve, Compares, Evaluates, SolvesGoal, Tells, kind_view, shown};
+ghost use Rattle.chr_machine.specs.Stack.{IsBuiltIn};
+ghost use Rattle.chr_machine.specs.Step.{CanMove};
 
-use crate::state::Execution;
-use crate::steps::scribe_of;
+use crate::course::{Course, scribe_of};
 use chr_bind::{Comparison, Fault, Unified};
 use chr_rules::{Goal, Op};
 use chr_store::Id;
 use chr_term::{Memory, Term};
-use chr_trace::{Elem, Status};
+use chr_trace::Status;
 use std::alloc::Allocator;
 
-/// What came of a Solve whose goal was taken off the stack: it holds, or the run is to end so, with the goal put back.
+/// What came of a Solve: it holds, or the run is to end so.
 #[derive(Clone, Copy, Drop)]
 pub enum Solved {
     Holds,
@@ -64,85 +60,83 @@ fn kind_of(op: Op) -> Kind
     }
 }
 
-impl<'p, A: Allocator + Copy> Execution<'p, A> {
-    /// The line of a Solve that ends the run so.
-    fn end(&mut self, goal: &Goal<A>, status: Status) -> Result<Solved, Memory>
-        requires few { self.old.steps < MAX_TRANSITIONS }
-        ensures ends { IfOk result (λ solved. solved ≡ Solved.Ends status) }
-        ensures ok { OnOk result (let m = model_of self.old in
-            Logged (line_text m.names m.var_names (m.steps + 1) (solve_line (shown m (goal_view goal.now)) (status_view status)))
-            self.old self.new) }
-        ensures err { OnErr result (Kept self.old self.new) }
-        ensures room { OnErr result (vec_len self.old.stack < vec_capacity self.old.stack →
-            vec_len self.new.stack < vec_capacity self.new.stack) }
+impl<'p, A: Allocator + Copy> Course<'p, A> {
+    /// Drafts the line of a Solve, by the status that it leads to.
+    fn draft_solve(&mut self, goal: &Goal<A>, status: Status) -> Result<(), Memory>
+        requires { self.old.steps < MAX_TRANSITIONS }
+        ensures same { course_of self.new ≡ course_of self.old }
+        ensures base { self.new.base ≡ self.old.base }
+        ensures line { OnOk result (self.new.lines.draft ≡ Some (line_in (course_of self.old)
+            (solve_line (shown (course_of self.old) (goal_view goal.now)) (status_view status)))) }
     {
         let scribe = scribe_of(&self.base, &self.var_names);
         self.lines
-            .draft_solve(&scribe, self.steps + 1, goal, status)?;
+            .draft_solve(&scribe, self.steps + 1, goal, status)
+    }
+
+    /// The line of a Solve that changes nothing else below the stack, by the status that it leads to.
+    fn write_solve(&mut self, goal: &Goal<A>, status: Status) -> Result<(), Memory>
+        requires { self.old.steps < MAX_TRANSITIONS }
+        ensures ok { OnOk result (course_of self.new ≡ logged (base_view self.old.base)
+            (solve_line (shown (course_of self.old) (goal_view goal.now)) (status_view status)) (course_of self.old)) }
+        ensures err { OnErr result (course_of self.new ≡ course_of self.old) }
+    {
+        self.draft_solve(goal, status)?;
         self.log();
+        Ok(())
+    }
+
+    /// The line of a Solve that ends the run so.
+    fn end(&mut self, goal: &Goal<A>, status: Status) -> Result<Solved, Memory>
+        requires { self.old.steps < MAX_TRANSITIONS }
+        ensures ends { IfOk result (λ solved. solved ≡ Solved.Ends status) }
+        ensures ok { OnOk result (course_of self.new ≡ logged (base_view self.old.base)
+            (solve_line (shown (course_of self.old) (goal_view goal.now)) (status_view status)) (course_of self.old)) }
+        ensures err { OnErr result (course_of self.new ≡ course_of self.old) }
+    {
+        self.write_solve(goal, status)?;
         Ok(Solved::Ends(status))
     }
 
     /// Tells below the stack that two terms are equal. The text that is kept may be another one then.
     fn bind(&mut self, left: &Term<A>, right: &Term<A>, ids: &[Id]) -> Result<Unified, Memory>
-        requires changes { (base_view self.old.base).store.changes < MAX_CHANGES }
+        requires can { CanSolve (course_of self.old) (numbers ids.now) }
         requires left { IsBelow (base_view self.old.base).next_var (view left.now) }
         requires right { IsBelow (base_view self.old.base).next_var (view right.now) }
-        requires ids { numbers ids.now ≡ woken (base_view self.old.base).store (base_view self.old.base).subst }
         ensures told { IfOk result
             (λ unified. IsTold (view left.now) (view right.now) (numbers ids.now) unified
             (base_view self.old.base) (base_view self.new.base)) }
+        ensures course { course_of self.new ≡ record (course_of self.old) { base = base_view self.new.base } }
+        ensures lines { self.new.lines ≡ self.old.lines }
         ensures err { OnErr result (base_view self.new.base ≡ base_view self.old.base) }
-        ensures beside { IsSameBeside self.old self.new }
     {
         self.shown.is_right = false;
         self.base.tell(left, right, ids)
     }
 
     /// Tells that two terms are equal, for a goal that says so.
-    fn tell(&mut self, goal: &Goal<A>, left: &Term<A>, right: &Term<A>) -> Result<Solved, Memory>
-        requires few { self.old.steps < MAX_TRANSITIONS }
-        requires ascends { Ascends 0 (base_view self.old.base).store.rows
-            (base_view self.old.base).store.next_id }
-        requires room { vec_len self.old.stack < vec_capacity self.old.stack }
-        requires changes { (base_view self.old.base).store.changes + 8 ≤ MAX_CHANGES }
-        requires left { IsBelow (base_view self.old.base).next_var (view left.now) }
-        requires right { IsBelow (base_view self.old.base).next_var (view right.now) }
-        ensures ok { IfOk result (λ solved. Tells (goal_view goal.now) self.old self.new solved
-            (view left.now) (view right.now)) }
-        ensures err { OnErr result (Kept self.old self.new) }
-        ensures room { OnErr result (vec_len self.new.stack < vec_capacity self.new.stack) }
-    {
-        let waking = self.prepare(goal)?;
-        match self.bind(left, right, waking.ids.as_slice())? {
-            Unified::Clash => self.end(goal, Status::Failed),
-            Unified::Same | Unified::Bound => {
-                self.wake(waking.elems);
-                Ok(Solved::Holds)
-            }
-        }
-    }
-
-    /// Tells a number.
-    fn tell_number(
+    fn tell(
         &mut self,
         goal: &Goal<A>,
         left: &Term<A>,
-        number: i128,
+        right: &Term<A>,
+        ids: &[Id],
     ) -> Result<Solved, Memory>
-        requires few { self.old.steps < MAX_TRANSITIONS }
-        requires ascends { Ascends 0 (base_view self.old.base).store.rows
-            (base_view self.old.base).store.next_id }
-        requires room { vec_len self.old.stack < vec_capacity self.old.stack }
-        requires changes { (base_view self.old.base).store.changes + 8 ≤ MAX_CHANGES }
+        requires can { CanSolve (course_of self.old) (numbers ids.now) }
         requires left { IsBelow (base_view self.old.base).next_var (view left.now) }
-        ensures ok { IfOk result (λ solved. Tells (goal_view goal.now) self.old self.new solved
-            (view left.now) (int number)) }
-        ensures err { OnErr result (Kept self.old self.new) }
-        ensures room { OnErr result (vec_len self.new.stack < vec_capacity self.new.stack) }
+        requires right { IsBelow (base_view self.old.base).next_var (view right.now) }
+        ensures ok { IfOk result (λ solved. Tells (goal_view goal.now) (course_of self.old) solved
+            (course_of self.new) (view left.now) (view right.now)) }
+        ensures err { OnErr result (course_of self.new ≡ course_of self.old) }
     {
-        let right = Term::Int(number);
-        self.tell(goal, left, &right)
+        self.draft_solve(goal, Status::Running)?;
+        match self.bind(left, right, ids)? {
+            Unified::Clash => self.end(goal, Status::Failed),
+            Unified::Same | Unified::Bound => {
+                self.log();
+                Ok(Solved::Holds)
+            }
+        }
     }
 
     /// The value of a term with the bindings applied.
@@ -159,37 +153,21 @@ impl<'p, A: Allocator + Copy> Execution<'p, A> {
         goal: &Goal<A>,
         left: &Term<A>,
         right: &Term<A>,
+        ids: &[Id],
     ) -> Result<Solved, Memory>
-        requires few { self.old.steps < MAX_TRANSITIONS }
-        requires ascends { Ascends 0 (base_view self.old.base).store.rows
-            (base_view self.old.base).store.next_id }
-        requires room { vec_len self.old.stack < vec_capacity self.old.stack }
-        requires changes { (base_view self.old.base).store.changes + 8 ≤ MAX_CHANGES }
+        requires can { CanSolve (course_of self.old) (numbers ids.now) }
         requires left { IsBelow (base_view self.old.base).next_var (view left.now) }
-        ensures ok { IfOk result (λ solved. Evaluates (goal_view goal.now) self.old self.new solved
-            (view left.now) (view right.now)) }
-        ensures err { OnErr result (Kept self.old self.new) }
-        ensures room { OnErr result (vec_len self.new.stack < vec_capacity self.new.stack) }
+        ensures ok { IfOk result (λ solved. Evaluates (goal_view goal.now) (course_of self.old) solved
+            (course_of self.new) (view left.now) (view right.now)) }
+        ensures err { OnErr result (course_of self.new ≡ course_of self.old) }
     {
         match self.value_of(right) {
             Err(fault) => self.end(goal, Status::Faulted(fault)),
-            Ok(number) => self.tell_number(goal, left, number),
+            Ok(number) => {
+                let right = Term::Int(number);
+                self.tell(goal, left, &right, ids)
+            }
         }
-    }
-
-    /// A comparison holds, and binds nothing.
-    fn pass(&mut self, goal: &Goal<A>) -> Result<Solved, Memory>
-        requires few { self.old.steps < MAX_TRANSITIONS }
-        requires ascends { Ascends 0 (base_view self.old.base).store.rows
-            (base_view self.old.base).store.next_id }
-        requires room { vec_len self.old.stack < vec_capacity self.old.stack }
-        ensures ok { IfOk result (Passes (goal_view goal.now) self.old self.new) }
-        ensures err { OnErr result (Kept self.old self.new) }
-        ensures room { OnErr result (vec_len self.new.stack < vec_capacity self.new.stack) }
-    {
-        let waking = self.prepare(goal)?;
-        self.wake(waking.elems);
-        Ok(Solved::Holds)
     }
 
     /// The values of both sides, the left one first.
@@ -205,7 +183,7 @@ impl<'p, A: Allocator + Copy> Execution<'p, A> {
         }
     }
 
-    /// A comparison of the values of both sides.
+    /// A comparison of the values of both sides, which binds nothing.
     fn compare(
         &mut self,
         goal: &Goal<A>,
@@ -213,23 +191,19 @@ impl<'p, A: Allocator + Copy> Execution<'p, A> {
         left: &Term<A>,
         right: &Term<A>,
     ) -> Result<Solved, Memory>
-        requires few { self.old.steps < MAX_TRANSITIONS }
-        requires ascends { Ascends 0 (base_view self.old.base).store.rows
-            (base_view self.old.base).store.next_id }
-        requires room { vec_len self.old.stack < vec_capacity self.old.stack }
-        ensures ok { IfOk result (λ solved. Compares (goal_view goal.now) self.old self.new solved
-            (comparison_view comparison) (view left.now) (view right.now)) }
-        ensures err { OnErr result (Kept self.old self.new) }
-        ensures room { OnErr result (vec_len self.new.stack < vec_capacity self.new.stack) }
+        requires { self.old.steps < MAX_TRANSITIONS }
+        ensures ok { IfOk result (λ solved. Compares (goal_view goal.now) (course_of self.old) solved
+            (course_of self.new) (comparison_view comparison) (view left.now) (view right.now)) }
+        ensures err { OnErr result (course_of self.new ≡ course_of self.old) }
     {
         match self.values(left, right) {
             Err(fault) => self.end(goal, Status::Faulted(fault)),
             Ok((left, right)) => {
-                if comparison.holds(left, right) {
-                    self.pass(goal)
-                } else {
-                    self.end(goal, Status::Failed)
+                if !comparison.holds(left, right) {
+                    return self.end(goal, Status::Failed);
                 }
+                self.write_solve(goal, Status::Running)?;
+                Ok(Solved::Holds)
             }
         }
     }
@@ -241,80 +215,36 @@ impl<'p, A: Allocator + Copy> Execution<'p, A> {
         op: Op,
         left: &Term<A>,
         right: &Term<A>,
+        ids: &[Id],
     ) -> Result<Solved, Memory>
-        requires few { self.old.steps < MAX_TRANSITIONS }
-        requires ascends { Ascends 0 (base_view self.old.base).store.rows
-            (base_view self.old.base).store.next_id }
-        requires room { vec_len self.old.stack < vec_capacity self.old.stack }
-        requires changes { (base_view self.old.base).store.changes + 8 ≤ MAX_CHANGES }
+        requires can { CanSolve (course_of self.old) (numbers ids.now) }
         requires left { IsBelow (base_view self.old.base).next_var (view left.now) }
         requires right { IsBelow (base_view self.old.base).next_var (view right.now) }
         requires goal { goal_view goal.now ≡ builtin_view op (view left.now) (view right.now) }
-        ensures ok { IfOk result (SolvesGoal (goal_view goal.now) self.old self.new) }
-        ensures err { OnErr result (Kept self.old self.new) }
-        ensures room { OnErr result (vec_len self.new.stack < vec_capacity self.new.stack) }
+        ensures ok { IfOk result (λ solved. SolvesGoal (goal_view goal.now) (course_of self.old) solved
+            (course_of self.new)) }
+        ensures err { OnErr result (course_of self.new ≡ course_of self.old) }
     {
         match kind_of(op) {
-            Kind::Tell => self.tell(goal, left, right),
-            Kind::Evaluate => self.evaluate(goal, left, right),
+            Kind::Tell => self.tell(goal, left, right, ids),
+            Kind::Evaluate => self.evaluate(goal, left, right, ids),
             Kind::Compare(comparison) => self.compare(goal, comparison, left, right),
         }
     }
 
-    /// The run ends with the goal that was taken off.
-    fn stop(&mut self, goal: Goal<A>, status: Status)
-        requires { vec_len self.old.stack < vec_capacity self.old.stack }
-        ensures top { stack_view self.new.stack.items
-            ≡ goal_element (goal_view goal) ∷ stack_view self.old.stack.items }
-        ensures status { self.new.status ≡ status }
-        ensures below { IsSameBelow self.old self.new }
-        ensures stack { 0 < vec_len self.new.stack }
-    {
-        self.stack.push_reserved(Elem::Goal(goal));
-        self.status = status;
-    }
-
-    /// What comes of the goal, which is a built-in.
-    fn attempt_goal(&mut self, goal: &Goal<A>) -> Result<Solved, Memory>
-        requires few { self.old.steps < MAX_TRANSITIONS }
-        requires ascends { Ascends 0 (base_view self.old.base).store.rows
-            (base_view self.old.base).store.next_id }
-        requires room { vec_len self.old.stack < vec_capacity self.old.stack }
-        requires changes { (base_view self.old.base).store.changes + 8 ≤ MAX_CHANGES }
-        requires below { IsGoalBelow (base_view self.old.base).next_var (goal_view goal.now) }
+    /// Solve: what comes of a built-in, where these constraints have variables still.
+    pub fn solve(&mut self, goal: &Goal<A>, ids: &[Id]) -> Result<Solved, Memory>
+        requires can { CanMove (course_of self.old) (goal_element (goal_view goal.now)) }
         requires built_in { IsBuiltIn (goal_view goal.now) }
-        ensures ok { IfOk result (SolvesGoal (goal_view goal.now) self.old self.new) }
-        ensures err { OnErr result (Kept self.old self.new) }
-        ensures room { OnErr result (vec_len self.new.stack < vec_capacity self.new.stack) }
+        requires ids { numbers ids.now ≡ woken (base_view self.old.base).store (base_view self.old.base).subst }
+        ensures ok { IfOk result (λ solved. SolvesGoal (goal_view goal.now) (course_of self.old) solved
+            (course_of self.new)) }
+        ensures err { OnErr result (course_of self.new ≡ course_of self.old) }
     {
         match goal {
             Goal::Chr(_, _) => unreachable!(),
-            Goal::Told(op, left, right) => self.attempt(goal, *op, left, right),
+            Goal::Told(op, left, right) => self.attempt(goal, *op, left, right, ids),
             Goal::Fail => self.end(goal, Status::Failed),
-        }
-    }
-
-    /// Solve: the goal is a built-in.
-    pub fn solve(&mut self, goal: Goal<A>) -> Result<(), Elem<A>>
-        requires few { self.old.steps < MAX_TRANSITIONS }
-        requires ascends { Ascends 0 (base_view self.old.base).store.rows
-            (base_view self.old.base).store.next_id }
-        requires room { vec_len self.old.stack < vec_capacity self.old.stack }
-        requires changes { (base_view self.old.base).store.changes + 8 ≤ MAX_CHANGES }
-        requires below { IsGoalBelow (base_view self.old.base).next_var (goal_view goal) }
-        requires built_in { IsBuiltIn (goal_view goal) }
-        ensures ok { OnOk result (Made (goal_element (goal_view goal)) self.old self.new) }
-        ensures err { IfErr result (λ top. elem_view top ≡ goal_element (goal_view goal)) }
-        ensures kept { OnErr result (Kept self.old self.new) }
-        ensures room { OnErr result (vec_len self.new.stack < vec_capacity self.new.stack) }
-    {
-        match self.attempt_goal(&goal) {
-            Err(_) => Err(Elem::Goal(goal)),
-            Ok(Solved::Holds) => Ok(()),
-            Ok(Solved::Ends(status)) => {
-                self.stop(goal, status);
-                Ok(())
-            }
         }
     }
 }

@@ -13,7 +13,7 @@ ghost use Rattle.chr_base.specs.BaseView.{program_of};
 ghost use Rattle.chr_machine.specs.Gathering.{gathered, waiting_view, with_task};
 ghost use Rattle.chr_machine.specs.Model.{model_of, state_in};
 
-use crate::state::Execution;
+use crate::execution::Execution;
 use chr_find::Task;
 use chr_rules::Goal;
 use chr_semantics::limits::{MAX_TASKS, MAX_WAITING_ELEMENTS};
@@ -87,7 +87,7 @@ fn put_task<A: Allocator>(tasks: &mut Vec<Task, A>, task: Task) -> Result<(), Me
 impl<'p, A: Allocator + Copy> Execution<'p, A> {
     /// Whether the occurrences of a symbol go on to that number.
     pub fn reaches(&self, sym: Sym, number: u32) -> bool
-        ensures cases { let last = length (occurrences (rules_of (program_of self.now.base)) sym.0) in
+        ensures cases { let last = length (occurrences (rules_of (program_of self.now.course.base)) sym.0) in
             MatchBool result (number ≤ last) (last < number) }
         ensures few { IsTrue result → number < 2 ^ 31 }
     {
@@ -97,7 +97,7 @@ impl<'p, A: Allocator + Copy> Execution<'p, A> {
     /// Appends the tasks of a constraint, as far as 64 do not stand there.
     fn put_tasks(&self, waiting: Waiting, tasks: &mut Vec<Task, A>) -> Result<(), Memory>
         ensures { OnOk result (tasks_view tasks.new.items ≡ gathered MAX_TASKS (tasks_view tasks.old.items)
-            (tasks_from (rules_of (program_of self.now.base)) waiting.sym.0 waiting.id.0 waiting.number)) }
+            (tasks_from (rules_of (program_of self.now.course.base)) waiting.sym.0 waiting.id.0 waiting.number)) }
     {
         let mut number = waiting.number;
         while tasks.len() < MAX_TASKS && self.reaches(waiting.sym, number) {
@@ -128,7 +128,7 @@ impl<'p, A: Allocator + Copy> Execution<'p, A> {
     /// Appends the tasks of the first eight elements that wait below the top.
     fn put_below(&self, below: &[Elem<A>], tasks: &mut Vec<Task, A>) -> Result<(), Memory>
         ensures { OnOk result (tasks_view tasks.new.items ≡ gathered MAX_TASKS (tasks_view tasks.old.items)
-            (below_top (rules_of (program_of self.now.base)) (state_in (model_of self.now)) (stack_view below.now))) }
+            (below_top (rules_of (program_of self.now.course.base)) (state_in (model_of self.now)) (stack_view below.now))) }
     {
         let mut left = below.len();
         let mut wanted = MAX_WAITING_ELEMENTS;
@@ -145,13 +145,13 @@ impl<'p, A: Allocator + Copy> Execution<'p, A> {
     /// Appends the tasks of the guest, under the next identity.
     fn put_guest(&self, below: &[Elem<A>], tasks: &mut Vec<Task, A>) -> Result<(), Memory>
         ensures { OnOk result (tasks_view tasks.new.items ≡ gathered MAX_TASKS (tasks_view tasks.old.items)
-            (guest_tasks (rules_of (program_of self.now.base)) (state_in (model_of self.now))
+            (guest_tasks (rules_of (program_of self.now.course.base)) (state_in (model_of self.now))
             (guest_in (stack_view below.now)))) }
     {
         match first_told(below) {
             None => Ok(()),
             Some((sym, _)) => {
-                let id = self.base.store().next();
+                let id = self.course.base.store().next();
                 self.put_tasks(Waiting { sym, id, number: 1 }, tasks)
             }
         }
@@ -159,12 +159,12 @@ impl<'p, A: Allocator + Copy> Execution<'p, A> {
 
     /// The tasks where a constraint is active on top.
     fn tasks_at(&self, active: Waiting, below: &[Elem<A>]) -> Result<Vec<Task, A>, Memory>
-        ensures { let p = rules_of (program_of self.now.base) in let s = state_in (model_of self.now) in
+        ensures { let p = rules_of (program_of self.now.course.base) in let s = state_in (model_of self.now) in
             IfOk result (λ list. tasks_view list.items ≡ gathered MAX_TASKS []
             (tasks_from p active.sym.0 active.id.0 active.number ++ below_top p s (stack_view below.now)
             ++ guest_tasks p s (guest_in (stack_view below.now)))) }
     {
-        let mut tasks = Vec::with_capacity(self.alloc, MAX_TASKS)?;
+        let mut tasks = Vec::with_capacity(self.course.alloc, MAX_TASKS)?;
         self.put_tasks(active, &mut tasks)?;
         self.put_below(below, &mut tasks)?;
         self.put_guest(below, &mut tasks)?;
@@ -174,10 +174,10 @@ impl<'p, A: Allocator + Copy> Execution<'p, A> {
     /// The tasks of the state.
     pub fn tasks(&self) -> Result<Vec<Task, A>, Memory>
         ensures { IfOk result (λ list. tasks_view list.items
-            ≡ tasks (rules_of (program_of self.now.base)) (state_in (model_of self.now))) }
+            ≡ tasks (rules_of (program_of self.now.course.base)) (state_in (model_of self.now))) }
     {
         match self.active_top() {
-            None => Ok(Vec::new(self.alloc)),
+            None => Ok(Vec::new(self.course.alloc)),
             Some((active, below)) => self.tasks_at(active, below),
         }
     }

@@ -86,7 +86,7 @@ fn follow<A: Allocator + Copy>(
     }
 }
 
-/// The same with a new machine.
+/// As `follow`, with a new machine.
 fn follow_over<A: Allocator + Copy>(
     rt: &impl Abort,
     lists: &Lists<A>,
@@ -100,7 +100,7 @@ fn follow_over<A: Allocator + Copy>(
     follow(rt, lists, &mut machine, script)
 }
 
-/// The same with the texts of a program and of a query.
+/// As `follow_over`, with the texts of a program and of a query.
 fn follow_anew<A: Allocator + Copy>(
     rt: &impl Abort,
     lists: &Lists<A>,

@@ -39,7 +39,7 @@ impl<K: Copy, V: Share, A: Allocator> Clone for Node<K, V, A> {
     }
 }
 
-/// The same tree again.
+/// The tree a second time, for a pointer.
 pub(crate) fn share_link<K: Drop, V: Drop, A: Allocator>(
     link: &Link<K, V, A>,
 ) -> Result<Link<K, V, A>, Memory>
@@ -59,7 +59,7 @@ pub(crate) fn size<K: Drop, V: Drop, A: Allocator>(link: &Link<K, V, A>) -> u64 
     }
 }
 
-/// Whether a tree of so many entries is too heavy beside one of so many others. Sizes wrap, which no tree in memory comes to.
+/// Whether a tree of `one` entries is too heavy beside a tree of `other` entries. Sizes wrap, which no tree in memory comes to.
 fn is_heavy(one: u64, other: u64) -> bool {
     one > other.wrapping_mul(3).wrapping_add(2)
 }

@@ -5,7 +5,7 @@ use crate::Memory;
 
 /// A value that can be had twice at the price of a pointer or two.
 pub trait Share: Drop {
-    /// The same value again.
+    /// The value a second time.
     fn share(&self) -> Result<Self, Memory>
         ensures { IfOk result (λ shared. shared ≡ self.now) };
 }

@@ -12,10 +12,10 @@ use Rattle.chr_semantics.specs.declared.limits.TheConstants.{MAX_TRANSITIONS}
 use Rattle.chr_machine.specs.MachineView.{Moves, Steps}
 use Rattle.chr_machine.specs.Model.{Model, state_in}
 use Rattle.chr_machine.specs.NeedView.{ended, need, need_by, plain, search_of}
-use Rattle.chr_machine.specs.declared.state.Stepped.{Stepped}
-use Rattle.chr_machine.specs.declared.state.Stepped.TheVariants.{Ended, Moved, Spent}
+use Rattle.chr_machine.specs.declared.stepped.Stepped.{Stepped}
+use Rattle.chr_machine.specs.declared.stepped.Stepped.TheVariants.{Ended, Moved, Spent}
 use Rattle.chr_core.specs.CoreView.{events_of, machine_in, progress_of, query_of, start_of, stepped_events}
-use Rattle.chr_core.specs.declared.speculation.Core.{Core}
+use Rattle.chr_core.specs.declared.run_core.Core.{Core}
 use Rattle.chr_core.proofs.Needs.{need_plain, need_search}
 use Rattle.chr_policy.specs.CoordinatorView.{IsAtRest, IsFullAt, events_by, machine_by, query_by}
 use Rattle.chr_policy.specs.Standing.{IsReady, Rests}

@@ -10,8 +10,8 @@ use Rattle.chr_semantics.specs.Schedule.{Event, Progress, Refusal, Took, arrive,
 use Rattle.chr_semantics.specs.State.{State}
 use Rattle.chr_semantics.specs.Step.{after}
 use Rattle.chr_semantics.specs.Tasks.{Task, needed_task}
-use Rattle.chr_rounds.specs.Replay.{or_later}
-use Rattle.chr_rounds.proofs.Replay.{replay_law}
+use Rattle.chr_laws.specs.Replay.{or_later}
+use Rattle.chr_laws.proofs.Replay.{replay_law}
 use Rattle.chr_policy.specs.Standing.{all_follow, stage_from, stage_of}
 use Rattle.std.specs.Prelude.{◌||◌, length}
 

@@ -28,7 +28,7 @@ pub record Keeps (p : Program) (q : State) (es : List Event) (stepped : Progress
   pub published_is : (stage_of p q es).published ≡ published
   pub missed_are : missed_places p q first_stage es ≡ missed
 
--- A run with so many workers, of which so many calls were refused, right after a Step, or at the start. Below the last round the refused
+-- A run with a number of workers, of which a number of calls were refused (`skipped`), right after a Step, or at the start. Below the last round the refused
 -- calls are the missed places; with no worker there are none.
 pub record Rests (p : Program) (q : State) (workers skipped : ℕ) (es : List Event) : Type 0 where
   pub missed : ℕ

@@ -23,7 +23,7 @@ const REFUSED: ReadError = ReadError {
     column: 0,
 };
 
-/// Whether `read_program` goes through with so many growths.
+/// Whether `read_program` goes through with `left` growths.
 ///
 /// For any allocator, here and below: proofs for the meter as the allocator would take much longer.
 fn is_program_read<M: Allocator + Copy>(
@@ -47,7 +47,7 @@ fn is_program_read<M: Allocator + Copy>(
     }
 }
 
-/// The same of `read_query`.
+/// As `is_program_read`, of `read_query`.
 fn is_query_read<M: Allocator + Copy>(
     rt: &impl Abort,
     alloc: M,

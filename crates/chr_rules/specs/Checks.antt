@@ -78,7 +78,7 @@ wrong_number_or_arrow earlier r =
 abbrev pub wrong_rule : List (List ℕ) → Program → syntax.Rule → List (Bool × semantics.RuleErrorKind)
 wrong_rule vars earlier r = wrong_parts vars earlier r ++ wrong_number_or_arrow earlier r
 
--- what is wrong with so many variables
+-- what is wrong with this number of variables
 abbrev pub too_many : ℕ → List (Bool × semantics.RuleErrorKind)
 too_many n = (nat_lt MAX_RULE_VARIABLES n, too_many_variables) ∷ []
 

@@ -20,7 +20,7 @@ use chr_read::{Item, QuerySyntax};
 use chr_term::{Memory, Names};
 use std::alloc::Allocator;
 
-/// A query over a program with these names, of which so many are the first seven or declared.
+/// A query over a program with these names, of which the first ones are the first seven and the declared.
 /// The names grow, unless the query has a mistake, which is found before a name is added.
 pub(crate) fn query<A: Allocator + Copy>(
     alloc: A,

@@ -61,7 +61,7 @@ pub(crate) fn atom<'s, A: Allocator + Copy>(
     Ok((sym, args))
 }
 
-/// The symbol of a name with so many arguments. `Memory` is also returned where the numbers of symbols are used up.
+/// The symbol of a name with its number of arguments. `Memory` is also returned where the numbers of symbols are used up.
 pub(crate) fn symbol<A: Allocator + Copy>(
     names: &mut Names<A>,
     name: &str,

@@ -46,7 +46,7 @@ fn is_p<A: Allocator>(goal: Option<&Goal<A>>, number: i128) -> bool {
     }
 }
 
-/// The first two goals of a query are p(1) and p(2), and there are so many, with so many variables.
+/// The first two goals of a query are p(1) and p(2), and it has this number of goals and of variables.
 fn assert_query<A: Allocator>(rt: &impl Abort, query: &Query<A>, goals: usize, vars: usize) {
     assert!(rt; is_p(query.goals.get(0), 1) && is_p(query.goals.get(1), 2));
     assert_eq!(rt; (query.goals.len(), query.var_names.len()), (goals, vars));

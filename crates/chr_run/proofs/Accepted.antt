@@ -3,21 +3,12 @@ use Rattle.std.proofs.Common.{ℕ, List, Option, Result, Ok, Err}
 use Rattle.chr_semantics.specs.Accepted.{IsAccepted}
 use Rattle.chr_semantics.specs.Names.{Names}
 use Rattle.chr_semantics.specs.Program.{Program as Rules, Query as Goals}
-use Rattle.chr_run.specs.Headline.{PastLimits}
 use Rattle.chr_run.specs.Run.{IsInto}
 use Rattle.chr_run.specs.Texts.{IsTextRun}
-use Rattle.chr_run.proofs.Parts.{keeps_same}
-use Rattle.chr_run.specs.declared.error.RunError.{RunError}
 use Rattle.chr_run.specs.declared.error.RunError.TheVariants.{BudgetTooLarge, TooManyWorkers, Memory}
 use Rattle.chr_run.specs.declared.error.TextError.{TextError}
 use Rattle.chr_run.specs.declared.error.TextError.TheVariants as error
 use Rattle.chr_run.specs.declared.result.Run.{Run}
-
--- the limits refuse it
-pub limits_refuse : (A : Type 0) (program query : List ℕ) (n workers : ℕ) (old : Option (List ℕ)) (e : RunError) → PastLimits n workers e → IsTextRun {A = A} program query n workers old old (Err (error.Run e))
-limits_refuse A program query n workers old BudgetTooLarge h = (h, keeps_same old)
-limits_refuse A program query n workers old TooManyWorkers h = (h, keeps_same old)
-limits_refuse A program query n workers old Memory h = absurd h
 
 -- the run of what is accepted is the run of the texts
 pub accepted_run : {A : Type 0} (program query : List ℕ) (names : Names) (rules : Rules) (q : Goals) (n workers : ℕ) (old new : Option (List ℕ)) (result : Result (Run A) TextError)

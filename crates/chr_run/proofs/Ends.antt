@@ -13,6 +13,7 @@ use Rattle.chr_machine.specs.Model.{Model, state_in}
 use Rattle.chr_trace.proofs.Bodies.{lines_text-append}
 use Rattle.chr_run.specs.Sending.{end_lines, rest_text}
 
+-- a state that has ended stays
 pub step_ended : (p : Program) (s : State) (w : Status) → w ≢ running → step_at p s w ≡ s
 step_ended p s running h = absurd (h refl)
 step_ended p s done h = refl
@@ -53,9 +54,11 @@ pub record Covers (p : Program) (s : State) (k n : ℕ) : Type 0 where
   pub state : after p s n ≡ after p s k
   pub lines : (names : Names) (vars : VarNames) → trace names vars p s 1 n ≡ trace names vars p s 1 k
 
+-- where they are n
 pub covers_same : (p : Program) (s : State) (k n : ℕ) → k ≡ n → Covers p s k n
 covers_same p s k n e = record { state = ap (after p s) (sym e); lines = λ names vars. ap (trace names vars p s 1) (sym e) }
 
+-- where the run has ended with them
 pub covers_ended : (p : Program) (s : State) (k n : ℕ) → k ≤ n → (after p s k).status ≢ running → Covers p s k n
 covers_ended p s k n within ended =
     let split : n ≡ k + (n - k) = omega arith in
@@ -75,6 +78,7 @@ pub record HasRun (names : Names) (p : Program) (q : Query) (k : ℕ) (m : Model
   pub rules_are : m.rules ≡ p
   pub var_names_are : m.var_names ≡ q.var_names
 
+-- a machine that has come k transitions further from its start
 pub has_run : (names : Names) (p : Program) (q : Query) (k : ℕ) (old new : Model) → Starts names p q old → Further k old new → HasRun names p q k new
 has_run names p q k old new at far = record {
   state = far.state_is ∙ λ i. after (at.rules_are i) (at.state_is i) k;
@@ -102,10 +106,11 @@ end_some names vars p s ls =
     let one : 0 < length (outcome names vars p s) = omega arith in
     lines_some (ls ++ outcome names vars p s) (omega (arith, sum, one))
 
--- nor is what a run ends with, or its whole text
+-- nor is what is left of a run with its end
 pub rest_some : (m : Model) (sent : ℕ) → 0 < length (rest_text m sent)
 rest_some m sent = end_some m.names m.var_names m.rules (state_in m) (drop sent m.lines)
 
+-- nor is its whole text
 pub text_some : (names : Names) (p : Program) (q : Query) (n : ℕ) → 0 < length (text names p q n)
 text_some names p q n = end_some names q.var_names p (after p (start q) n) (trace names q.var_names p (start q) 1 n)
 
@@ -115,6 +120,7 @@ pub record Begins (names : Names) (p : Program) (q : Query) (n : ℕ) (m : Model
   pub some : 0 < length rest
   pub whole : text names p q n ≡ lines_text m.lines ++ rest
 
+-- of n transitions after k of them
 pub begins : (names : Names) (p : Program) (q : Query) (k n : ℕ) (m : Model) → HasRun names p q k m → k ≤ n → Begins names p q n m
 begins names p q k n m ran within =
     let s = start q in
@@ -133,6 +139,7 @@ pub record IsWhole (names : Names) (p : Program) (q : Query) (n : ℕ) (m : Mode
   pub text_is : text names p q n ≡ lines_text (m.lines ++ end_lines m)
   pub status_is : m.status ≡ (after p (start q) n).status
 
+-- after n transitions, or as many as there are
 pub is_whole : (names : Names) (p : Program) (q : Query) (k n : ℕ) (m : Model) → HasRun names p q k m → k ≤ n → (k ≡ n) ⊎ (m.status ≢ running) → IsWhole names p q n m
 is_whole names p q k n m ran within all =
     let covers = covers_performed p (start q) k n m ran.state within all in

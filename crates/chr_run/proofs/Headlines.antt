@@ -1,8 +1,8 @@
 -- A run that went on so far, by the policy, is what its contract says.
-use Rattle.std.proofs.Common.{◌≡◌, ◌≢◌, ◌⊎◌, inl, inr, ◌∙◌, ◌+◌, ◌-◌, ◌≤◌, ℕ, zero, suc, Bool, List, cond, true, false, nat_lt, None, Some, ap, arith, refl, subst, sym}
+use Rattle.std.proofs.Common.{◌≡◌, ◌≢◌, ◌⊎◌, inl, inr, ◌∙◌, ◌+◌, ◌-◌, ◌≤◌, ℕ, zero, suc, List, cond, false, None, ap, arith, refl, subst, sym}
 use Rattle.chr_semantics.specs.Calls.{rise_by_calls}
 use Rattle.chr_semantics.specs.Names.{Names}
-use Rattle.chr_semantics.specs.Outcome.{budget_too_large, outcome_of, run_refusal, too_many_workers}
+use Rattle.chr_semantics.specs.Outcome.{outcome_of, run_refusal}
 use Rattle.chr_semantics.specs.Program.{Program, Query}
 use Rattle.chr_semantics.specs.Policy.{IsPolicy, IsTied}
 use Rattle.chr_semantics.specs.Schedule.{Counts, Event, counts, progress}
@@ -10,7 +10,6 @@ use Rattle.chr_semantics.specs.Stamps.{stamp}
 use Rattle.chr_semantics.specs.State.{State, Status, done, failed, faulted, running, start}
 use Rattle.chr_semantics.specs.Step.{after, is_running, steps}
 use Rattle.chr_semantics.proofs.Counts.{count-add}
-use Rattle.chr_semantics.specs.declared.limits.TheConstants.{MAX_TRANSITIONS, MAX_WORKERS}
 use Rattle.chr_shelf.specs.declared.run.Run.{Ghosts}
 use Rattle.chr_machine.specs.MachineView.{Starts}
 use Rattle.chr_core.specs.CoreView.{counts_view}
@@ -52,14 +51,6 @@ covers : (p : Program) (s : State) (k n : ℕ) → k ≤ n → (k ≡ n) ⊎ ((a
 covers p s k n within (inl e) = covers_same p s k n e
 covers p s k n within (inr ended) = covers_ended p s k n within ended
 
--- what the limits allow
-pub within_limit : (n workers : ℕ) → run_refusal n workers ≡ None → n ≤ MAX_TRANSITIONS
-within_limit n workers allowed = by (nat_lt MAX_TRANSITIONS n) refl allowed
-  where
-    by : (b : Bool) → nat_lt MAX_TRANSITIONS n ≡ b → cond b (Some budget_too_large) (cond (nat_lt MAX_WORKERS workers) (Some too_many_workers) None) ≡ None → n ≤ MAX_TRANSITIONS
-    by true e h = cc
-    by false e h = grind (arith, e)
-
 started : (names : Names) (p : Program) (q : Query) → Starts names p q (begun names p q)
 started names p q = record {
   names_are = refl;
@@ -82,12 +73,15 @@ module _ {J A : Type 0} {G : Ghosts J} (c : Coordinator J A G) where
   steps_are_made = let same = steps_are c.core in let made = c.core.at.run.made in sym same ∙ sym made ∙ ap (steps G.rules (start (query_by c))) same
 
   module _ (n : ℕ) (through : IsThrough n (machine_by c)) where
+    -- its rules
     abbrev pub p : Program
     p = G.rules
 
+    -- where it begins
     abbrev pub s : State
     s = start (query_by c)
 
+    -- how many Steps it has
     abbrev pub k : ℕ
     k = (progress p s (events_by c)).steps
 

@@ -1,7 +1,6 @@
 pub mod Parts
 pub mod Ends
 pub mod Sent
-pub mod Inputs
 pub mod Accepted
 pub mod ReplayTexts
 pub mod Headlines

@@ -1,32 +1,28 @@
 -- Bytes that go out in parts.
-use Rattle.std.proofs.Common.{◌≡◌, ◌<◌, ◌+◌, ◌∙◌, ℕ, ◌++◌, List, [], Option, Some, None, refl, ap, sym, map, drop, get_or, length, add-one, append-nil, append_assoc, arith, drop-cons, length-append}
-use Rattle.std.specs.Prelude.{Err, Ok, OnErr, Result}
+use Rattle.std.proofs.Common.{◌≡◌, ◌<◌, ◌+◌, ◌∙◌, ℕ, ◌++◌, List, [], Option, Some, None, refl, ap, sym, map, drop, get_or, length, add-one, append-nil, append_assoc, arith, drop-cons, length-append, subst}
+use Rattle.std.specs.Prelude.{Err, IsErrAnd, Ok, OnOk, Result}
 use Rattle.std.specs.Borrow.{Bor}
 use Rattle.std.specs.List.{concat}
 use Rattle.std.specs.Io.KnownBytes.{Appends, Keeps}
 use Rattle.chr_run.specs.Output.{AppendsLess, AppendsPart, IsOut}
 
+-- no bytes go out
 pub appends-none : (old : Option (List ℕ)) → Appends old old []
 appends-none None = tt
 appends-none (Some xs) = sym (append-nil xs)
 
+-- some bytes go out after others
 pub appends-both : (old mid new : Option (List ℕ)) (a b : List ℕ) → Appends old mid a → Appends mid new b → Appends old new (a ++ b)
 appends-both None mid new a b h k = tt
 appends-both (Some xs) None new a b h k = absurd h
 appends-both (Some xs) (Some ys) None a b h k = absurd k
 appends-both (Some xs) (Some ys) (Some zs) a b h k = k ∙ (ap (λ ws. ws ++ b) h ∙ append_assoc xs a b)
 
-appends-kept : (old mid new : Option (List ℕ)) (a : List ℕ) → Appends old mid a → Keeps mid new → Appends old new a
-appends-kept None mid new a h k = tt
-appends-kept (Some xs) None new a h k = absurd h
-appends-kept (Some xs) (Some ys) None a h k = absurd k
-appends-kept (Some xs) (Some ys) (Some zs) a h k = k ∙ h
-
 -- nothing is out yet
 pub out-none : (old : Option (List ℕ)) (bytes : List ℕ) → IsOut old old bytes bytes
 out-none old bytes = record { out = []; whole = refl; appends = appends-none old }
 
--- one more part
+-- one more part goes out
 pub out-more : (old mid new : Option (List ℕ)) (bytes rest front back : List ℕ) → IsOut old mid bytes rest → rest ≡ front ++ back → Appends mid new front → IsOut old new bytes back
 out-more old mid new bytes rest front back h split k = record {
   out = h.out ++ front;
@@ -34,31 +30,22 @@ out-more old mid new bytes rest front back h split k = record {
   appends = appends-both old mid new h.out front h.appends k;
 }
 
--- and where nothing more goes out
-pub out-kept : (old mid new : Option (List ℕ)) (bytes rest : List ℕ) → IsOut old mid bytes rest → Keeps mid new → IsOut old new bytes rest
-out-kept old mid new bytes rest h k = record { out = h.out; whole = h.whole; appends = appends-kept old mid new h.out h.appends k }
-
--- all is out where nothing is left
-pub out-all : (old new : Option (List ℕ)) (bytes rest : List ℕ) → IsOut old new bytes rest → rest ≡ [] → Appends old new bytes
-out-all old new bytes rest h none =
-    let all : bytes ≡ h.out = h.whole ∙ (ap (λ xs. h.out ++ xs) none ∙ append-nil h.out) in
-    rw all h.appends
-
 -- where nothing went out, the known bytes are as before
 pub keeps_same : (old : Option (List ℕ)) → Keeps old old
 keeps_same None = tt
 keeps_same (Some xs) = refl
 
--- what an error says, where it holds anyway
-pub on_err : {T E X : Type 0} (r : Result T E) → X → OnErr r X
-on_err (Ok t) x = tt
-on_err (Err e) x = x
+-- what holds of this error holds of an answer that is it
+pub answered : {T E : Type 0} (P : Result T E → Type 0) (r : Result T E) (e : E) → IsErrAnd r (λ x. x ≡ e) → P (Err e) → P r
+answered P (Ok t) e h p = absurd h
+answered {T} {E} P (Err x) e h p = subst (λ (y : E). P (Err y)) (sym h) p
 
--- nothing is a first part of all
-pub part_none : (old : Option (List ℕ)) (bytes : List ℕ) → AppendsPart old old bytes
-part_none old bytes = record { rest = bytes; is_out = out-none old bytes }
+-- what an answer says, where it follows from what it said
+pub on_ok : {T E X Y : Type 0} (r : Result T E) → (X → Y) → OnOk r X → OnOk r Y
+on_ok (Ok t) f x = f x
+on_ok (Err e) f x = tt
 
--- and where a first part of the next part goes out
+-- one more part, of which a first part goes out
 pub part-more : (old mid new : Option (List ℕ)) (bytes rest front back : List ℕ) → IsOut old mid bytes rest → rest ≡ front ++ back → AppendsPart mid new front → AppendsPart old new bytes
 part-more old mid new bytes rest front back h split p =
     let parts : rest ≡ p.is_out.out ++ (p.rest ++ back) = split ∙ (ap (λ xs. xs ++ back) p.is_out.whole ∙ append_assoc p.is_out.out p.rest back) in
@@ -95,10 +82,6 @@ less_back old mid new front back h p = record {
   is_out = out-more old mid new (front ++ back) back p.is_out.out p.rest (record { out = front; whole = refl; appends = h }) p.is_out.whole p.is_out.appends;
   left = p.left;
 }
-
--- all is a first part too
-pub part_all : (old new : Option (List ℕ)) (bytes : List ℕ) → Appends old new bytes → AppendsPart old new bytes
-part_all old new bytes h = record { rest = []; is_out = record { out = bytes; whole = sym (append-nil bytes); appends = h } }
 
 -- the texts from one on: it, and those after it
 pub texts_from : (ts : List (Bor (List ℕ))) (k : ℕ) (d : Bor (List ℕ)) → k < length ts

@@ -1,6 +1,5 @@
 -- The answers of a replay over two texts.
-use Rattle.std.proofs.Common.{◌≡◌, ◌++◌, ℕ, List, None, Option, Result, Ok, Err, ap, subst, sym}
-use Rattle.std.specs.Prelude.{IsErrAnd}
+use Rattle.std.proofs.Common.{◌≡◌, ◌++◌, ℕ, List, None, Option, Result, Ok, Err, ap, subst}
 use Rattle.chr_semantics.specs.Accepted.{IsAccepted}
 use Rattle.chr_semantics.specs.Names.{Names}
 use Rattle.chr_semantics.specs.Outcome.{Outcome, outcome_after}
@@ -10,9 +9,8 @@ use Rattle.chr_semantics.specs.ScheduleText.{read_schedule}
 use Rattle.chr_semantics.specs.State.{start}
 use Rattle.chr_semantics.specs.Text.{lines_text, outcome, text}
 use Rattle.chr_trace.specs.declared.state.Status.{Status}
-use Rattle.chr_core.specs.declared.error.ReplayError.{ReplayError}
 use Rattle.chr_core.specs.declared.error.ReplayError.TheVariants.{Memory, TooManyRounds, TooManySteps, UnknownRound, UnknownTask}
-use Rattle.chr_core.specs.declared.speculation.Counts.{Counts}
+use Rattle.chr_core.specs.declared.run_core.Counts.{Counts}
 use Rattle.chr_run.specs.Output.{AppendsLess}
 use Rattle.chr_run.specs.Replays.{IsReplayed, IsTextReplay, IsUnread, IsUnsent, replayed_text}
 use Rattle.chr_run.proofs.Parts.{keeps_same}
@@ -23,6 +21,7 @@ use Rattle.chr_run.specs.declared.error.TextError.TheVariants as error
 abbrev pub whole : Names → Rules → Outcome → List ℕ
 whole names p w = lines_text (w.lines ++ outcome names w.var_names p w.state)
 
+-- the text of a run's outcome is that of the run
 pub text_is : (names : Names) (p : Rules) (q : Goals) (n : ℕ) (w : Outcome) → w ≡ outcome_after names p q n → whole names p w ≡ text names p q n
 text_is names p q n w e = ap (whole names p) e
 
@@ -42,12 +41,8 @@ unsent names p q es bytes old new (error.Query e) allowed same h = absurd h
 unsent names p q es bytes old new (error.Goals e) allowed same h = absurd h
 unsent names p q es bytes old new (error.Schedule e) allowed same h = absurd h
 
--- an answer that is this error
-pub answered : {T E : Type 0} (P : Result T E → Type 0) (r : Result T E) (e : E) → IsErrAnd r (λ x. x ≡ e) → P (Err e) → P r
-answered P (Ok t) e h p = absurd h
-answered {T} {E} P (Err x) e h p = subst (λ (y : E). P (Err y)) (sym h) p
-
 module _ (program query : List ℕ) (names : Names) (rules : Rules) (q : Goals) (accepted : IsAccepted program query names rules q) (schedule : List ℕ) where
+  -- the texts are accepted, but the schedule is not read
   pub unread : (old : Option (List ℕ)) (e : TextError) → IsUnread schedule e → IsTextReplay program query schedule old old (Err e)
   unread old error.Write h = absurd h
   unread old (error.Run e) h = absurd h

@@ -1,25 +1,19 @@
 -- What is out of a run.
-use Rattle.std.proofs.Common.{◌≡◌, ◌≢◌, ◌⊎◌, inl, inr, ◌∙◌, ◌+◌, ◌-◌, ◌≤◌, ◌++◌, [], ℕ, List, Option, ap, append-nil, append_assoc, arith, drop, length, length-append, length-drop, map, refl, subst, sym, take}
-use Rattle.std.proofs.lemmas.Grind.{flat_map-append}
-use Rattle.std.proofs.lemmas.List.{drop-map, take-append-drop, take-append-le, take_all}
+use Rattle.std.proofs.Common.{◌≡◌, inr, ◌∙◌, ◌+◌, ◌-◌, ◌≤◌, ◌++◌, [], ℕ, List, Option, ap, append-nil, arith, drop, length, length-append, subst, sym, take}
+use Rattle.std.proofs.lemmas.List.{take-append-drop, take-append-le, take_all}
 use Rattle.std.specs.Io.KnownBytes.{Appends}
 use Rattle.chr_semantics.specs.Text.{lines_text}
 use Rattle.chr_machine.specs.Model.{Model}
-use Rattle.std.specs.Prelude.{IfErr, OnErr, OnOk, Result, Ok, Err, Vec}
+use Rattle.std.specs.Prelude.{OnErr, OnOk, Result, Ok, Err}
 use Rattle.chr_shelf.specs.declared.run.Run.{Ghosts}
 use Rattle.chr_policy.specs.CoordinatorView.{IsAtRest, machine_by}
 use Rattle.chr_policy.specs.declared.coordinator.Coordinator.{Coordinator}
 use Rattle.chr_run.specs.Output.{AppendsLess, AppendsPart, IsOut}
-use Rattle.chr_run.specs.Sending.{AreOut, IsCut, rest_text, whole_text}
-use Rattle.chr_run.specs.Turns.{IsOfRun, IsThrough, SendsTurns}
-use Rattle.chr_run.specs.declared.error.TextError.{TextError}
+use Rattle.chr_run.specs.Sending.{AreOut, rest_text, whole_text}
+use Rattle.chr_run.specs.Turns.{IsOfRun, IsThrough, Turns}
 use Rattle.chr_trace.proofs.Bodies.{lines_text-append}
 use Rattle.chr_run.proofs.Ends.{sent_and_rest}
-use Rattle.chr_run.proofs.Parts.{appends-both, appends-none, less_back, out-more, part-more}
-
--- nothing is out yet
-pub sent_none : (old : Option (List ℕ)) (lines : List (List ℕ)) → AreOut old old lines 0
-sent_none old lines = record { few = omega arith; appends = appends-none old }
+use Rattle.chr_run.proofs.Parts.{appends-both, less_back, part-more}
 
 split : (lines : List (List ℕ)) (sent : ℕ) → lines_text lines ≡ lines_text (take sent lines) ++ lines_text (drop sent lines)
 split lines sent = ap lines_text (sym (take-append-drop sent lines)) ∙ lines_text-append (take sent lines) (drop sent lines)
@@ -51,27 +45,45 @@ module _ (old mid new : Option (List ℕ)) (lines : List (List ℕ)) (sent : ℕ
       let same : take sent lines ≡ take sent others = sym (take-append-le sent lines more few) ∙ ap (take sent) (sym e) in
       record { few = longer; appends = subst (λ (ls : List (List ℕ)). Appends old mid (lines_text ls)) same h.appends }
 
--- the end goes out after the first lines
 module _ (old mid new : Option (List ℕ)) (m : Model) (sent : ℕ) (h : AreOut old mid m.lines sent) where
+  -- the end goes out after the first lines
   pub all_end : Appends mid new (rest_text m sent) → Appends old new (whole_text m)
   all_end k = subst (Appends old new) (sym (sent_and_rest m sent)) (appends-both old mid new (lines_text (take sent m.lines)) (rest_text m sent) h.appends k)
 
+  -- or a first part of it, and not all
   pub cut_end : AppendsLess mid new (rest_text m sent) → AppendsLess old new (whole_text m)
   cut_end p = subst (AppendsLess old new) (sym (sent_and_rest m sent)) (less_back old mid new (lines_text (take sent m.lines)) (rest_text m sent) h.appends p)
 
+-- a run is through, and its first lines are out
+pub record IsDone {J A : Type 0} {G : Ghosts J} (n : ℕ) (old : Coordinator J A G) (before : Option (List ℕ)) (k : Coordinator J A G) (mid : Option (List ℕ)) (sent : ℕ) : Type 0 where
+  pub same : IsOfRun old k
+  pub through : IsThrough n (machine_by k)
+  pub rests : IsAtRest k
+  pub out : AreOut before mid (machine_by k).lines sent
+
+-- it is so where the run, the outlet and the count are equal
+pub done_same : {J A X : Type 0} {G : Ghosts J} (known : X → Option (List ℕ)) (n : ℕ) (old : Coordinator J A G) (before : Option (List ℕ)) (k k' : Coordinator J A G) (x x' : X) (sent sent' : ℕ)
+    → k ≡ k' → x ≡ x' → sent ≡ sent' → IsDone n old before k' (known x') sent' → IsDone n old before k (known x) sent
+done_same {J} {A} {X} {G} known n old before k k' x x' sent sent' e f h done =
+    subst (λ (j : Coordinator J A G). IsDone n old before j (known x) sent) (sym e)
+    (subst (λ (y : X). IsDone n old before k' (known y) sent) (sym f)
+    (subst (λ (s : ℕ). IsDone n old before k' (known x') s) (sym h) done))
+
 -- a run that is through goes out to its end, or a first part of it
-pub ends : {J A : Type 0} {G : Ghosts J} (n : ℕ) (old k : Coordinator J A G) (before mid after : Option (List ℕ)) (sent : ℕ) (r : Result (Unit {0}) TextError)
+pub ends : {J A E : Type 0} {G : Ghosts J} (n : ℕ) (old k : Coordinator J A G) (before mid after : Option (List ℕ)) (sent : ℕ) (r : Result (Unit {0}) E)
     → IsOfRun old k → IsThrough n (machine_by k) → IsAtRest k → AreOut before mid (machine_by k).lines sent
-    → OnOk r (Appends mid after (rest_text (machine_by k) sent)) → OnErr r (AppendsLess mid after (rest_text (machine_by k) sent)) → IfErr r IsCut → SendsTurns n old k before after r
-ends n old k before mid after sent (Ok u) same through rests out text part cut = record {
-  turns = record { same = same; through = through; rests = rests };
+    → OnOk r (Appends mid after (rest_text (machine_by k) sent)) → OnErr r (AppendsLess mid after (rest_text (machine_by k) sent)) → Turns n old k before after r
+ends n old k before mid after sent (Ok u) same through rests out text part = record {
+  same = same;
+  through = through;
+  rests = rests;
   text = all_end before mid after (machine_by k) sent out text;
-  cut = tt;
   part = tt;
 }
-ends n old k before mid after sent (Err e) same through rests out text part cut = record {
-  turns = record { same = same; through = tt; rests = tt };
+ends n old k before mid after sent (Err e) same through rests out text part = record {
+  same = same;
+  through = tt;
+  rests = tt;
   text = tt;
-  cut = cut;
   part = inr (through, cut_end before mid after (machine_by k) sent out part);
 }

@@ -5,11 +5,11 @@ use Rattle.std.specs.Io.KnownBytes.{Appends, Keeps}
 use Rattle.std.specs.declared.alloc.Global.{Global}
 use Rattle.chr_trace.specs.declared.state.Status.{Status}
 use Rattle.chr_core.specs.CoreView.{counts_view}
-use Rattle.chr_core.specs.declared.speculation.Counts.{Counts}
+use Rattle.chr_core.specs.declared.run_core.Counts.{Counts}
 use Rattle.chr_words.specs.Words.{Asks, Values, run, help, refused, asks_of, number_of}
 use Rattle.chr_run.specs.Output.{AppendsLess, AppendsPart}
 use Rattle.chr_run.specs.Replays.{IsTextReplay}
-use Rattle.chr_run.specs.Reports.{Asked, Follows, budget_of, counts_text, is_silent, refusal_text, status_code, unread_text, workers_of}
+use Rattle.chr_run.specs.Reports.{Follows, Options, budget_of, counts_text, is_silent, refusal_text, status_code, unread_text, workers_of}
 use Rattle.chr_run.specs.Texts.{IsTextRun}
 use Rattle.chr_run.specs.declared.error.RunError.TheVariants.{Memory}
 use Rattle.chr_run.specs.declared.error.TextError.{TextError}
@@ -34,6 +34,7 @@ pub record Effect : Type 0 where
   pub error_after : Option (List ℕ)
   pub code : ℕ
 
+-- what it does, by these
 abbrev pub effect : Option (List ℕ) → Option (List ℕ) → Option (List ℕ) → Option (List ℕ) → ℕ → Effect
 effect output output' error error' code = record {
   output_before = output;
@@ -50,25 +51,25 @@ pub record Refuses (line : List ℕ) (e : Effect) : Type 0 where
   pub says : AppendsPart e.error_before e.error_after line
 
 -- what follows an answer
-abbrev pub Ends : (List ℕ → List ℕ → Type 0) → Asked → Result (Run Global) TextError → Effect → Type 0
+abbrev pub Ends : (List ℕ → List ℕ → Type 0) → Options → Result (Run Global) TextError → Effect → Type 0
 Ends written a (Ok made) e = Follows written a made e.error_before e.error_after e.code
 Ends written a (Err refusal) e = (e.code ≡ 2) × AppendsPart e.error_before e.error_after (refusal_text refusal)
 
 module _ (written : List ℕ → List ℕ → Type 0) where
   -- the run of a program and a query, and what follows it
-  pub record RunsTexts (program query : List ℕ) (a : Asked) (e : Effect) : Type 0 where
+  pub record RunsTexts (program query : List ℕ) (a : Options) (e : Effect) : Type 0 where
     pub result : Result (Run Global) TextError
     pub is_run : IsTextRun program query (budget_of a) (workers_of a) e.output_before e.output_after result
     pub ends : Ends written a result e
 
   -- the run of the bytes, as far as these are known: their first line is a query, and what stands after it a program
-  pub record RunsInput (known : Option (List ℕ)) (a : Asked) (e : Effect) : Type 0 where
+  pub record RunsInput (known : Option (List ℕ)) (a : Options) (e : Effect) : Type 0 where
     pub bytes : List ℕ
     pub is_known : IfSome known (λ whole. bytes ≡ whole)
     pub runs : RunsTexts (after_line bytes) (first_line bytes) a e
 
   -- the run of the program in a file, as far as its bytes are known, and of this query
-  pub record RunsFile (known : Option (List ℕ)) (query : List ℕ) (a : Asked) (e : Effect) : Type 0 where
+  pub record RunsFile (known : Option (List ℕ)) (query : List ℕ) (a : Options) (e : Effect) : Type 0 where
     pub bytes : List ℕ
     pub is_known : IfSome known (λ whole. bytes ≡ whole)
     pub runs : RunsTexts bytes query a e
@@ -79,7 +80,7 @@ Shows text e = ((e.code ≡ 0) × Appends e.output_before e.output_after text ×
     ⊎ ((e.code ≡ 2) × AppendsLess e.output_before e.output_after text × AppendsPart e.error_before e.error_after (refusal_text error.Write))
 
 -- the run that is asked for, by its program, its query and what else is said of it, or why there is none
-abbrev pub RunsWords : (List ℕ → List ℕ → Type 0) → Option (List ℕ) → Option (List ℕ) → Asked → (List ℕ → Option (List ℕ)) → Option (List ℕ) → Effect → Type 0
+abbrev pub RunsWords : (List ℕ → List ℕ → Type 0) → Option (List ℕ) → Option (List ℕ) → Options → (List ℕ → Option (List ℕ)) → Option (List ℕ) → Effect → Type 0
 RunsWords written None query a files input e = RunsInput written input a e ⊎ Refuses (codes "chr: cannot read\n") e
 RunsWords written (Some path) None a files input e = Refuses (codes "chr: QUERY is missing\n") e
 RunsWords written (Some path) (Some query) a files input e = RunsFile written (files path) query a e ⊎ Refuses (unread_text path) e
@@ -124,17 +125,17 @@ ReplaysWords (Some program) (Some query) true schedule files e = ReplaysFiles fi
 ReplaysWords _ _ _ schedule files e = Refuses (codes "chr: --replay stands alone\n") e
 
 -- a run, or the replay of a schedule where one is named
-abbrev pub DoesWords : (List ℕ → List ℕ → Type 0) → Option (List ℕ) → Option (List ℕ) → Asked → Option (List ℕ) → (List ℕ → Option (List ℕ)) → Option (List ℕ) → Effect → Type 0
+abbrev pub DoesWords : (List ℕ → List ℕ → Type 0) → Option (List ℕ) → Option (List ℕ) → Options → Option (List ℕ) → (List ℕ → Option (List ℕ)) → Option (List ℕ) → Effect → Type 0
 DoesWords written program query a None files input e = RunsWords written program query a files input e
 DoesWords written program query a (Some schedule) files input e = ReplaysWords program query (is_silent a) schedule files e
 
 -- what the words ask of a run
-abbrev pub asked_in : Values → Asked
-asked_in v = record { budget = option_map number_of v.budget; workers = option_map number_of v.workers; recorded = v.recorded; totals = v.totals }
+abbrev pub options_in : Values → Options
+options_in v = record { budget = option_map number_of v.budget; workers = option_map number_of v.workers; recorded = v.recorded; totals = v.totals }
 
 -- what is done where this is asked for; the texts of help and of what is wrong with words are those of `clap`
 abbrev pub DoesAsked : (List ℕ → List ℕ → Type 0) → Asks → (List ℕ → Option (List ℕ)) → Option (List ℕ) → Effect → Type 0
-DoesAsked written (run words) files input e = DoesWords written words.program words.query (asked_in words.values) words.values.replay files input e
+DoesAsked written (run words) files input e = DoesWords written words.program words.query (options_in words.values) words.values.replay files input e
 DoesAsked written help files input e = (text : List ℕ) × Shows text e
 DoesAsked written refused files input e = (text : List ℕ) × Refuses text e
 

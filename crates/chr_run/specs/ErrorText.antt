@@ -10,11 +10,13 @@ use Rattle.chr_run.specs.declared.error.RunError.TheVariants.{BudgetTooLarge, To
 use Rattle.chr_run.specs.declared.error.TextError.{TextError}
 use Rattle.chr_run.specs.declared.error.TextError.TheVariants.{Run, Program, Rules, Query, Goals, Schedule, Replay, Write}
 
+-- the name of a refusal
 abbrev pub run_error_text : RunError → List ℕ
 run_error_text BudgetTooLarge = codes "BudgetTooLarge"
 run_error_text TooManyWorkers = codes "TooManyWorkers"
 run_error_text Memory = codes "Memory"
 
+-- how the program says an error
 abbrev pub text_error_text : TextError → List ℕ
 text_error_text (Run e) = run_error_text e
 text_error_text (Program e) = codes "program " ++ read_error_text e

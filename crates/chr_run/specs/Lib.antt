@@ -8,3 +8,5 @@ pub mod Replays
 pub mod Reports
 pub mod Command
 pub mod Turns
+pub mod Jobs
+pub mod Sources

@@ -16,7 +16,7 @@ use Rattle.chr_trace.specs.declared.state.Status.{Status}
 use Rattle.chr_core.specs.CoreView.{counts_view}
 use Rattle.chr_core.specs.Replaying.{IsRefusal}
 use Rattle.chr_core.specs.declared.error.ReplayError.TheVariants.{Memory}
-use Rattle.chr_core.specs.declared.speculation.Counts.{Counts}
+use Rattle.chr_core.specs.declared.run_core.Counts.{Counts}
 use Rattle.chr_run.specs.Output.{AppendsLess}
 use Rattle.chr_run.specs.Texts.{IsTextError}
 use Rattle.chr_run.specs.declared.error.TextError.{TextError}

@@ -2,7 +2,7 @@
 use Rattle.std.specs.Prelude.{◌≡◌, ◌⊎◌, ◌++◌, ◌||◌, ℕ, Bool, true, false, not, List, [], ◌∷◌, codes, Option, Some, None, is_some, option_map, unwrap_or}
 use Rattle.std.specs.Fmt.{decimal}
 use Rattle.std.specs.List.{concat}
-use Rattle.std.specs.Io.KnownBytes.{Appends, Keeps}
+use Rattle.std.specs.Io.KnownBytes.{Appends}
 use Rattle.chr_semantics.specs.Schedule as schedule
 use Rattle.chr_semantics.specs.ScheduleText.{schedule_text}
 use Rattle.chr_schedule.specs.EventView.{events_view}
@@ -12,7 +12,7 @@ use Rattle.chr_board.specs.declared.totals.Totals.{Totals}
 use Rattle.chr_core.specs.CoreView.{counts_view}
 use Rattle.chr_run.specs.ErrorText.{text_error_text}
 use Rattle.chr_run.specs.Output.{AppendsPart}
-use Rattle.chr_run.specs.declared.command_line.reporting.Asked as declared
+use Rattle.chr_run.specs.declared.command_line.reporting.Options as declared
 use Rattle.chr_run.specs.declared.error.RunError.TheVariants.{Memory}
 use Rattle.chr_run.specs.declared.error.TextError.{TextError}
 use Rattle.chr_run.specs.declared.error.TextError.TheVariants as error
@@ -49,25 +49,26 @@ status_code Failed = 3
 status_code (Faulted f) = 4
 
 -- what is asked of a run beside its program and its query
-pub record Asked : Type 0 where
+pub record Options : Type 0 where
   pub budget : Option ℕ
   pub workers : Option ℕ
   pub recorded : Option (List ℕ)
   pub totals : Bool
 
-abbrev pub asked_view : declared.Asked → Asked
-asked_view a = record { budget = a.budget; workers = a.workers; recorded = option_map (λ t. t.now) a.record_path; totals = a.totals }
+-- the same of the code's type
+abbrev pub options_view : declared.Options → Options
+options_view a = record { budget = a.budget; workers = a.workers; recorded = option_map (λ t. t.now) a.record_path; totals = a.totals }
 
 -- nothing is asked of it
-abbrev pub is_silent : Asked → Bool
+abbrev pub is_silent : Options → Bool
 is_silent a = not (is_some a.budget || (is_some a.workers || (is_some a.recorded || a.totals)))
 
 -- the budget, or 100,000 where none is said
-abbrev pub budget_of : Asked → ℕ
+abbrev pub budget_of : Options → ℕ
 budget_of a = unwrap_or a.budget 100000
 
 -- the workers, or none
-abbrev pub workers_of : Asked → ℕ
+abbrev pub workers_of : Options → ℕ
 workers_of a = unwrap_or a.workers 0
 
 -- these bytes were written to the file of this path
@@ -88,7 +89,7 @@ module _ {A : Type 0} where
   Said true run before after = AppendsPart before after (counts_text (counts_view run.counts) ++ totals_text run.totals)
 
   -- what follows a run: its schedule is recorded where that is asked for, and then its numbers are said, or the record fails
-  abbrev pub Follows : (List ℕ → List ℕ → Type 0) → Asked → Run A → Option (List ℕ) → Option (List ℕ) → ℕ → Type 0
+  abbrev pub Follows : (List ℕ → List ℕ → Type 0) → Options → Run A → Option (List ℕ) → Option (List ℕ) → ℕ → Type 0
   Follows written a run before after code =
       (Records written a.recorded (events_view run.schedule.items) before before true × Said a.totals run before after × (code ≡ status_code run.outcome.status))
       ⊎ (Records written a.recorded (events_view run.schedule.items) before after false × (code ≡ 2))

@@ -14,8 +14,13 @@ use Rattle.chr_run.specs.declared.error.TextError.TheVariants as error
 use Rattle.chr_run.specs.declared.result.Run.{Run}
 
 module _ {A : Type 0} (names : Names) (p : Program) (q : Query) (n workers : ℕ) (old new : Option (List ℕ)) where
-  -- What an answer of a run of n transitions says of the bytes that the writer tells: all of its text is out, or a first part of it, and not
-  -- all, after Write and want of memory.
+  -- What an answer of a run of n transitions says of the bytes that the outlet tells: all of its text is out, or else a first part of it, and
+  -- not all.
+  abbrev pub GoesOut : {E : Type 0} → Result (Run A) E → Type 0
+  GoesOut (Ok run) = Appends old new (text names p q n) × IsRun names p q n workers run
+  GoesOut (Err e) = AppendsLess old new (text names p q n)
+
+  -- the same where the error is Write or want of memory
   abbrev pub Sends : Result (Run A) TextError → Type 0
   Sends (Ok run) = Appends old new (text names p q n) × IsRun names p q n workers run
   Sends (Err e) = IsCut e × AppendsLess old new (text names p q n)

@@ -1,5 +1,5 @@
 -- How far a run with workers has come.
-use Rattle.std.specs.Prelude.{◌≡◌, ◌≢◌, ◌⊎◌, ℕ, ◌≤◌, List, Option, Result, IfErr, OnErr, OnOk}
+use Rattle.std.specs.Prelude.{◌≡◌, ◌≢◌, ◌⊎◌, ℕ, ◌≤◌, List, Option, Result, OnErr, OnOk}
 use Rattle.std.specs.Io.KnownBytes.{Appends}
 use Rattle.chr_semantics.specs.State.{running}
 use Rattle.chr_semantics.specs.Text.{lines_text}
@@ -8,8 +8,7 @@ use Rattle.chr_machine.specs.Model.{Model}
 use Rattle.chr_policy.specs.CoordinatorView.{IsAtRest, machine_by, names_by, query_by, workers_by}
 use Rattle.chr_policy.specs.declared.coordinator.Coordinator.{Coordinator}
 use Rattle.chr_run.specs.Output.{AppendsLess, AppendsPart}
-use Rattle.chr_run.specs.Sending.{IsCut, whole_text}
-use Rattle.chr_run.specs.declared.error.TextError.{TextError}
+use Rattle.chr_run.specs.Sending.{whole_text}
 
 -- n transitions were made, or as many as there are
 pub record IsThrough (n : ℕ) (m : Model) : Type 0 where
@@ -27,15 +26,10 @@ module _ {J A : Type 0} {G : Ghosts J} where
     pub query_is : query_by new ≡ query_by old
     pub workers_are : workers_by new ≡ workers_by old
 
-  -- where nothing is refused, the run is through with n transitions
-  pub record Turns {X E : Type 0} (n : ℕ) (old new : Coordinator J A G) (r : Result X E) : Type 0 where
+  -- where nothing is refused, the run is through with n transitions, and its text is out; else a first part of it, and not all
+  pub record Turns {E : Type 0} (n : ℕ) (old new : Coordinator J A G) (before after : Option (List ℕ)) (r : Result (Unit {0}) E) : Type 0 where
     pub same : IsOfRun old new
     pub through : OnOk r (IsThrough n (machine_by new))
     pub rests : OnOk r (IsAtRest new)
-
-  -- and its text is out, or a first part of it
-  pub record SendsTurns (n : ℕ) (old new : Coordinator J A G) (before after : Option (List ℕ)) (r : Result (Unit {0}) TextError) : Type 0 where
-    pub turns : Turns n old new r
     pub text : OnOk r (Appends before after (whole_text (machine_by new)))
-    pub cut : IfErr r IsCut
     pub part : OnErr r (IsPart n (machine_by new) before after)

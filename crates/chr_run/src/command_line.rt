@@ -1,21 +1,25 @@
 //! The program `chr`: what it reads, what it writes, and its exit status.
-ghost use Rattle.std.specs.Prelude.{◌≡◌, ◌⊎◌, codes, map, option_map};
+ghost use Rattle.std.specs.Prelude.{◌≡◌, map, option_map};
 ghost use Rattle.std.specs.String.{string_bytes};
-ghost use Rattle.chr_run.specs.Command.{DoesWords, IsCommand, Refuses, RunsFile, RunsInput, RunsTexts, RunsWords, Shows, after_line, effect, first_line};
-ghost use Rattle.chr_run.specs.Reports.{IsWritten, asked_view, status_code, unread_text};
+ghost use Rattle.chr_run.specs.Command.{IsCommand, RunsWords, Shows, effect};
+ghost use Rattle.chr_run.specs.Output.{AppendsPart};
+ghost use Rattle.chr_run.specs.Reports.{IsWritten, options_view, refusal_text, status_code};
 
 mod replaying;
 mod reporting;
+mod source;
+mod streams;
 
 use self::replaying::replay_words;
-use self::reporting::{Asked, report};
+use self::reporting::{Options, report};
+use self::source::{read_source, say_missing};
+use self::streams::Streams;
 use crate::error::{RunError, TextError};
 use crate::output::write_bytes;
-use crate::refusal::{say, say_refusal, say_unread};
+use crate::refusal::{say, say_refusal};
 use crate::runs::run_text;
 use chr_machine::Status;
-use chr_words::files::read_all;
-use chr_words::{Creates, Opens, Request, asked, read_file};
+use chr_words::{Creates, Opens, Request, asked};
 use std::alloc::Global;
 use std::io::{Read, Write};
 use std::sync::Wait;
@@ -26,19 +30,6 @@ const BUDGET: u64 = 100_000;
 
 /// The exit status where there is no run.
 const REFUSED: u8 = 2;
-
-/// The first line, without its line feed, and what stands after that.
-fn split(text: &[u8]) -> (&[u8], &[u8])
-    ensures line { result.0.now ≡ first_line text.now }
-    ensures rest { result.1.now ≡ after_line text.now }
-{
-    for k in 0..text.len() {
-        if text[k] == b'\n' {
-            return (&text[..k], &text[k + 1..]);
-        }
-    }
-    (text, &[])
-}
 
 /// The exit status of a run.
 fn status_code(status: Status) -> u8
@@ -52,144 +43,50 @@ fn status_code(status: Status) -> u8
     }
 }
 
-/// Writes the text of the run of a program and a query, and does what follows it; or says why there is none.
-fn run_texts<R: Threads + Wait + Sync, O: Creates, W: Write, E: Write>(
-    rt: &R,
-    alloc: Global,
-    program: &[u8],
-    query: &[u8],
-    asked: Asked<'_>,
-    files: &O,
-    output: &mut W,
-    error: &mut E,
-) -> u8
-    ensures { RunsTexts (IsWritten (O.fresh files.now) O.Sink.contents) program.now query.now (asked_view asked.entry)
-        (effect (W.contents output.old) (W.contents output.new)
-        (E.contents error.old) (E.contents error.new) result) }
+/// Says why there is no run, as far as it can be written. The answer is the exit status.
+fn refuse<E: Write>(error: &mut E, refusal: TextError) -> u8
+    ensures code { result ≡ 2 }
+    ensures says { AppendsPart (E.contents error.old) (E.contents error.new) (refusal_text refusal) }
 {
-    let budget = asked.budget.unwrap_or(BUDGET);
-    let workers = asked.workers.unwrap_or(0);
-    match run_text(rt, alloc, program, query, budget, workers, output) {
-        Ok(run) => report(alloc, files, &run, asked, error),
-        Err(refusal) => {
-            say_refusal(error, refusal);
-            REFUSED
-        }
-    }
+    say_refusal(error, refusal);
+    REFUSED
 }
 
-/// The run of what the input has: a query in its first line, and a program after it.
-fn run_input<R: Threads + Wait + Sync, O: Creates, I: Read, W: Write, E: Write>(
-    rt: &R,
-    alloc: Global,
-    asked: Asked<'_>,
-    files: &O,
-    input: &mut I,
-    output: &mut W,
-    error: &mut E,
-) -> u8
-    ensures { let done = effect (W.contents output.old) (W.contents output.new)
-        (E.contents error.old) (E.contents error.new) result in
-        RunsInput (IsWritten (O.fresh files.now) O.Sink.contents) (I.remaining input.old) (asked_view asked.entry) done ⊎ Refuses (codes "chr: cannot read\n") done }
-{
-    match read_all(alloc, input) {
-        Some(text) => {
-            let (query, program) = split(text.as_slice());
-            run_texts(rt, alloc, program, query, asked, files, output, error)
-        }
-        None => {
-            say(error, &["chr: cannot read\n"]);
-            REFUSED
-        }
-    }
-}
-
-/// The run of the program in a file.
-fn run_file<R: Threads + Wait + Sync, O: Opens + Creates, W: Write, E: Write>(
-    rt: &R,
-    alloc: Global,
-    files: &O,
-    path: &str,
-    query: &str,
-    asked: Asked<'_>,
-    output: &mut W,
-    error: &mut E,
-) -> u8
-    ensures { let done = effect (W.contents output.old) (W.contents output.new)
-        (E.contents error.old) (E.contents error.new) result in
-        RunsFile (IsWritten (O.fresh files.now) O.Sink.contents) (O.bytes_of files.now path.now) query.now (asked_view asked.entry) done
-        ⊎ Refuses (unread_text path.now) done }
-{
-    match read_file(alloc, files, path) {
-        Some(program) => run_texts(
-            rt,
-            alloc,
-            program.as_slice(),
-            query.as_bytes(),
-            asked,
-            files,
-            output,
-            error,
-        ),
-        None => {
-            say_unread(error, path);
-            REFUSED
-        }
-    }
-}
-
-/// The run that the words ask for.
+/// The run that the words ask for, and what follows it; or why there is none.
 fn run_words<R: Threads + Wait + Sync, O: Opens + Creates, I: Read, W: Write, E: Write>(
     rt: &R,
     alloc: Global,
     program: Option<&str>,
     query: Option<&str>,
-    asked: Asked<'_>,
-    files: &O,
-    input: &mut I,
-    output: &mut W,
-    error: &mut E,
+    options: Options<'_>,
+    streams: Streams<'_, W, E, I, O>,
 ) -> u8
-    ensures { RunsWords (IsWritten (O.fresh files.now) O.Sink.contents) (option_map (λ t. t.now) program.entry)
-        (option_map (λ t. t.now) query.entry) (asked_view asked.entry) (O.bytes_of files.now) (I.remaining input.old)
-        (effect (W.contents output.old) (W.contents output.new)
-        (E.contents error.old) (E.contents error.new) result) }
+    ensures { RunsWords (IsWritten (O.fresh streams.entry.files.now) O.Sink.contents) (option_map (λ t. t.now) program.entry)
+        (option_map (λ t. t.now) query.entry) (options_view options.entry)
+        (O.bytes_of streams.entry.files.now) (I.remaining streams.entry.input.now)
+        (effect (W.contents streams.entry.output.now) (W.contents streams.exit.0.now)
+        (E.contents streams.entry.error.now) (E.contents streams.exit.1.0.now) result) }
 {
-    match (program, query) {
-        (None, _) => run_input(rt, alloc, asked, files, input, output, error),
-        (Some(_), None) => {
-            say(error, &["chr: QUERY is missing\n"]);
+    let Streams {
+        output,
+        error,
+        input,
+        files,
+    } = streams;
+    match read_source(alloc, program, query, files, input) {
+        Err(missing) => {
+            say_missing(error, missing);
             REFUSED
         }
-        (Some(path), Some(query)) => run_file(rt, alloc, files, path, query, asked, output, error),
-    }
-}
-
-/// The run, or the replay, that the words ask for.
-fn do_words<R: Threads + Wait + Sync, O: Opens + Creates, I: Read, W: Write, E: Write>(
-    rt: &R,
-    alloc: Global,
-    program: Option<&str>,
-    query: Option<&str>,
-    asked: Asked<'_>,
-    replay: Option<&str>,
-    files: &O,
-    input: &mut I,
-    output: &mut W,
-    error: &mut E,
-) -> u8
-    ensures { DoesWords (IsWritten (O.fresh files.now) O.Sink.contents) (option_map (λ t. t.now) program.entry)
-        (option_map (λ t. t.now) query.entry) (asked_view asked.entry) (option_map (λ t. t.now) replay.entry) (O.bytes_of files.now) (I.remaining input.old)
-        (effect (W.contents output.old) (W.contents output.new)
-        (E.contents error.old) (E.contents error.new) result) }
-{
-    match replay {
-        None => run_words(
-            rt, alloc, program, query, asked, files, input, output, error,
-        ),
-        Some(schedule) => replay_words(
-            rt, alloc, program, query, asked, schedule, files, output, error,
-        ),
+        Ok(source) => {
+            let (query, program) = source.texts();
+            let budget = options.budget.unwrap_or(BUDGET);
+            let workers = options.workers.unwrap_or(0);
+            match run_text(rt, alloc, program, query, budget, workers, output) {
+                Ok(run) => report(alloc, files, &run, options, error),
+                Err(refusal) => refuse(error, refusal),
+            }
+        }
     }
 }
 
@@ -200,10 +97,7 @@ fn show<W: Write, E: Write>(text: &str, output: &mut W, error: &mut E) -> u8
 {
     match write_bytes(output, text.as_bytes()) {
         Ok(()) => 0,
-        Err(_) => {
-            say_refusal(error, TextError::Write);
-            REFUSED
-        }
+        Err(_) => refuse(error, TextError::Write),
     }
 }
 
@@ -239,24 +133,30 @@ pub fn command<R: Threads + Wait + Sync, O: Opens + Creates, I: Read, W: Write, 
                 totals,
             },
         ) => {
-            let asked = Asked {
+            let options = Options {
                 budget,
                 workers,
                 record_path: record,
                 totals,
             };
-            do_words(
-                rt, alloc, program, query, asked, replay, files, input, output, error,
-            )
+            let streams = Streams {
+                output,
+                error,
+                input,
+                files,
+            };
+            match replay {
+                None => run_words(rt, alloc, program, query, options, streams),
+                Some(schedule) => {
+                    replay_words(rt, alloc, program, query, options, schedule, streams)
+                }
+            }
         }
         Ok(Request::Help(text)) => show(text.as_str(), output, error),
         Ok(Request::Refused(text)) => {
             say(error, &[text.as_str()]);
             REFUSED
         }
-        Err(_) => {
-            say_refusal(error, TextError::Run(RunError::Memory));
-            REFUSED
-        }
+        Err(_) => refuse(error, TextError::Run(RunError::Memory)),
     }
 }

@@ -3,14 +3,16 @@
 
 mod command_line;
 mod error;
+mod job;
+mod limits;
 mod numbers;
+mod outlet;
 mod output;
 mod refusal;
 mod replays;
 mod result;
 mod running;
 mod runs;
-mod sending;
 
 pub use chr_board::{Gate, Point, Tally, Totals};
 pub use command_line::command;

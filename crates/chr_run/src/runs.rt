@@ -1,146 +1,46 @@
 //! Runs whose text goes out, and runs of texts.
-ghost use Rattle.std.specs.Prelude.{◌≡◌, ◌≤◌, IfErr, IfOk, None};
+ghost use Rattle.std.specs.Prelude.{◌≡◌, IfErr, IfOk};
 ghost use Rattle.chr_semantics.specs.Accepted.{IsAccepted, IsAcceptedProgram, IsAcceptedQuery};
 ghost use Rattle.chr_semantics.specs.Bounds.{IsQueryBounded};
-ghost use Rattle.chr_semantics.specs.Outcome.{run_refusal};
-ghost use Rattle.chr_semantics.specs.declared.limits.TheConstants.{MAX_TRANSITIONS};
 ghost use Rattle.chr_rules.specs.ProgramView.{checked_view, names_of, rules_of};
 ghost use Rattle.chr_rules.specs.RuleView.{query_view};
-ghost use Rattle.chr_policy.specs.CoordinatorView.{IsAtRest, machine_by};
+ghost use Rattle.chr_run.specs.Jobs.{Writes};
 ghost use Rattle.chr_run.specs.Run.{IsInto, Sends};
 ghost use Rattle.chr_run.specs.Texts.{IsProgramError, IsQueryError, IsTextError, IsTextRun};
-ghost use Rattle.chr_run.specs.Turns.{SendsTurns};
 
 use crate::error::{RunError, TextError};
-use crate::result::{Run, with_workers};
-use crate::running::check;
-use crate::sending::send_turns;
-use chr_board::{Board, Gate, Point, Tally};
-use chr_policy::Coordinator;
+use crate::job::Job;
+use crate::limits::Limits;
+use crate::outlet::Cut;
+use crate::result::Run;
+use crate::running::run_job;
+use chr_board::{Gate, Point};
 use chr_read::{read_program, read_query};
 use chr_rules::{Program, Query};
-use chr_shelf::{Run as Name, Shelf};
-use chr_workers::beside;
 use std::alloc::Allocator;
 use std::io::Write;
-use std::marker::Brand;
 use std::sync::Wait;
 use std::thread::Threads;
 
-/// Makes the first n transitions in this thread, beside so many workers, and writes the text of the run.
-fn send_beside<
-    'x,
-    'p,
-    'w,
-    J: Name + Send + Sync,
-    A: Allocator + Copy + Send + Sync,
-    G: Gate,
-    R: Threads + Wait + Sync,
-    W: Write,
->(
-    rt: &'x R,
-    alloc: A,
-    program: &Program<A>,
-    coordinator: &'x mut Coordinator<'p, J, A>,
-    shelf: &'x Shelf<A>,
-    board: &'x Board<J, A>,
-    gate: &'x G,
-    n: u64,
-    workers: u32,
-    writer: &'w mut W,
-) -> (Result<(), TextError>, Tally)
-    requires name { shelf.now ≡ J.shelf }
-    requires rules { rules_of program.now ≡ J.rules }
-    requires rests { IsAtRest coordinator.old }
-    requires start { (machine_by coordinator.old).steps ≡ 0 }
-    requires limit { n ≤ MAX_TRANSITIONS }
-    ensures { SendsTurns n coordinator.old coordinator.new (W.contents writer.old) (W.contents writer.new) result.0 }
-{
-    let mut buffer = Vec::new(alloc);
-    let mut turns = || -> Result<(), TextError>
-        requires { (shelf.now ≡ J.shelf) × IsAtRest coordinator.now
-            × ((machine_by coordinator.now).steps ≡ 0) × (n ≤ MAX_TRANSITIONS) }
-        ensures { SendsTurns n coordinator.entry.now coordinator.exit.now
-            (W.contents writer.entry.now) (W.contents writer.exit.now) result }
-    {
-        let made = send_turns(rt, coordinator, shelf, board, gate, n, &mut buffer, writer);
-        board.close(rt);
-        made
-    };
-    beside(rt, alloc, program, shelf, board, gate, workers, &mut turns)
-}
-
-/// The run of n transitions over a shelf, whose text goes out while it goes on.
-fn send_named<
-    J: Name + Send + Sync,
-    A: Allocator + Copy + Send + Sync,
-    G: Gate,
-    R: Threads + Wait + Sync,
-    W: Write,
->(
+/// Does a job whose text goes out to a writer.
+fn write_job<A: Allocator + Copy + Send + Sync, G: Gate, R: Threads + Wait + Sync, W: Write>(
     rt: &R,
     alloc: A,
-    program: &Program<A>,
-    shelf: &Shelf<A>,
-    query: Query<A>,
-    n: u64,
-    workers: u32,
+    job: Job<'_, A>,
     gate: &G,
     writer: &mut W,
 ) -> Result<Run<A>, TextError>
-    requires name { shelf.now ≡ J.shelf }
-    requires rules { rules_of program.now ≡ J.rules }
-    requires bounded { IsQueryBounded (query_view query) }
-    requires allowed { run_refusal n workers ≡ None }
-    ensures { Sends (names_of program.now) (rules_of program.now) (query_view query) n workers
-        (W.contents writer.old) (W.contents writer.new) result }
+    requires { IsQueryBounded (query_view job.query) }
+    ensures { Writes job.entry (W.contents writer.old) (W.contents writer.new) result }
 {
-    let board = Board::<J, A>::new(alloc);
-    let Ok(mut coordinator) = Coordinator::<J, A>::new(alloc, program, query, workers) else {
-        return Err(TextError::Run(RunError::Memory));
-    };
-    let (made, tally) = send_beside(
-        rt,
-        alloc,
-        program,
-        &mut coordinator,
-        shelf,
-        &board,
-        gate,
-        n,
-        workers,
-        writer,
-    );
-    match made {
-        Err(error) => Err(error),
-        Ok(()) => {
-            let totals = board.totals(rt);
-            Ok(with_workers(coordinator.finish(), totals, tally))
-        }
+    match run_job(rt, alloc, job, gate, writer) {
+        Ok(run) => Ok(run),
+        Err(Cut::Memory) => Err(TextError::Run(RunError::Memory)),
+        Err(Cut::Unsent(_)) => Err(TextError::Write),
     }
 }
 
-/// The same over a shelf with nothing on it, whose run gets a name of its own.
-fn send_over<A: Allocator + Copy + Send + Sync, G: Gate, R: Threads + Wait + Sync, W: Write>(
-    rt: &R,
-    alloc: A,
-    program: &Program<A>,
-    shelf: &Shelf<A>,
-    query: Query<A>,
-    n: u64,
-    workers: u32,
-    gate: &G,
-    writer: &mut W,
-) -> Result<Run<A>, TextError>
-    requires bounded { IsQueryBounded (query_view query) }
-    requires allowed { run_refusal n workers ≡ None }
-    ensures { Sends (names_of program.now) (rules_of program.now) (query_view query) n workers
-        (W.contents writer.old) (W.contents writer.new) result }
-{
-    send_named::<Brand, A, G, R, W>(rt, alloc, program, shelf, query, n, workers, gate, writer)
-}
-
-/// Runs the first n transitions of a query, while so many workers search ahead, and writes the text of the run, each line of its trace
+/// Runs the first n transitions of a query, while `workers` workers search ahead, and writes the text of the run, each line of its trace
 /// before the next transition. Whatever the workers do, the bytes are those of one thread. After Write or want of memory what went out is a
 /// first part of that text; after another refusal nothing went out. The gate is called as `run` calls it, and all workers are joined before
 /// it answers.
@@ -158,12 +58,16 @@ pub fn run_into<A: Allocator + Copy + Send + Sync, G: Gate, R: Threads + Wait + 
     ensures { IsInto (names_of program.now) (rules_of program.now) (query_view query) n workers
         (W.contents writer.old) (W.contents writer.new) result }
 {
-    match check(n, workers) {
-        Err(refused) => Err(TextError::Run(refused)),
-        Ok(()) => match Shelf::new(alloc) {
-            Err(_) => Err(TextError::Run(RunError::Memory)),
-            Ok(shelf) => send_over(rt, alloc, program, &shelf, query, n, workers, gate, writer),
-        },
+    match Limits::new(n, workers) {
+        Err(error) => Err(TextError::Run(error)),
+        Ok(limits) => {
+            let job = Job {
+                program,
+                query,
+                limits,
+            };
+            write_job(rt, alloc, job, gate, writer)
+        }
     }
 }
 
@@ -236,33 +140,28 @@ impl Gate for NoGate {
     fn at(&self, _point: Point) {}
 }
 
-/// The run of a program and a query that are accepted.
-fn run_accepted<A: Allocator + Copy + Send + Sync, R: Threads + Wait + Sync, W: Write>(
+/// Does the job of a query over its program.
+fn write_texts<A: Allocator + Copy + Send + Sync, R: Threads + Wait + Sync, W: Write>(
     rt: &R,
     alloc: A,
     texts: Texts<A>,
-    n: u64,
-    workers: u32,
+    limits: Limits,
     writer: &mut W,
 ) -> Result<Run<A>, TextError>
     requires { IsQueryBounded (query_view texts.query) }
-    ensures { IsInto (names_of texts.program) (rules_of texts.program) (query_view texts.query) n workers
+    ensures { Sends (names_of texts.program) (rules_of texts.program) (query_view texts.query) limits.budget limits.workers
         (W.contents writer.old) (W.contents writer.new) result }
 {
-    let query = texts.query;
-    run_into(
-        rt,
-        alloc,
-        &texts.program,
+    let Texts { program, query } = texts;
+    let job = Job {
+        program: &program,
         query,
-        n,
-        workers,
-        &NoGate,
-        writer,
-    )
+        limits,
+    };
+    write_job(rt, alloc, job, &NoGate, writer)
 }
 
-/// Reads a program and a query, runs the first n transitions, while so many workers search ahead, and writes the text of the run. The limits
+/// Reads a program and a query, runs the first n transitions, while `workers` workers search ahead, and writes the text of the run. The limits
 /// are looked at first, then the program, then the query. After Write or want of memory what went out is a first part of that text; after
 /// another refusal nothing went out.
 pub fn run_text<A: Allocator + Copy + Send + Sync, R: Threads + Wait + Sync, W: Write>(
@@ -277,9 +176,10 @@ pub fn run_text<A: Allocator + Copy + Send + Sync, R: Threads + Wait + Sync, W: 
     ensures { IsTextRun program.now query.now n workers (W.contents writer.old)
         (W.contents writer.new) result }
 {
-    if let Err(error) = check(n, workers) {
-        return Err(TextError::Run(error));
-    }
+    let limits = match Limits::new(n, workers) {
+        Ok(limits) => limits,
+        Err(refused) => return Err(TextError::Run(refused)),
+    };
     let texts = accepted(alloc, program, query)?;
-    run_accepted(rt, alloc, texts, n, workers, writer)
+    write_texts(rt, alloc, texts, limits, writer)
 }

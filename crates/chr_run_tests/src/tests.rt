@@ -132,7 +132,7 @@ fn run_with<A: Allocator + Copy + Send + Sync, G: Gate, R: Threads + Wait + Abor
     Ok(run)
 }
 
-/// The same with the texts of the example.
+/// As `run_with`, with the texts of the example.
 fn run_of<A: Allocator + Copy + Send + Sync, G: Gate, R: Threads + Wait + Abort + Sync>(
     rt: &R,
     alloc: A,
@@ -172,7 +172,7 @@ fn assert_replayed_with<A: Allocator + Copy>(
     assert_text(rt, alloc, example, program, &outcome)
 }
 
-/// The same with the texts of the example.
+/// As `assert_replayed_with`, with the texts of the example.
 fn assert_replayed<A: Allocator + Copy>(
     rt: &(impl Abort + Wait),
     alloc: A,

@@ -23,7 +23,7 @@ abbrev pub appended : List Event → Result semantics.Line semantics.ScheduleErr
 appended events (Ok line) = cond (nat_lt MAX_SCHEDULE_EVENTS (length events + size_of line)) (Err semantics.too_many_events) (Ok (events ++ events_of line))
 appended events (Err wrong) = Err wrong
 
--- the line of so many Steps, where there are any
+-- the line of a number of Steps, where there are any
 abbrev pub run_of : ℕ → List semantics.Line
 run_of zero = []
 run_of (suc n) = semantics.moves (suc n) ∷ []

@@ -9,7 +9,7 @@
 //! step COUNT
 //! ```
 //!
-//! The last kind stands for so many Steps in a row, at least one. A number has ASCII digits alone, no zero leads one of
+//! The last kind stands for a number of Steps in a row, at least one. A number has ASCII digits alone, no zero leads one of
 //! several digits, and it is at most `MAX_SCHEDULE_NUMBER`. A text has at most `MAX_SCHEDULE_EVENTS` events.
 //!
 //! [`read_schedule`] takes a text to its events, and [`print_schedule`] prints events, where each longest run of Steps is

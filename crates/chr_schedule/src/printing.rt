@@ -48,7 +48,7 @@ fn write_schedule<O: Allocator>(events: &[Event], out: &mut Vec<u8, O>) -> Resul
     write_steps(steps, out)
 }
 
-/// Writes so many Steps, and then a line.
+/// Writes `steps` Steps, and then a line.
 fn write_after<O: Allocator>(steps: u64, line: Line, out: &mut Vec<u8, O>) -> Result<(), Memory>
     ensures ok { OnOk result (out.new.items
         ≡ out.old.items ++ lines_text (map line_text (run_of steps ++ line_view line ∷ []))) }
@@ -58,7 +58,7 @@ fn write_after<O: Allocator>(steps: u64, line: Line, out: &mut Vec<u8, O>) -> Re
     write_line(line, out)
 }
 
-/// Writes so many Steps: a line, or nothing where there are none.
+/// Writes `steps` Steps: a line, or nothing where there are none.
 fn write_steps<O: Allocator>(steps: u64, out: &mut Vec<u8, O>) -> Result<(), Memory>
     ensures ok { OnOk result (out.new.items
         ≡ out.old.items ++ lines_text (map line_text (run_of steps))) }

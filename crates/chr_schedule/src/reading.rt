@@ -83,7 +83,7 @@ fn append_events<A: Allocator>(line: Line, events: &mut Vec<Event, A>) -> Result
     Ok(())
 }
 
-/// Appends so many Steps. Where memory is refused, some of them may be there.
+/// Appends `count` Steps. Where memory is refused, some of them may be there.
 fn append_steps<A: Allocator>(count: u64, events: &mut Vec<Event, A>) -> Result<(), Memory>
     ensures { OnOk result (events_view events.new.items
         ≡ events_view events.old.items ++ replicate count move) }

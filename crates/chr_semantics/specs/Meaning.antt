@@ -92,7 +92,7 @@ atom_from s w es = let t = with_name s w (count es) in let r = trees_from t es i
 abbrev pub sides_from : Scope → Expr → Expr → Scope × (Tree × Tree)
 sides_from s e f = let r = tree_from s e in let q = tree_from r.0 f in (q.0, (r.1, q.1))
 
--- the name with so many arguments is `true`, `fail`, `integer` or `ground`
+-- the name with this number of arguments is `true`, `fail`, `integer` or `ground`
 abbrev pub is_true : List ℕ → ℕ → Bool
 is_true w n = bytes_eq w (codes "true") && n == 0
 

@@ -59,7 +59,7 @@ has_steps_alone (publish ∷ es) = false
 has_steps_alone (arrive r x ∷ es) = false
 has_steps_alone (move ∷ es) = has_steps_alone es
 
--- The schedule of a run from the start q with so many workers, of which so many calls of tasks and publish were refused: each missed a
+-- The schedule of a run from the start q with a number of workers, of which `skipped` calls of tasks and publish were refused: each missed a
 -- place. After the last round a run looks for no place, and each search counts as such a call.
 pub record IsPolicy (p : Program) (q : State) (workers skipped : ℕ) (es : List Event) : Type 0 where
   pub alone : workers ≡ 0 → (has_steps_alone es ≡ true) × (skipped ≡ 0)

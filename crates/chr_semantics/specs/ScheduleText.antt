@@ -9,7 +9,7 @@ use Rattle.chr_semantics.specs.Text.{lines_text}
 use Rattle.chr_semantics.specs.Schedule.{Event, publish, arrive, move}
 use Rattle.chr_semantics.specs.declared.limits.TheConstants.{MAX_SCHEDULE_EVENTS, MAX_SCHEDULE_NUMBER}
 
--- a line: a Publish, the arrival of an answer (round, index), or so many Steps
+-- a line: a Publish, the arrival of an answer (round, index), or a number of Steps
 pub data Line : Type 0 where
   publishes : Line
   arrives : ℕ → ℕ → Line
@@ -82,7 +82,7 @@ abbrev pub before_events : Line → Result (List Event) ScheduleError → Result
 before_events l (Ok es) = Ok (events_of l ++ es)
 before_events l (Err e) = Err e
 
--- a line and what is read of those after it, where so many events stand before it, and it is the k-th line
+-- a line and what is read of those after it, with the number of events before it, and it is the k-th line
 abbrev pub with_line : ℕ → ℕ → Result Line ScheduleErrorKind → (ℕ → Result (List Event) ScheduleError) → Result (List Event) ScheduleError
 with_line n k (Err e) after = Err (record { kind = e; line = k })
 with_line n k (Ok l) after = cond (nat_lt MAX_SCHEDULE_EVENTS (n + size_of l)) (Err (record { kind = too_many_events; line = k })) (before_events l (after (n + size_of l)))

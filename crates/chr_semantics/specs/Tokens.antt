@@ -74,7 +74,7 @@ pub data Token : Type 0 where
 pub data Placed : Type 0 where
   at : Place → Token → Placed
 
--- what stands first in a text: its end, so many characters that are no part of a token, a token of so many characters, or a fault
+-- what stands first in a text: its end, a number of characters that are no part of a token, a token with the number of its characters, or a fault
 pub data Piece : Type 0 where
   ended : Piece
   blank : ℕ → Piece
@@ -181,7 +181,7 @@ onward p (blank n) behind = behind false n
 onward p (token t n) behind = at p t ∷ behind (is_minus t) n
 onward p (broken f) behind = at p (fault f) ∷ []
 
--- the tokens of a text of at most so many pieces
+-- the tokens of a text of at most this number of pieces
 abbrev pub tokens_within : ℕ → Bool → Place → List ℕ → List Placed
 tokens_within zero signed p cs = []
 tokens_within (suc k) signed p cs = onward p (piece signed cs) (λ signed' n. tokens_within k signed' (advance p (take n cs)) (drop n cs))

@@ -133,7 +133,7 @@ pub fn cursor_law()
     ensures { CursorLaw }
 {}
 
-/// The same join among the tuples whose identities pass a test.
+/// The join among the tuples whose identities pass a test.
 pub fn gated_law()
     ensures { GatedLaw }
 {}

@@ -42,7 +42,7 @@ impl<J: Run, A: Allocator> Ticket<J, A> {
         self.pushed.index()
     }
 
-    /// The same ticket again.
+    /// A second ticket to the same snapshot.
     pub fn again(&self) -> Ticket<J, A>
         ensures place { place_of result ≡ place_of self.now }
         ensures shot { shot_of result ≡ shot_of self.now }

@@ -141,7 +141,7 @@ impl<A: Allocator> OfSymbol<A> {
         }
     }
 
-    /// Takes an identity out of the list of a key. A list that is then empty is let go: only keys are so many that it matters.
+    /// Takes an identity out of the list of a key. A list that is then empty is let go: there can be a great number of keys.
     fn take_keyed(&mut self, key: Key, id: Id)
         ensures all { self.new.all.ids ≡ self.old.all.ids }
         ensures keyed { (other : Option Key) → ids_keyed self.new other

@@ -63,7 +63,7 @@ impl<A: Allocator> Args<A> {
         self.is_ground
     }
 
-    /// The same terms again, for a pointer. That takes no memory, but it is refused to the owner after 2^63 others, as memory is.
+    /// The terms a second time, for a pointer. That takes no memory, but it is refused to the owner after 2^63 others, as memory is.
     pub fn again(&self) -> Result<Args<A>, Memory>
         ensures { IfOk result (λ again. again ≡ self.now) }
     {
@@ -97,7 +97,7 @@ impl<A: Allocator + Copy> Args<A> {
         }
     }
 
-    /// The same terms again, for a pointer. Where that is refused, the terms get a list of their own.
+    /// The terms a second time, for a pointer. Where that is refused, they get a list of their own.
     #[cycle(copy)]
     pub fn share(&self) -> Result<Args<A>, Memory>
         ensures { IfOk result (λ shared. shared ≡ self.now) }
@@ -121,7 +121,7 @@ impl<A: Allocator + Copy> Term<A> {
     }
 }
 
-/// The same term again, for a pointer.
+/// The term a second time, for a pointer.
 #[cycle(copy)]
 pub fn copy<A: Allocator + Copy>(term: &Term<A>) -> Result<Term<A>, Memory>
     ensures { IfOk result (λ copied. view copied ≡ view term.now) }
@@ -133,7 +133,7 @@ pub fn copy<A: Allocator + Copy>(term: &Term<A>) -> Result<Term<A>, Memory>
     }
 }
 
-/// The same terms again, in a list of their own.
+/// The terms a second time, in a list of their own.
 #[cycle(copy)]
 pub fn copy_all<A: Allocator + Copy>(alloc: A, terms: &[Term<A>]) -> Result<Vec<Term<A>, A>, Memory>
     ensures { IfOk result (λ copied. trees_view copied.items ≡ trees_view terms.now) }

@@ -12,7 +12,7 @@ first_view (Written.Blank n) = blank n
 first_view (Written.Token t n) = token (token_view t) n
 first_view (Written.Broken f) = broken (fault_view f)
 
--- so many characters of a text are one at least
+-- this number of characters of a text is one at least
 abbrev pub IsLen : List ℕ → ℕ → Type 0
 IsLen cs n = (0 < n) × (n ≤ length cs)
 

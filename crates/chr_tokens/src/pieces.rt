@@ -16,7 +16,7 @@ pub enum First<'a> {
     Ended,
     /// So many characters that are no part of a token.
     Blank(usize),
-    /// A token of so many characters.
+    /// A token, and the number of its characters.
     Token(Token<'a>, usize),
     /// What is no token.
     Broken(Fault),

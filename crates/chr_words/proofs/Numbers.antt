@@ -26,7 +26,7 @@ number_is bound text e =
     let inner = both _ _ outer.0 in
     ((ltb-true _ _ inner.0, digits_from _ inner.1), ltb-true _ _ outer.1)
 
--- a number of so many bits is read
+-- a number of at most 64 bits, or 32, is read
 pub number_read : {E : Type 0} (bits : ℕ) (gives : List ℕ → Result ℕ E → Type 0) (text : List ℕ) (r : Option ℕ)
     → ((x : Result ℕ E) → gives text x → ParsesUnsigned bits 10 text x) → ReadsOne gives text r → is_below (2 ^ bits) text ≡ true → r ≡ Some (number_of text)
 number_read bits gives text (Some v) only h n = ap Some (only (Ok v) h).1

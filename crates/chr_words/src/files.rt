@@ -60,7 +60,7 @@ impl<R: Files> Creates for Disk<'_, R> {
     }
 }
 
-/// All that the input has left, or none where it cannot be read: a read fails, so many reads do not reach its end, or there is no memory for it.
+/// All that the input has left, or none where it cannot be read: a read fails, the greatest number of reads does not reach its end, or there is no memory for it.
 pub fn read_all<R: Read>(alloc: Global, input: &mut R) -> Option<Vec<u8>>
     ensures bytes { IfSome result
         (λ bytes. Consumes (R.remaining input.old) (R.remaining input.new) bytes.items) }

@@ -31,7 +31,7 @@ fn sum(one: Tally, other: Tally) -> Tally {
     }
 }
 
-/// Has so many workers answer tasks, until the board is closed. A worker that cannot start is left out.
+/// Has workers answer tasks, until the board is closed. A worker that cannot start is left out.
 fn work_all<
     'x,
     J: Name + Send + Sync,
@@ -82,7 +82,7 @@ fn work_all<
     )
 }
 
-/// Calls a run, in this thread, beside so many workers, and answers what it answers and what the workers did. The run has to close the
+/// Calls a run, in this thread, beside workers, and answers what it answers and what the workers did. The run has to close the
 /// board. Where no thread can be started, there is no worker.
 pub fn beside<
     J: Name + Send + Sync,

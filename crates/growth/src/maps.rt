@@ -49,7 +49,7 @@ fn looked_up(map: &Numbers, size: u64, step: u64) -> u64 {
     sum
 }
 
-/// The sum of the values, on a walk over the map of at most so many levels.
+/// The sum of the values, on a walk over the map of at most `levels` levels.
 fn walked(part: &Part<'_, u64, Pointer<u64>>, levels: u32) -> u64 {
     if levels == 0 {
         return 0;

@@ -52,7 +52,7 @@ const SUBJECTS: [Subject; 4] = [
     },
 ];
 
-/// A text of about so many bytes and not more.
+/// A text of about `size` bytes and not more.
 fn text_of(alloc: Global, subject: Subject, size: usize) -> Result<Vec<u8>, Memory> {
     let mut text = Vec::new(alloc);
     text.extend_from_slice(subject.opening.as_bytes())?;

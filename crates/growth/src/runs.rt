@@ -97,7 +97,7 @@ fn whole_run<R: AllocGlobal + Threads + Wait + Sync>(
     run(rt, rt.alloc(), program, query, AMPLE, workers, &NoGate)
 }
 
-/// The run of a query beside so many workers, and how long it took. A refusal is printed.
+/// The run of a query beside these workers, and how long it took. A refusal is printed.
 fn timed_run<R: AllocGlobal + Clock + Eprint + Threads + Wait + Sync>(
     rt: &R,
     program: &Program,
@@ -116,7 +116,7 @@ fn timed_run<R: AllocGlobal + Clock + Eprint + Threads + Wait + Sync>(
     }
 }
 
-/// The same of the text of a query.
+/// As `timed_run`, of the text of a query.
 fn timed<R: AllocGlobal + Clock + Eprint + Threads + Wait + Sync>(
     rt: &R,
     program: &mut Program,
@@ -159,7 +159,7 @@ fn print_search(rt: &impl Eprint, work: &str, time: Duration, searches: u64) -> 
     )
 }
 
-/// Prints the time of a run beside so many workers, and what part it is of the time with none.
+/// Prints the time of a run beside these workers, and what part it is of the time with none.
 fn print_run(
     rt: &impl Eprint,
     (work, workers): (&str, u32),
@@ -194,7 +194,7 @@ fn time_alone(
     }
 }
 
-/// Prints the time of a query's run beside so many workers. The time with none, if the run was not refused.
+/// Prints the time of a query's run beside these workers. The answer is the time with none, if the run was not refused.
 fn measured_beside<R: AllocGlobal + Clock + Eprint + Threads + Wait + Sync>(
     rt: &R,
     (work, workers): (&str, u32),
@@ -226,7 +226,7 @@ fn measured<R: AllocGlobal + Clock + Eprint + Threads + Wait + Sync>(
     Ok(())
 }
 
-/// The same for the texts of a program and of a query.
+/// As `measured`, for the texts of a program and of a query.
 fn measured_texts<R: AllocGlobal + Clock + Eprint + Threads + Wait + Sync>(
     rt: &R,
     work: &str,
@@ -239,7 +239,7 @@ fn measured_texts<R: AllocGlobal + Clock + Eprint + Threads + Wait + Sync>(
     }
 }
 
-/// Long searches of constraints with so many occurrences.
+/// Long searches of constraints with this number of occurrences.
 fn long_searches<R: AllocGlobal + Clock + Eprint + Threads + Wait + Sync>(
     rt: &R,
     query: &str,

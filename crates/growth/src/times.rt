@@ -25,7 +25,7 @@ pub fn print_beside(
     )
 }
 
-/// Prints how long each of so many calls took.
+/// Prints how long each of the calls took.
 pub fn print_each(
     rt: &HostRuntime,
     size: u64,

@@ -27,7 +27,7 @@ struct Growths {
     asked: AtomicU64,
 }
 
-/// An allocator that allows so many growths, and then refuses each further one. Threads share it by a `&`.
+/// An allocator that allows `left` growths, and then refuses each further one. Threads share it by a `&`.
 #[derive(Drop)]
 pub struct Refusing<B: Allocator> {
     inner: B,
@@ -106,7 +106,7 @@ pub fn refused_in_turn<E, F: FnMut(u64) -> Result<bool, E>>(
     Ok(most)
 }
 
-/// A turn of a test whose calls may each have so many growths: the first refusal of a call is seen, and then memory is ample, so that the
+/// A turn of a test whose calls may each have `left` growths: the first refusal of a call is seen, and then memory is ample, so that the
 /// same call can be made again.
 #[derive(Drop)]
 pub struct Turn<'m, B: Allocator> {

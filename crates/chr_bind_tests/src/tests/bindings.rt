@@ -108,7 +108,7 @@ fn answers<A: Allocator + Copy>(
     }
 }
 
-/// Whether the call goes through with so many growths. A refused one leaves the bindings as they were, and can be called again.
+/// Whether the call goes through with `left` growths. A refused one leaves the bindings as they were, and can be called again.
 ///
 /// For any allocator, here and below: proofs for the meter as the allocator would take much longer.
 fn is_through<M: Allocator + Copy>(
@@ -144,7 +144,7 @@ fn one<M: Allocator + Copy>(alloc: M, only: Term<M>) -> Result<Vec<Term<M>, M>, 
     Ok(terms)
 }
 
-/// The same over bindings of its own.
+/// As `is_through`, over bindings of its own.
 fn is_called<M: Allocator + Copy>(
     rt: &impl Abort,
     alloc: M,
@@ -171,7 +171,7 @@ fn bindings_refused(rt: HostRuntime) -> Result<(), Fail> {
     Ok(())
 }
 
-/// Whether `holds`, with the patterns matched to the terms, goes through with so many growths. It then answers so.
+/// Whether `holds`, with the patterns matched to the terms, goes through with `left` growths. It then answers `wanted`.
 fn is_tested<M: Allocator + Copy>(
     rt: &impl Abort,
     (alloc, meter): (M, &Refusing<Global>),
@@ -189,7 +189,7 @@ fn is_tested<M: Allocator + Copy>(
     is_done
 }
 
-/// The same for `X \= a`, with X matched to a term.
+/// As `is_tested`, for `X \= a`, with X matched to a term.
 fn is_guarded<M: Allocator + Copy>(
     rt: &impl Abort,
     alloc: M,
@@ -233,7 +233,7 @@ fn value_over(
     Ok(value(&term))
 }
 
-/// The same of two numbers.
+/// As `value_over`, of two numbers.
 fn value_of(
     alloc: Global,
     sym: Sym,

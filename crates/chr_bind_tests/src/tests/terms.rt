@@ -74,7 +74,7 @@ fn term_calls(rt: HostRuntime) -> Result<(), Fail> {
     Ok(())
 }
 
-/// Whether f(X,1) after `>` is printed so with so many growths, where its variable is named, or is not. A refused call prints nothing, and
+/// Whether f(X,1) after `>` is printed so with `left` growths, where its variable is named, or is not. A refused call prints nothing, and
 /// can be made again.
 ///
 /// For any allocator, here and below: proofs for the meter as the allocator would take much longer.
@@ -96,7 +96,7 @@ fn is_printed<M: Allocator + Copy>(
     is_printed_in(rt, meter, (&names, &vars, &term), &mut text, wanted, left)
 }
 
-/// The same of known names and a term.
+/// As `is_printed`, of known names and a term.
 fn is_printed_in<M: Allocator + Copy>(
     rt: &impl Abort,
     meter: &Refusing<Global>,
@@ -116,7 +116,7 @@ fn is_printed_in<M: Allocator + Copy>(
     Ok(is_done)
 }
 
-/// Whether `Names::new` goes through with so many growths.
+/// Whether `Names::new` goes through with `left` growths.
 fn are_new<M: Allocator + Copy>(
     rt: &impl Abort,
     alloc: M,
@@ -129,7 +129,7 @@ fn are_new<M: Allocator + Copy>(
     answer.is_ok_and(|names| names.len() == 7)
 }
 
-/// Whether `intern` of a new symbol goes through with so many growths. A refused one leaves the names as they were.
+/// Whether `intern` of a new symbol goes through with `left` growths. A refused one leaves the names as they were.
 fn is_interned_in<M: Allocator + Copy>(
     rt: &impl Abort,
     meter: &Refusing<Global>,
@@ -148,7 +148,7 @@ fn is_interned_in<M: Allocator + Copy>(
     Ok(is_done)
 }
 
-/// The same in names of its own.
+/// As `is_interned_in`, in names of its own.
 fn is_interned<M: Allocator + Copy>(
     rt: &impl Abort,
     alloc: M,

@@ -229,7 +229,7 @@ fn play_named<J: Run, A: Allocator + Copy>(
     assert_closed(rt, &board, place);
 }
 
-/// The same under a name of its own.
+/// As `play_named`, under a name of its own.
 fn play<A: Allocator + Copy>(
     rt: &(impl Abort + Wait),
     scene: &Scene<'_, A>,
@@ -254,7 +254,7 @@ fn shelf_of<A: Allocator + Copy>(
     }
 }
 
-/// Whether no call is refused with so many growths.
+/// Whether no call is refused with `left` growths.
 ///
 /// For any allocator: proofs for the meter as the allocator would take much longer.
 fn are_through<A: Allocator + Copy>(
@@ -274,7 +274,7 @@ fn are_through<A: Allocator + Copy>(
     Ok(scene.turn.met_none())
 }
 
-/// The same where the meter refuses.
+/// As `are_through`, where the meter refuses.
 fn are_through_metered(
     rt: &(impl Abort + Wait),
     meter: &Refusing<Global>,

@@ -66,7 +66,7 @@ fn play_named<J: Run + Send + Sync, A: Allocator + Copy + Send + Sync, R: Abort 
     Ok(())
 }
 
-/// The same under a name of its own.
+/// As `play_named`, under a name of its own.
 fn play<A: Allocator + Copy + Send + Sync, R: Abort + Wait + Sync>(
     rt: &R,
     alloc: A,

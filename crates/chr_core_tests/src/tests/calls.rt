@@ -266,7 +266,7 @@ fn ask_named<J: Run, A: Allocator + Copy>(
     answer_to(rt, scene, program, shelf, &mut core, asked)
 }
 
-/// The same under a name of its own.
+/// As `ask_named`, under a name of its own.
 fn ask<A: Allocator + Copy>(
     rt: &(impl Abort + Wait),
     scene: &Scene<'_, A>,
@@ -304,7 +304,7 @@ enum Question {
     Full,
 }
 
-/// The same with a snapshot of an equal run, where a stranger's is asked for.
+/// As `snapshot_of`, with a snapshot of an equal run, where a stranger's is asked for.
 fn asked_of<A: Allocator + Copy>(
     alloc: A,
     program: &Program<A>,
@@ -353,7 +353,7 @@ fn ask_anew<A: Allocator + Copy>(
     }
 }
 
-/// The same where the meter refuses, with so many growths for each call.
+/// Asks it where the meter refuses: each call has as many growths as the question says.
 fn ask_metered(
     rt: &(impl Abort + Wait),
     meter: &Refusing<Global>,

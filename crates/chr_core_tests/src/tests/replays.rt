@@ -101,7 +101,7 @@ fn play<A: Allocator + Copy>(
     assert_replayed(rt, scene, program, query, again, events.as_slice())
 }
 
-/// Whether no growth was refused, with so many for each call.
+/// Whether no growth was refused where each call has `left` of them.
 ///
 /// For any allocator: proofs for the meter as the allocator would take much longer.
 fn are_through<A: Allocator + Copy>(
@@ -113,7 +113,7 @@ fn are_through<A: Allocator + Copy>(
     Ok(scene.turn.met_none())
 }
 
-/// The same where the meter refuses.
+/// As `are_through`, where the meter refuses.
 fn are_through_metered(
     rt: &(impl Abort + Wait),
     meter: &Refusing<Global>,

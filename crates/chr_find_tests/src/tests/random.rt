@@ -157,7 +157,7 @@ fn finds_just(
     })
 }
 
-/// The same in a snapshot of all, with a guest.
+/// As `finds_just`, in a snapshot of all, with a guest.
 fn finds_just_taken(
     alloc: Global,
     scene: &Scene<Global>,
@@ -169,7 +169,7 @@ fn finds_just_taken(
     finds_just(&scene.program, &snapshot, at, wanted)
 }
 
-/// The same in the task's own snapshot.
+/// As `finds_just_taken`, in the task's own snapshot.
 fn finds_just_own(
     alloc: Global,
     scene: &Scene<Global>,

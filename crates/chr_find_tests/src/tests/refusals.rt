@@ -52,7 +52,7 @@ fn answers<A: Allocator + Copy>(
     }
 }
 
-/// Whether the call goes through with so many growths. A refused one can be called again.
+/// Whether the call goes through with `left` growths. A refused one can be called again.
 ///
 /// For any allocator, here and below: proofs for the meter as the allocator would take much longer.
 fn is_through<M: Allocator + Copy>(

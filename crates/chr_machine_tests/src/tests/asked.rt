@@ -38,7 +38,7 @@ fn answer_of<A: Allocator + Copy>(
     find(program, &snapshot, task)
 }
 
-/// One transition as `top` asks. What is searched for is found before the meter, if there is one, allows so many growths.
+/// One transition as `top` asks. What is searched for is found before the meter, if there is one, limits the growths.
 pub(super) fn step_asked<A: Allocator + Copy>(
     lists: &Lists<A>,
     machine: &mut Machine<A>,

@@ -66,7 +66,7 @@ fn a_million_transitions(rt: HostRuntime) -> Result<(), Fail> {
 /// The first symbol that a program declares, after the seven that each program has.
 const FIRST: u32 = 7;
 
-/// How often the first symbols of the program were touched after so many transitions, and how often its first rule was.
+/// How often the first symbols of the program were touched after these transitions, and how often its first rule was.
 pub(super) fn assert_touches<A: Allocator + Copy>(
     rt: &impl Abort,
     machine: &mut Machine<A>,

@@ -50,7 +50,7 @@ fn are_tasks(tasks: &[Task]) -> bool {
     }
 }
 
-/// Whether the call goes through with so many growths.
+/// Whether the call goes through with `left` growths.
 fn is_made<A: Allocator + Copy>(
     rt: &impl Abort,
     lists: &Lists<A>,
@@ -73,7 +73,7 @@ fn is_made<A: Allocator + Copy>(
     }
 }
 
-/// Whether the call goes through with so many growths. After a refusal all is as before, or, of a run, its whole transitions are kept; and
+/// Whether the call goes through with the growths that it is given. After a refusal all is as before, or, of a run, its whole transitions are kept; and
 /// then it goes through with memory.
 fn is_through<A: Allocator + Copy>(
     rt: &impl Abort,
@@ -142,7 +142,7 @@ fn is_written<A: Allocator + Copy>(
     Ok(written)
 }
 
-/// The same of the whole run of an example over its program.
+/// As `is_written`, of the whole run of an example over its program.
 fn is_written_over<A: Allocator + Copy>(
     rt: &impl Abort,
     alloc: A,
@@ -183,7 +183,7 @@ fn outcome_of<A: Allocator + Copy>(
 #[derive(Clone, Copy, Drop)]
 enum Refused {
     Start,
-    /// The call after so many transitions.
+    /// The call, and how many transitions come before it.
     Call(u64, Call),
     /// `Outcome::text`.
     Text,
@@ -210,7 +210,7 @@ fn run_on<A: Allocator + Copy>(
     Ok(made)
 }
 
-/// Whether `start` goes through with so many growths. Then the machine runs an example.
+/// Whether `start` goes through with the growths that it is given. Then the machine runs an example.
 fn is_started_over<A: Allocator + Copy>(
     rt: &impl Abort,
     lists: &Lists<A>,
@@ -228,7 +228,7 @@ fn is_started_over<A: Allocator + Copy>(
     Ok(is_started)
 }
 
-/// Whether the call after so many transitions goes through with so many growths. Then the machine runs on.
+/// Whether the call after some transitions goes through with the growths that it is given. Then the machine runs on.
 fn is_called_over<A: Allocator + Copy>(
     rt: &impl Abort,
     lists: &Lists<A>,
@@ -243,7 +243,7 @@ fn is_called_over<A: Allocator + Copy>(
     run_on(rt, lists, meter, &mut machine, at)
 }
 
-/// Whether that goes through with so many growths, in a run of an example over its program.
+/// Whether that goes through with the growths that it is given, in a run of an example over its program.
 fn is_through_over<A: Allocator + Copy>(
     rt: &impl Abort,
     lists: &Lists<A>,
@@ -267,7 +267,7 @@ fn is_through_over<A: Allocator + Copy>(
     }
 }
 
-/// The same for a program of its own.
+/// As `is_through_over`, for a program of its own.
 ///
 /// For any allocator, here and above: proofs for the meter as the allocator would take much longer.
 fn is_through_in<A: Allocator + Copy>(
@@ -282,7 +282,7 @@ fn is_through_in<A: Allocator + Copy>(
     Ok(is_through_over(rt, lists, meter, &program, query, (example, refused, left))?)
 }
 
-/// The same where the meter refuses.
+/// As `is_through_in`, where the meter refuses.
 fn is_through_metered(
     rt: &impl Abort,
     meter: &Meter,

@@ -14,14 +14,14 @@ const REFUSED: RuleError = RuleError {
     rule: 0,
 };
 
-/// Whether a growth was refused since so many were allowed. From now on memory is ample.
+/// Whether a growth was refused since `left` of them were allowed. From now on memory is ample.
 fn was_refused(meter: &Refusing<Global>, left: u64) -> bool {
     let is_refused = meter.asked() > left;
     meter.allow(AMPLE);
     is_refused
 }
 
-/// Whether `build` goes through with so many growths.
+/// Whether `build` goes through with `left` growths.
 ///
 /// For any allocator, here and below: proofs for the meter as the allocator would take much longer.
 fn is_built<M: Allocator + Copy>(
@@ -42,7 +42,7 @@ fn is_built<M: Allocator + Copy>(
     Ok(answer.is_ok())
 }
 
-/// Whether `goals_of_query` goes through with so many growths. A refused one leaves the rules as they were.
+/// Whether `goals_of_query` goes through with `left` growths. A refused one leaves the rules as they were.
 fn is_asked<M: Allocator + Copy>(
     rt: &impl Abort,
     alloc: M,
@@ -62,7 +62,7 @@ fn is_asked<M: Allocator + Copy>(
     Ok(answer.is_ok())
 }
 
-/// The same over a program of its own. It can be called again.
+/// As `is_asked`, over a program of its own. It can be called again.
 fn is_asked_anew<M: Allocator + Copy>(
     rt: &impl Abort,
     alloc: M,
@@ -76,7 +76,7 @@ fn is_asked_anew<M: Allocator + Copy>(
     Ok(is_done)
 }
 
-/// Whether `Query::copy` goes through with so many growths.
+/// Whether `Query::copy` goes through with `left` growths.
 fn is_copied<M: Allocator + Copy>(
     rt: &impl Abort,
     meter: &Refusing<Global>,

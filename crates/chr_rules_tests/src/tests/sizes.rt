@@ -6,7 +6,7 @@ use std::{io, thread};
 
 const COUNT: usize = 70_000;
 
-/// A query of one list with so many different elements, each a letter with its number.
+/// A query of one list of COUNT different elements, each a letter with its number.
 fn list_of(alloc: Global, letter: &str) -> Result<String, Memory> {
     let mut text = String::from_str(alloc, "p([")?;
     for number in 1..COUNT {

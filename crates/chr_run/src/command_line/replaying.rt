@@ -1,12 +1,13 @@
 //! The replay that the program `chr` makes of a schedule in a file.
 ghost use Rattle.std.specs.Prelude.{◌⊎◌, option_map};
 ghost use Rattle.chr_run.specs.Command.{Refuses, ReplaysFile, ReplaysFiles, ReplaysTexts, ReplaysWords, effect};
-ghost use Rattle.chr_run.specs.Reports.{asked_view, is_silent, unread_text};
+ghost use Rattle.chr_run.specs.Reports.{options_view, is_silent, unread_text};
 
-use super::reporting::Asked;
-use super::{REFUSED, status_code};
+use super::reporting::Options;
+use super::streams::Streams;
+use super::{REFUSED, refuse, status_code};
 use crate::numbers::say_counts;
-use crate::refusal::{say, say_refusal, say_unread};
+use crate::refusal::{say, say_unread};
 use crate::replays::replay_text;
 use chr_words::{Opens, read_file};
 use std::alloc::Global;
@@ -32,102 +33,88 @@ fn replay_texts<W: Write, E: Write>(
             say_counts(error, counts);
             status_code(status)
         }
-        Err(refusal) => {
-            say_refusal(error, refusal);
-            REFUSED
-        }
+        Err(refusal) => refuse(error, refusal),
     }
 }
 
 /// The replay of the schedule in a file, of a program's text.
-fn replay_file<O: Opens, W: Write, E: Write>(
+fn replay_file<O: Opens, I, W: Write, E: Write>(
     rt: &impl Wait,
     alloc: Global,
-    files: &O,
     program: &[u8],
     query: &str,
     path: &str,
-    output: &mut W,
-    error: &mut E,
+    streams: Streams<'_, W, E, I, O>,
 ) -> u8
-    ensures { let done = effect (W.contents output.old) (W.contents output.new)
-        (E.contents error.old) (E.contents error.new) result in
-        ReplaysFile program.now query.now (O.bytes_of files.now path.now) done
+    ensures { let done = effect (W.contents streams.entry.output.now) (W.contents streams.exit.0.now)
+        (E.contents streams.entry.error.now) (E.contents streams.exit.1.0.now) result in
+        ReplaysFile program.now query.now (O.bytes_of streams.entry.files.now path.now) done
         ⊎ Refuses (unread_text path.now) done }
 {
-    match read_file(alloc, files, path) {
-        Some(schedule) => replay_texts(
-            rt,
-            alloc,
-            program,
-            query.as_bytes(),
-            schedule.as_slice(),
-            output,
-            error,
-        ),
-        None => {
-            say_unread(error, path);
-            REFUSED
-        }
-    }
+    let Streams {
+        output,
+        error,
+        files,
+        ..
+    } = streams;
+    let Some(schedule) = read_file(alloc, files, path) else {
+        say_unread(error, path);
+        return REFUSED;
+    };
+    replay_texts(
+        rt,
+        alloc,
+        program,
+        query.as_bytes(),
+        schedule.as_slice(),
+        output,
+        error,
+    )
 }
 
 /// The replay of the schedule in a file, of the program in another one.
-fn replay_files<O: Opens, W: Write, E: Write>(
+fn replay_files<O: Opens, I, W: Write, E: Write>(
     rt: &impl Wait,
     alloc: Global,
-    files: &O,
     program: &str,
     query: &str,
     schedule: &str,
-    output: &mut W,
-    error: &mut E,
+    streams: Streams<'_, W, E, I, O>,
 ) -> u8
-    ensures { ReplaysFiles (O.bytes_of files.now) program.now query.now schedule.now
-        (effect (W.contents output.old) (W.contents output.new)
-        (E.contents error.old) (E.contents error.new) result) }
+    ensures { ReplaysFiles (O.bytes_of streams.entry.files.now) program.now query.now schedule.now
+        (effect (W.contents streams.entry.output.now) (W.contents streams.exit.0.now)
+        (E.contents streams.entry.error.now) (E.contents streams.exit.1.0.now) result) }
 {
-    match read_file(alloc, files, program) {
-        Some(text) => replay_file(
-            rt,
-            alloc,
-            files,
-            text.as_slice(),
-            query,
-            schedule,
-            output,
-            error,
-        ),
+    match read_file(alloc, streams.files, program) {
+        Some(text) => replay_file(rt, alloc, text.as_slice(), query, schedule, streams),
         None => {
-            say_unread(error, program);
+            say_unread(streams.error, program);
             REFUSED
         }
     }
 }
 
 /// The replay that the words ask for.
-pub(super) fn replay_words<O: Opens, W: Write, E: Write>(
+pub(super) fn replay_words<O: Opens, I, W: Write, E: Write>(
     rt: &impl Wait,
     alloc: Global,
     program: Option<&str>,
     query: Option<&str>,
-    asked: Asked<'_>,
+    options: Options<'_>,
     schedule: &str,
-    files: &O,
-    output: &mut W,
-    error: &mut E,
+    streams: Streams<'_, W, E, I, O>,
 ) -> u8
     ensures { ReplaysWords (option_map (λ t. t.now) program.entry)
-        (option_map (λ t. t.now) query.entry) (is_silent (asked_view asked.entry)) schedule.now (O.bytes_of files.now)
-        (effect (W.contents output.old) (W.contents output.new)
-        (E.contents error.old) (E.contents error.new) result) }
+        (option_map (λ t. t.now) query.entry) (is_silent (options_view options.entry)) schedule.now (O.bytes_of streams.entry.files.now)
+        (effect (W.contents streams.entry.output.now) (W.contents streams.exit.0.now)
+        (E.contents streams.entry.error.now) (E.contents streams.exit.1.0.now) result) }
 {
-    match (program, query, asked.is_silent()) {
+    match (program, query, options.is_silent()) {
         (Some(program), Some(query), true) => {
-            replay_files(rt, alloc, files, program, query, schedule, output, error)
+            replay_files(rt, alloc, program, query, schedule, streams)
         }
         _ => {
-            say(error, &["chr: --replay stands alone\n"]);
+            say(streams.error, &["chr: --replay stands alone\n"]);
             REFUSED
         }
     }

@@ -1,7 +1,7 @@
 //! What the program `chr` does with a run that was made: it records its schedule, and says its numbers.
 ghost use Rattle.std.specs.Prelude.{◌≡◌, option_map};
 ghost use Rattle.chr_schedule.specs.EventView.{events_view};
-ghost use Rattle.chr_run.specs.Reports.{Follows, IsWritten, Records, Said, asked_view, is_silent};
+ghost use Rattle.chr_run.specs.Reports.{Follows, IsWritten, Records, Said, options_view, is_silent};
 
 use super::{REFUSED, status_code};
 use crate::error::{RunError, TextError};
@@ -15,7 +15,7 @@ use std::io::Write;
 
 /// What is asked of a run beside its program and its query.
 #[derive(Clone, Copy, Drop)]
-pub(crate) struct Asked<'a> {
+pub(crate) struct Options<'a> {
     pub(crate) budget: Option<u64>,
     pub(crate) workers: Option<u32>,
     /// The path of the file that its schedule is written to.
@@ -24,10 +24,10 @@ pub(crate) struct Asked<'a> {
     pub(crate) totals: bool,
 }
 
-impl Asked<'_> {
+impl Options<'_> {
     /// Whether nothing is asked.
     pub(super) fn is_silent(&self) -> bool
-        ensures { result ≡ is_silent (asked_view self.now) }
+        ensures { result ≡ is_silent (options_view self.now) }
     {
         !(self.budget.is_some()
             || self.workers.is_some()
@@ -63,7 +63,7 @@ fn record<C: Creates, E: Write>(
     }
 }
 
-/// The same where a file is asked for.
+/// Writes the schedule to the file that is asked for, if one is. Whether that went well.
 fn record_asked<C: Creates, E: Write>(
     alloc: Global,
     files: &C,
@@ -94,17 +94,17 @@ pub(super) fn report<C: Creates, E: Write>(
     alloc: Global,
     files: &C,
     run: &Run,
-    asked: Asked<'_>,
+    options: Options<'_>,
     error: &mut E,
 ) -> u8
-    ensures { Follows (IsWritten (C.fresh files.now) C.Sink.contents) (asked_view asked.entry) run.now
+    ensures { Follows (IsWritten (C.fresh files.now) C.Sink.contents) (options_view options.entry) run.now
         (E.contents error.old) (E.contents error.new) result }
 {
     let events = run.schedule.as_slice();
-    match record_asked(alloc, files, asked.record_path, events, error) {
+    match record_asked(alloc, files, options.record_path, events, error) {
         false => REFUSED,
         true => {
-            say_asked(run, asked.totals, error);
+            say_asked(run, options.totals, error);
             status_code(run.outcome.status)
         }
     }

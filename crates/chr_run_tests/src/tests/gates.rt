@@ -122,7 +122,7 @@ fn place_of_step(events: &[Event], number: u64) -> Option<usize> {
     None
 }
 
-/// How many answers the first so many events of a schedule of `speculation` use.
+/// How many answers are used by the first events of a schedule of `speculation`.
 fn used_within<A: Allocator + Copy>(
     rt: &impl Wait,
     alloc: A,

@@ -5,7 +5,7 @@ use super::*;
 use chr_words::{Opens, read_file};
 use std::io::Read;
 
-/// Gives so many spaces, one at a call.
+/// Gives the spaces that are left, one at a call.
 #[derive(Drop)]
 struct Spaces {
     left: u64,
@@ -20,7 +20,7 @@ impl Read for Spaces {
     }
 }
 
-/// Each path has so many of them.
+/// A folder in which each path has this number of spaces.
 #[derive(Drop)]
 struct SpacesOf(u64);
 

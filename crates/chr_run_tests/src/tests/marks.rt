@@ -29,7 +29,7 @@ impl Mark {
         self.count.load(Ordering::SeqCst)
     }
 
-    /// Holds until it was reached so often, for so many turns at most. Whether it was.
+    /// Holds until it was reached `count` times, for `turns` turns at most, and answers whether it was.
     pub(super) fn hold_for(&self, count: u64, turns: u32) -> bool {
         for _ in 0..turns {
             if self.count() >= count {
@@ -40,12 +40,12 @@ impl Mark {
         false
     }
 
-    /// The same for as many turns as a hold lasts at most.
+    /// As `hold_for`, for as many turns as a hold lasts at most.
     pub(super) fn hold(&self, count: u64) -> bool {
         self.hold_for(count, TURNS)
     }
 
-    /// The same for a hold that may well end by its turns. It gives way to other threads at few of them, so that they are over soon.
+    /// As `hold`, for a hold that may well end by its turns. It gives way to other threads at few of them, so that they are over soon.
     pub(super) fn hold_briefly(&self, count: u64) {
         for turn in 0..TURNS {
             if self.count() >= count {

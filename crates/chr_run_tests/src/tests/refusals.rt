@@ -108,7 +108,7 @@ fn assert_kept<A: Allocator>(rt: &impl Abort, run: &Run<A>, places: Option<u64>)
     }
 }
 
-/// The same, and the run gives the text of the example, by its schedule too.
+/// As `assert_kept`, and the run gives the text of the example, by its schedule too.
 fn assert_run<A: Allocator + Copy>(
     rt: &(impl Abort + Wait),
     alloc: A,
@@ -155,7 +155,7 @@ fn run_over<A: Allocator + Copy + Send + Sync, R: Threads + Wait + Abort + Sync>
     }
 }
 
-/// Whether the run meets no refusal with so many growths.
+/// Whether the run meets no refusal with the growths of this turn.
 ///
 /// For any allocator: proofs for the meter as the allocator would take much longer.
 fn is_through<A: Allocator + Copy + Send + Sync, R: Threads + Wait + Abort + Sync>(
@@ -171,7 +171,7 @@ fn is_through<A: Allocator + Copy + Send + Sync, R: Threads + Wait + Abort + Syn
     Ok(turn.met_none())
 }
 
-/// The same where the meter refuses.
+/// As `is_through`, where the meter refuses.
 fn is_through_metered<R: Threads + Wait + Abort + Sync>(
     rt: &R,
     meter: &Refusing<Global>,
@@ -218,7 +218,7 @@ fn written_into<A: Allocator + Copy + Send + Sync, R: Threads + Wait + Sync>(
     Ok(run.map(|run| run.outcome.status))
 }
 
-/// The same by each call.
+/// How the text of `speculation` ended, or why it was refused, by each call.
 fn written<A: Allocator + Copy + Send + Sync, R: Threads + Wait + Sync>(
     rt: &R,
     alloc: A,
@@ -257,7 +257,7 @@ fn is_memory(error: TextError) -> bool {
     }
 }
 
-/// Whether the text goes out whole with so many growths. Where it does not, memory was refused, and a first part of it is out.
+/// Whether the text goes out whole with `left` growths. Where it does not, memory was refused, and a first part of it is out.
 fn goes_out<R: Threads + Wait + Abort + Sync>(
     rt: &R,
     alloc: Global,

@@ -25,7 +25,7 @@ fn assert_sums<A: Allocator>(rt: &impl Abort, run: &Run<A>) {
     assert_eq!(rt; totals.drained, arrivals(run.schedule.as_slice()) as u64);
 }
 
-/// The numbers of a run of an example with so many workers add up.
+/// The numbers of a run of an example with these workers add up.
 fn assert_totals<A: Allocator + Copy + Send + Sync, R: Threads + Wait + Abort + Sync>(
     rt: &R,
     alloc: A,
@@ -65,7 +65,7 @@ fn assert_printed<A: Allocator + Copy>(
     Ok(())
 }
 
-/// A run of an example with so many workers gives its text, by its schedule too, and each place for a round was used.
+/// A run of an example with these workers gives its text, by its schedule too, and each place for a round was used.
 fn assert_bytes<R: Threads + Wait + Abort + Sync>(
     rt: &R,
     alloc: Global,

@@ -88,7 +88,7 @@ fn sent<R: Threads + Wait + Sync>(
     Ok(run.outcome.status)
 }
 
-/// Whether the whole text goes out with so many writes, each of at most so many bytes. Where it does not, a first part of it is out.
+/// Whether the whole text goes out where the writer takes only these writes, each of at most this number of bytes. Where it does not, a first part of it is out.
 fn goes_out<R: Threads + Wait + Abort + Sync>(
     rt: &R,
     alloc: Global,
@@ -113,7 +113,7 @@ fn goes_out<R: Threads + Wait + Abort + Sync>(
     }
 }
 
-/// How many writes of at most so many bytes the text takes: each of them is refused in turn.
+/// How many writes the text takes, where each takes at most this number of bytes: each of them is refused in turn.
 fn writes_of<R: Threads + Wait + Abort + Sync>(
     rt: &R,
     alloc: Global,

@@ -82,7 +82,7 @@ y = variable (codes "Y")
 abbrev pub t_of_x : Item
 t_of_x = over (codes "t") x
 
--- so many times t(_)
+-- t(_), as often as the number says
 abbrev pub many : ℕ → List Item
 many n = replicate n (over (codes "t") (variable (codes "_")))
 

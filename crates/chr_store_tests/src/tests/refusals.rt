@@ -8,14 +8,14 @@ const AMPLE: u64 = 1_000_000;
 /// More than a call that is refused in turn asks for.
 const MOST: u64 = 60;
 
-/// Whether a growth was refused since so many were allowed. From now on memory is ample.
+/// Whether a growth was refused since `left` of them were allowed. From now on memory is ample.
 fn was_refused(meter: &Refusing<Global>, left: u64) -> bool {
     let is_refused = meter.asked() > left;
     meter.allow(AMPLE);
     is_refused
 }
 
-/// Whether `add` of q(2) to p(X) goes through with so many growths. Where it is refused the arguments come back, and go through then.
+/// Whether `add` of q(2) to p(X) goes through with `left` growths. Where it is refused the arguments come back, and go through then.
 ///
 /// For any allocator, here and below: proofs for the meter as the allocator would take much longer.
 fn is_added<M: Allocator + Copy>(
@@ -47,7 +47,7 @@ fn is_added<M: Allocator + Copy>(
     Ok(is_done)
 }
 
-/// Whether `woken` of p(X) goes through with so many growths.
+/// Whether `woken` of p(X) goes through with `left` growths.
 fn is_woken<M: Allocator + Copy>(
     rt: &impl Abort,
     meter: &Refusing<Global>,
@@ -61,7 +61,7 @@ fn is_woken<M: Allocator + Copy>(
     answer.is_ok_and(|ids| ids.as_slice() == [Id(1)].as_slice())
 }
 
-/// Whether `put` of a firing goes through with so many growths. A refused one counts for nothing, and can be called again.
+/// Whether `put` of a firing goes through with `left` growths. A refused one counts for nothing, and can be called again.
 fn is_put<M: Allocator + Copy>(
     rt: &impl Abort,
     meter: &Refusing<Global>,
@@ -86,7 +86,7 @@ enum Call {
     Put,
 }
 
-/// The same for a call, with p(X) stored and nothing fired.
+/// Whether the call goes through with `left` growths, with p(X) stored and nothing fired.
 fn is_through<M: Allocator + Copy>(
     rt: &impl Abort,
     alloc: M,

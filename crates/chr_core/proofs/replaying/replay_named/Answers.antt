@@ -8,7 +8,7 @@ use Rattle.chr_semantics.specs.Stamps.{stamp}
 use Rattle.chr_semantics.specs.State.{start}
 use Rattle.chr_semantics.specs.Step.{steps}
 use Rattle.chr_semantics.proofs.IdleLaw.{idle_law}
-use Rattle.chr_rounds.proofs.Replay.{replay_law}
+use Rattle.chr_laws.proofs.Replay.{replay_law}
 use Rattle.chr_rules.specs.ProgramView.{names_of, rules_of}
 use Rattle.chr_rules.specs.RuleView.{query_view}
 use Rattle.chr_rules.proofs.Each.{err_answers}
@@ -21,7 +21,7 @@ returns-in_err-replay_all-clause-err g c =
     let e = c.in_err-replay_all.field-0.0 in
     let all = events_view c.args.events.now in
     let same : first_refusal g.J.Run.rules (start (query_view c.in_ok-core.core.query)) no_progress 0 all ≡ first_refusal (rules_of c.args.program.now) (start (query_view c.args.query)) no_progress 0 all =
-    λ k. first_refusal (sym c.requires.rules k) (start (c.in_ok-core.ensures.query k)) no_progress 0 all in
+    λ k. first_refusal (sym c.requires.run.rules k) (start (c.in_ok-core.ensures.query k)) no_progress 0 all in
     err_answers c.from_residual-in_err-replay_all.result e (IsRefusal (first_refusal (rules_of c.args.program.now) (start (query_view c.args.query)) no_progress 0 all)) c.from_residual-in_err-replay_all.ensures.1
     (subst (λ (o : Option Refusal). IsRefusal o e) same c.in_err-replay_all.ensures.err)
 
@@ -30,9 +30,9 @@ returns-clause-ok g c =
     let p = g.J.Run.rules in
     let r = query_view c.args.query in
     let all = events_view c.args.events.now in
-    let rules = c.requires.rules in
-    let query = c.replay_all.ensures.query ∙ c.in_ok-core.ensures.query in
-    let names = c.replay_all.ensures.names ∙ c.in_ok-core.ensures.names in
+    let rules = c.requires.run.rules in
+    let query = c.replay_all.ensures.same.query_is ∙ c.in_ok-core.ensures.query in
+    let names = c.replay_all.ensures.same.names_are ∙ c.in_ok-core.ensures.names in
     let events = c.in_ok-replay_all.ensures.ok ∙ (λ k. Rattle.chr_semantics.specs.Schedule.performed p (start (c.in_ok-core.ensures.query k)) all) in
     let same = replay_law.outcome (names_of c.args.program.now) p r all in
     record {

@@ -4,10 +4,10 @@ use Rattle.chr_semantics.specs.Program.{Atom, occurrence}
 use Rattle.chr_semantics.specs.Touch.{footprint_of}
 use Rattle.chr_term.specs.declared.term.Sym.{Sym}
 use Rattle.chr_find.specs.SnapshotView.{task_view}
-use Rattle.chr_footprint.specs.Marks.{mark_stamp}
-use Rattle.chr_rounds.specs.Sums.{sum_of, task_atom}
+use Rattle.chr_laws.specs.Sums.{sum_of, task_atom}
 use Rattle.chr_machine.specs.MachineView.{machine_view}
 use Rattle.chr_machine.specs.Model.{state_in}
+use Rattle.chr_core.specs.Marks.{mark_stamp}
 use Rattle.chr_core.proofs.Found.{marks_by}
 use Rattle.chr_core.proofs.touching.task_touches.Goals as goal
 

@@ -5,7 +5,8 @@ use Rattle.chr_rules.specs.ProgramView.{names_of, rules_of}
 use Rattle.chr_rules.specs.RuleView.{query_view}
 use Rattle.chr_schedule.specs.EventView.{events_view}
 use Rattle.chr_run.specs.Replays.{IsTextReplay}
-use Rattle.chr_run.proofs.ReplayTexts.{accepted_replay, answered, unread}
+use Rattle.chr_run.proofs.Parts.{answered}
+use Rattle.chr_run.proofs.ReplayTexts.{accepted_replay, unread}
 use Rattle.chr_run.proofs.replays.replay_text.Goals as goal
 
 pub returns-in_err-events : goal.returns-in_err-events

@@ -1,5 +1,5 @@
-use Rattle.std.proofs.Common.{◌≡◌, ◌∙◌, arith, Some, ap, subst, sym, ℕ}
-use Rattle.chr_semantics.specs.Changes.{Store}
+use Rattle.std.proofs.Common.{◌≡◌, ◌∙◌, arith, Some, ap, refl, subst, sym, ℕ}
+use Rattle.chr_semantics.specs.Changes.{Store, added}
 use Rattle.chr_semantics.specs.State.{resolved_atom}
 use Rattle.chr_rules.specs.ProgramView.{rules_of}
 use Rattle.chr_store.specs.HistoryView.{entries_view}
@@ -24,10 +24,16 @@ invariant_of-self g c =
       ahead = b.ahead;
     }
 
-pub invariant_of-self-in-Break-1 : goal.invariant_of-self-in-Break-1
-invariant_of-self-in-Break-1 g c =
+pub same-shared : goal.same-shared
+same-shared g c = refl
+
+pub add-requires : goal.add-requires
+add-requires g c = c.requires
+
+pub invariant_of-self-in-Err-1 : goal.invariant_of-self-in-Err-1
+invariant_of-self-in-Err-1 g c =
     let b = c.args.self.now in
-    let same = c.in_err-id.ensures.err in
+    let same = c.in-Err.ensures.err in
     record {
       agrees = subst (λ (m : Store). Agrees m (entries_view b.history) b.bindings.subst (atom_at c.room.new.self) b.is_stale) (sym same)
           (agrees_same _ _ _ _ _ b.agrees (atom_at c.room.new.self) c.room.ensures.same);
@@ -35,26 +41,29 @@ invariant_of-self-in-Break-1 g c =
       ahead = ahead_same (rules_of b.program.now) (base_view b) _ b.bookmarks.items (λ k. record (base_view b) { store = same k }) b.ahead;
     }
 
-pub add-requires-2-clause-absent : goal.add-requires-2-clause-absent
-add-requires-2-clause-absent g c =
+pub add-requires-in-Ok-clause-room : goal.add-requires-in-Ok-clause-room
+add-requires-in-Ok-clause-room g c = c.in_ok-room.ensures.ok
+
+pub add-requires-in-Ok-clause-absent : goal.add-requires-in-Ok-clause-absent
+add-requires-in-Ok-clause-absent g c =
     let b = c.args.self.now in
     let next = (store_view b.store).next_id in
     let none = absent_there _ _ _ _ _ b.agrees next (b.agrees.given next (omega arith)) in
-    c.room.ensures.same c.in_ok-id.id.0 ∙ (ap (atom_at b.table) c.in_ok-id.ensures.id ∙ none)
+    c.room.ensures.same c.in-Ok.id.0 ∙ (ap (atom_at b.table) c.in-Ok.ensures.id ∙ none)
 
-pub invariant_of-self-2 : goal.invariant_of-self-2
-invariant_of-self-2 g c =
+pub invariant_of-self-in-Ok : goal.invariant_of-self-in-Ok
+invariant_of-self-in-Ok g c =
     let b = c.args.self.now in
-    let a = atom_over c.args.sym c.args.args in
+    let a = atom_over c.args.sym c.args.args.now in
     let next = (store_view b.store).next_id in
-    let row : row_atom c.in-Ok.row ≡ resolved_atom b.bindings.subst a = c.in-Ok.ensures in
-    let more = c.in_ok-id.ensures.ok in
-    let same : (i : ℕ) → atom_at c.add-2.new.self i ≡ atoms_with (atom_at b.table) next (Some (resolved_atom b.bindings.subst a)) i = λ i.
-    c.add-2.ensures.atoms i ∙ (λ k. atoms_with (λ j. c.room.ensures.same j k) (c.in_ok-id.ensures.id k) (Some (row k)) i)
+    let row : row_atom c.in_ok-row.row ≡ resolved_atom b.bindings.subst a = c.in_ok-row.ensures in
+    let more = c.in-Ok.ensures.ok ∙ ap (λ ts. added (store_view b.store) (record { sym = c.args.sym.0; args = ts })) c.in_ok-shared.ensures in
+    let same : (i : ℕ) → atom_at c.add-in-Ok.new.self i ≡ atoms_with (atom_at b.table) next (Some (resolved_atom b.bindings.subst a)) i = λ i.
+    c.add-in-Ok.ensures.atoms i ∙ (λ k. atoms_with (λ j. c.room.ensures.same j k) (c.in-Ok.ensures.id k) (Some (row k)) i)
     in
     record {
-      agrees = subst (λ (m : Store). Agrees m (entries_view b.history) b.bindings.subst (atom_at c.add-2.new.self) b.is_stale) (sym more)
-          (agrees_added _ _ _ _ _ b.agrees a (atom_at c.add-2.new.self) same);
+      agrees = subst (λ (m : Store). Agrees m (entries_view b.history) b.bindings.subst (atom_at c.add-in-Ok.new.self) b.is_stale) (sym more)
+          (agrees_added _ _ _ _ _ b.agrees a (atom_at c.add-in-Ok.new.self) same);
       lends = subst (λ (m : Store). Lends m (entries_view b.history) b.firings) (sym more) (lends_added _ _ _ _ _ b.agrees b.firings b.lends a);
       ahead = ahead_added (rules_of b.program.now) (base_view b) _ a b.bookmarks.items (λ k. record (base_view b) { store = more k }) b.ahead;
     }

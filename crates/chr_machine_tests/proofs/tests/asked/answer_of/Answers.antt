@@ -35,5 +35,5 @@ returns g c =
     } in
     IfOk-weaker c.find.result _ _
     (λ found says. found_answers m p t _ c.requires c.program-program.ensures.rules
-    ((says (snapshot_for_task p (state_in m) t) taken.shown).ids_are ∙ snapshot_law.own p (state_in m) t c.args.machine.now.proper.sound))
+    ((says (snapshot_for_task p (state_in m) t) taken.shown).ids_are ∙ snapshot_law.own p (state_in m) t c.args.machine.now.steady.proper.sound))
     c.find.ensures

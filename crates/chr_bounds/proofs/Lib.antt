@@ -1,4 +1,0 @@
-pub mod Matches
-pub mod Steps
-pub mod Terms
-pub mod Unifiers

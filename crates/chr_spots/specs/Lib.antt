@@ -1,3 +1,0 @@
-pub mod PlaceView
-pub mod PlacesValue
-pub mod SpotsView
