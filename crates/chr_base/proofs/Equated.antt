@@ -7,7 +7,7 @@ use Rattle.chr_semantics.specs.Changes.{Entries, Store, rebound}
 use Rattle.chr_semantics.specs.Program.{Atom}
 use Rattle.chr_semantics.specs.Subst.{Solves, Subst, value_at}
 use Rattle.chr_semantics.specs.Tree.{Tree}
-use Rattle.chr_find.specs.declared.noted_firings.NotedFirings.{NotedFirings}
+use Rattle.chr_find.specs.declared.pending_firings.PendingFirings.{PendingFirings}
 use Rattle.chr_base.specs.Agreement.{Agrees}
 use Rattle.chr_base.specs.Lending.{Lends}
 use Rattle.chr_base.proofs.Agreements.{agrees_bound, agrees_touched}
@@ -24,5 +24,5 @@ module _ (m : Store) (h : Entries) (s r : Subst) (at : ℕ → Option Atom) (sta
         subst (λ (k : Store). Agrees k h r at true) (sym touched)
         (agrees_touched _ _ _ _ _ (agrees_bound _ _ _ _ _ agrees r (mgu_makes_equal s t u agrees.solved r is.0).0 solves) ids)
 
-    pub lends_equated : {A : Type 0} (f : Option (NotedFirings A)) → Lends m h f → Lends n h f
+    pub lends_equated : {A : Type 0} (f : Option (PendingFirings A)) → Lends m h f → Lends n h f
     lends_equated f lends = subst (λ (k : Store). Lends k h f) (sym touched) (lends_touched m h s at stale agrees f lends ids)

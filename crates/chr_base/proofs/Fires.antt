@@ -17,6 +17,8 @@ use Rattle.chr_find.specs.TableView.{atoms_with}
 use Rattle.chr_find.proofs.FiredHistory.{same_ids_Decides}
 use Rattle.chr_find.proofs.Lookups.{atom_if, filter_looked, rises_filter}
 use Rattle.chr_base.specs.Agreement.{Agrees, is_alive, is_not_dead, under}
+use Rattle.chr_store.proofs.FiredRows.{same_ids_sym}
+use Rattle.chr_find.proofs.Numbers.{one_or}
 
 -- the list of entries with one more
 pub before_last : (l : History) (r : ℕ) (ids : List ℕ) (q : ℕ) (others : List ℕ) → fired_before (l ++ (r, ids) ∷ []) q others ≡ (fired_before l q others || r == q && same_ids ids others)
@@ -31,25 +33,12 @@ before_last (f ∷ l) r ids q others = ap (λ (b : Bool). (f.0 == q && same_ids 
     or_moved true c d = refl
     or_moved false c d = refl
 
-same_turned : (xs ys : List ℕ) → same_ids xs ys ≡ same_ids ys xs
-same_turned xs ys = by_tests (same_ids xs ys) (same_ids ys xs) refl refl
-  where
-    by_tests : (b c : Bool) → same_ids xs ys ≡ b → same_ids ys xs ≡ c → b ≡ c
-    by_tests true true e f = refl
-    by_tests false false e f = refl
-    by_tests true false e f = absurd (true≢false (sym ((same_ids_Decides ys xs).1 (sym ((same_ids_Decides xs ys).0 e))) ∙ f))
-    by_tests false true e f = absurd (true≢false (sym ((same_ids_Decides xs ys).1 (sym ((same_ids_Decides ys xs).0 f))) ∙ e))
-
-or_cases : (b c : Bool) → (b || c) ≡ true → (b ≡ true) ⊎ (c ≡ true)
-or_cases true c e = inl refl
-or_cases false c e = inr e
-
-and_right : (b c : Bool) → (b && c) ≡ true → c ≡ true
+pub and_right : (b c : Bool) → (b && c) ≡ true → c ≡ true
 and_right true c e = e
 and_right false c e = absurd (true≢false (sym e))
 
 pub tests_turned : (q r : ℕ) (others ids : List ℕ) → (q == r && same_ids others ids) ≡ (r == q && same_ids ids others)
-tests_turned q r others ids = (λ k. eqb_sym q r k && same_turned others ids k)
+tests_turned q r others ids = (λ k. eqb_sym q r k && same_ids_sym others ids k)
 
 module _ (m : Store) (h : Entries) (s : Subst) (at : ℕ → Option Atom) (stale : Bool) (agrees : Agrees m h s at stale) where
   alive_below : (i : ℕ) → is_alive m i ≡ true → nat_lt i m.next_id ≡ true
@@ -77,7 +66,7 @@ module _ (m : Store) (h : Entries) (s : Subst) (at : ℕ → Option Atom) (stale
     agrees_entered = record {
       rises = agrees.rises;
       given = agrees.given;
-      entered = λ q others e. all_below q others (or_cases (fired_before h.list q others) (r == q && same_ids ids others) (sym (before_last h.list r ids q others) ∙ (ap (λ (l : History). fired_before l q others) (sym list_is) ∙ e)));
+      entered = λ q others e. all_below q others (one_or (fired_before h.list q others) (r == q && same_ids ids others) (sym (before_last h.list r ids q others) ∙ (ap (λ (l : History). fired_before l q others) (sym list_is) ∙ e)));
       solved = agrees.solved;
       shown = agrees.shown;
       resolved = agrees.resolved;

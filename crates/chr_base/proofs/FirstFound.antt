@@ -21,6 +21,8 @@ use Rattle.chr_base.specs.Entering.{CanEnter}
 use Rattle.chr_base.specs.Model.{BaseModel, rows_of}
 use Rattle.chr_base.specs.Searching.{FindsFirst}
 use Rattle.chr_base.proofs.Searched.{looked_resolved, some_under}
+use Rattle.chr_semantics.proofs.Plain.{some_same}
+use Rattle.chr_laws.proofs.Risen.{below_next}
 
 -- each row is found by its identity
 later_looked : (x : Row) (all rows : List Row) (lo hi : ℕ) → x.0 < lo → Ascends lo rows hi → All (λ (r : Row). atom_of all r.0 ≡ Some r.1) rows → All (λ (r : Row). atom_of (x ∷ all) r.0 ≡ Some r.1) rows
@@ -40,18 +42,6 @@ all_looked (r ∷ rows) lo hi h =
     All-cons (λ (x : Row). atom_of (r ∷ rows) x.0 ≡ Some x.1) r rows (ap (λ (b : Bool). cond b (Some r.1) (atom_of rows r.0)) (eq-eqb r.0 r.0 refl))
     (later_looked r rows rows (r.0 + 1) hi (omega arith) h.1 (all_looked rows (r.0 + 1) hi h.1))
 
--- the identity of a constraint that lives was given
-given_below : (lo hi i : ℕ) (xs : List Row) (b : Atom) → Ascends lo xs hi → atom_of xs i ≡ Some b → i < hi
-given_below lo hi i [] b up e = absurd (none_some b e)
-  where
-    none_some : (c : Atom) → ◌≡◌ {A = Option Atom} None (Some c) → ⊥
-    none_some c e = cc
-given_below lo hi i (x ∷ xs) b up e = by_test (x.0 == i) refl e (λ rest. given_below (x.0 + 1) hi i xs b up.1 rest)
-  where
-    by_test : (t : Bool) → (x.0 == i) ≡ t → cond t (Some x.1) (atom_of xs i) ≡ Some b → (atom_of xs i ≡ Some b → i < hi) → i < hi
-    by_test true same f rest = let ends = Ascends-ends (x.0 + 1) hi xs up.1 in let here : x.0 ≡ i = (Decides-eqb x.0 i).0 same in omega (arith, ends, here)
-    by_test false other f rest = rest f
-
 -- a constraint lives where it does with the bindings applied
 pub lives_resolved : (b : BaseModel) (i : ℕ) → is_some (atom_of (rows_of b) i) ≡ is_alive b.store i
 lives_resolved b i = ap is_some (looked_resolved b.subst b.store.rows i) ∙ some_under b.subst (atom_of b.store.rows i)
@@ -61,9 +51,6 @@ all_alive b [] h = refl
 all_alive b (r ∷ t) h =
     let here : is_alive b.store r.0 ≡ true = sym (lives_resolved b r.0) ∙ ap is_some (All-head (λ (r : Row). atom_of (rows_of b) r.0 ≡ Some r.1) r t h) in
     ap (λ (x : Bool). x && list_all (is_alive b.store) (ids_of t)) here ∙ all_alive b t (All-tail (λ (r : Row). atom_of (rows_of b) r.0 ≡ Some r.1) r t h)
-
-some_ids : (x y : List ℕ) → ◌≡◌ {A = Option (List ℕ)} (Some x) (Some y) → x ≡ y
-some_ids x y e = cc
 
 -- the rule fires with these constraints, one for each head, which fit and live, differ, and have not fired so
 pub record FirstRows {A : Type 0} (b : BaseModel) (s : Active A) (ids : List ℕ) : Type 0 where
@@ -114,7 +101,7 @@ module _ {A : Type 0} (b : BaseModel) (s : Active A) (ids : List ℕ) (ascends :
         alive = ap (list_all (is_alive b.store)) is ∙ all_alive b t stood.1;
         different = subst (λ (is : List ℕ). AllPairs (λ i j. i ≢ j) is) (sym is) tuple.different;
         is_new = ap (fired_before h s.number) is ∙ not-true (fired_before h s.number (ids_of t)) parts.1;
-        given = given_below 0 b.store.next_id s.id.0 all own up living;
+        given = below_next 0 b.store.next_id s.id.0 all own up living;
       }
 
   -- so it is of what the search finds for a constraint that lives
@@ -123,7 +110,7 @@ module _ {A : Type 0} (b : BaseModel) (s : Active A) (ids : List ℕ) (ascends :
     where
       by_tuple : (own : Atom) (o : Option (List Row)) → atom_of all s.id.0 ≡ Some own → first_tuple all h s.number rule s.place (s.id.0, own) ≡ o → Some ids ≡ option_map ids_of o → FirstRows b s ids
       by_tuple own None living first e = cc
-      by_tuple own (Some t) living first e = with_tuple own t living first (some_ids ids (ids_of t) e)
+      by_tuple own (Some t) living first e = with_tuple own t living first (some_same ids (ids_of t) e)
 
       by_atom : (o : Option Atom) → atom_of all s.id.0 ≡ o → FirstRows b s ids
       by_atom None e = let there = lives_resolved b s.id.0 in let none = ap is_some e in cc

@@ -10,13 +10,14 @@ use Rattle.chr_semantics.specs.Program.{Atom}
 use Rattle.chr_semantics.specs.Search.{atom_of, fired_before, has_number, same_ids}
 use Rattle.chr_semantics.specs.Subst.{Subst}
 use Rattle.chr_store.specs.declared.fired.Fired.{Fired}
-use Rattle.chr_find.specs.NotedFiringsView.{noted_in}
-use Rattle.chr_find.specs.declared.noted_firings.NotedFirings.{NotedFirings}
-use Rattle.chr_find.proofs.FiredHistory.{same_ids_Decides}
+use Rattle.chr_find.specs.PendingFiringsView.{noted_in}
+use Rattle.chr_find.specs.declared.pending_firings.PendingFirings.{PendingFirings}
+use Rattle.chr_find.proofs.FiredHistory.{both_true, same_ids_Decides}
 use Rattle.chr_base.specs.Agreement.{Agrees, is_alive, is_not_dead}
 use Rattle.chr_base.specs.Lending.{AreAlike, AreLent, IsNoted, Lends}
 use Rattle.chr_base.proofs.Agreements as agreements
-use Rattle.chr_base.proofs.Fires.{before_last, is_dead, tests_turned, was_not_dead}
+use Rattle.chr_base.proofs.Fires.{and_right, before_last, is_dead, tests_turned, was_not_dead}
+use Rattle.std.proofs.lemmas.Option.{none-some}
 
 -- the entries with one that is new
 entered_before : (h : Entries) (r : ℕ) (ids : List ℕ) → fired_before h.list r ids ≡ false → (q : ℕ) (others : List ℕ) → fired_before (entered h r ids).list q others ≡ (fired_before h.list q others || q == r && same_ids others ids)
@@ -39,14 +40,6 @@ either_not true c h = refl
 either_not false true h = sym (h refl)
 either_not false false h = refl
 
-right_of : (b c : Bool) → (b && c) ≡ true → c ≡ true
-right_of true c e = e
-right_of false c e = let no : true ≡ false = sym e in cc
-
-pub and_one : (b c : Bool) → (b ≡ true → c ≡ true) → (b && c) ≡ b
-and_one true c h = h refl
-and_one false c h = refl
-
 -- who is not dead and below the next identity lives
 pub all_but : (p : ℕ → Bool) (n : ℕ) (ids : List ℕ) → list_all (λ i. p i || nat_le n i) ids ≡ true → list_all (λ i. nat_lt i n) ids ≡ true → list_all p ids ≡ true
 all_but p n [] live below = refl
@@ -59,17 +52,14 @@ all_but p n (i ∷ ids) live below =
     or_first true c none e = refl
     or_first false c none e = sym none ∙ e
 
-none_some : {T : Type 0} (x : T) → ◌≡◌ {A = Option T} None (Some x) → ⊥
-none_some x e = cc
-
 some_same : {T : Type 0} (x y : T) → ◌≡◌ {A = Option T} (Some x) (Some y) → x ≡ y
 some_same x y e = cc
 
 -- where none are kept
 pub lends_none : {A : Type 0} (m : Store) (h : Entries) → Lends {A = A} m h None
-lends_none m h g is = absurd (none_some g is)
+lends_none m h g is = absurd (none-some g is)
 
-module _ {A : Type 0} (m : Store) (h : Entries) (s : Subst) (at : ℕ → Option Atom) (stale : Bool) (agrees : Agrees m h s at stale) (f : Option (NotedFirings A)) (lends : Lends m h f) where
+module _ {A : Type 0} (m : Store) (h : Entries) (s : Subst) (at : ℕ → Option Atom) (stale : Bool) (agrees : Agrees m h s at stale) (f : Option (PendingFirings A)) (lends : Lends m h f) where
   -- where those that are not dead were not dead before
   later : (n : Store) → ((i : ℕ) → is_not_dead n i ≡ true → is_not_dead m i ≡ true) → Lends n h f
   later n before g is r ids live = lends g is r ids (list_all-more (is_not_dead n) (is_not_dead m) ids before live)
@@ -85,24 +75,24 @@ module _ {A : Type 0} (m : Store) (h : Entries) (s : Subst) (at : ℕ → Option
   lends_removed i a there = later (removed m i) (was_not_dead m h s at stale agrees i a there)
 
   -- where the same firings are kept
-  alike : (o p : Option (NotedFirings A)) (g : NotedFirings A) → f ≡ o → AreAlike o p → p ≡ Some g → AreLent m h (noted_in g)
-  alike None None g was same is = absurd (none_some g is)
+  alike : (o p : Option (PendingFirings A)) (g : PendingFirings A) → f ≡ o → AreAlike o p → p ≡ Some g → AreLent m h (noted_in g)
+  alike None None g was same is = absurd (none-some g is)
   alike None (Some k) g was same is = absurd same
   alike (Some k) None g was same is = absurd same
-  alike (Some k) (Some l) g was same is = subst (λ (x : NotedFirings A). AreLent m h (noted_in x)) (some_same l g is) (λ r ids live. same r ids ∙ lends k was r ids live)
+  alike (Some k) (Some l) g was same is = subst (λ (x : PendingFirings A). AreLent m h (noted_in x)) (some_same l g is) (λ r ids live. same r ids ∙ lends k was r ids live)
 
-  pub lends_alike : (p : Option (NotedFirings A)) → AreAlike f p → Lends m h p
+  pub lends_alike : (p : Option (PendingFirings A)) → AreAlike f p → Lends m h p
   lends_alike p same g is = alike f p g refl same is
 
   -- where a firing is noted and entered
-  noted : (x : Fired) (o p : Option (NotedFirings A)) (g : NotedFirings A) → fired_before h.list x.rule x.ids ≡ false → f ≡ o → IsNoted x o p → p ≡ Some g → AreLent m (entered h x.rule x.ids) (noted_in g)
-  noted x None None g is_new was note is = absurd (none_some g is)
+  noted : (x : Fired) (o p : Option (PendingFirings A)) (g : PendingFirings A) → fired_before h.list x.rule x.ids ≡ false → f ≡ o → IsNoted x o p → p ≡ Some g → AreLent m (entered h x.rule x.ids) (noted_in g)
+  noted x None None g is_new was note is = absurd (none-some g is)
   noted x None (Some k) g is_new was note is = absurd note
   noted x (Some k) None g is_new was note is = absurd note
-  noted x (Some k) (Some l) g is_new was note is = subst (λ (y : NotedFirings A). AreLent m (entered h x.rule x.ids) (noted_in y)) (some_same l g is)
+  noted x (Some k) (Some l) g is_new was note is = subst (λ (y : PendingFirings A). AreLent m (entered h x.rule x.ids) (noted_in y)) (some_same l g is)
       (λ q ids live. note q ids ∙ (ap (λ (b : Bool). b || q == x.rule && same_ids ids x.ids) (lends k was q ids live) ∙ sym (entered_before h x.rule x.ids is_new q ids)))
 
-  pub lends_noted : (x : Fired) (p : Option (NotedFirings A)) → fired_before h.list x.rule x.ids ≡ false → IsNoted x f p → Lends m (entered h x.rule x.ids) p
+  pub lends_noted : (x : Fired) (p : Option (PendingFirings A)) → fired_before h.list x.rule x.ids ≡ false → IsNoted x f p → Lends m (entered h x.rule x.ids) p
   lends_noted x p is_new note g is = noted x f p g is_new refl note is
 
   -- where a firing is entered of which a constraint is removed
@@ -110,14 +100,14 @@ module _ {A : Type 0} (m : Store) (h : Entries) (s : Subst) (at : ℕ → Option
   lends_gone x i a is_new there among g is q ids live =
       lends g is q ids (list_all-more (is_not_dead (removed m i)) (is_not_dead m) ids (was_not_dead m h s at stale agrees i a there) live)
       ∙ (either_not (fired_before h.list q ids) (q == x.rule && same_ids ids x.ids) (λ e.
-      sym among ∙ (ap (λ (l : List ℕ). has_number l i) (sym ((same_ids_Decides ids x.ids).0 (right_of (q == x.rule) (same_ids ids x.ids) e))) ∙ no_number (is_not_dead (removed m i)) i ids (is_dead m h s at stale agrees i a there) live))
+      sym among ∙ (ap (λ (l : List ℕ). has_number l i) (sym ((same_ids_Decides ids x.ids).0 (and_right (q == x.rule) (same_ids ids x.ids) e))) ∙ no_number (is_not_dead (removed m i)) i ids (is_dead m h s at stale agrees i a there) live))
       ∙ sym (entered_before h x.rule x.ids is_new q ids))
 
 -- what has fired with constraints that live, where firings begin to be kept
 pub lent_begun : (m : Store) (h : Entries) (s : Subst) (at : ℕ → Option Atom) (stale : Bool) → Agrees m h s at stale → (fired : ℕ → List ℕ → Bool) → ((r : ℕ) (ids : List ℕ) → fired r ids ≡ (fired_before h.list r ids && list_all (is_alive m) ids)) → AreLent m h fired
 lent_begun m h s at stale agrees fired is r ids live =
-    is r ids ∙ and_one (fired_before h.list r ids) (list_all (is_alive m) ids) (λ e. all_but (is_alive m) m.next_id ids live (agrees.entered r ids e))
+    is r ids ∙ both_true (fired_before h.list r ids) (list_all (is_alive m) ids) (λ e. all_but (is_alive m) m.next_id ids live (agrees.entered r ids e))
 
 -- where these are kept
-pub lends_these : {A : Type 0} (m : Store) (h : Entries) (f : NotedFirings A) → AreLent m h (noted_in f) → Lends m h (Some f)
-lends_these m h f lent g is = subst (λ (x : NotedFirings _). AreLent m h (noted_in x)) (some_same f g is) lent
+pub lends_these : {A : Type 0} (m : Store) (h : Entries) (f : PendingFirings A) → AreLent m h (noted_in f) → Lends m h (Some f)
+lends_these m h f lent g is = subst (λ (x : PendingFirings _). AreLent m h (noted_in x)) (some_same f g is) lent

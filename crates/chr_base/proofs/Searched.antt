@@ -8,7 +8,10 @@ use Rattle.chr_semantics.specs.Program.{Atom, Rule}
 use Rattle.chr_semantics.specs.Search.{atom_of, ids_of}
 use Rattle.chr_semantics.specs.State.{goal, resolved_atom}
 use Rattle.chr_semantics.specs.Step.{body_of}
-use Rattle.chr_semantics.specs.Subst.{Subst}
+use Rattle.std.proofs.lemmas.Option.{none-some}
+use Rattle.chr_semantics.proofs.Ground.{ground_stays_all}
+use Rattle.chr_semantics.specs.Subst.{Subst, value_at}
+use Rattle.chr_semantics.specs.Tree.{Trees, is_ground_trees}
 use Rattle.chr_rules.specs.RuleView.{goal_view}
 use Rattle.chr_rules.specs.declared.goal.Goal.{Goal}
 use Rattle.chr_base.specs.Standing.{AreStanding}
@@ -67,6 +70,16 @@ module _ {A : Type 0} (b : Base A) (fresh : IsFresh b) where
 
   pub found_next : (s : Active A) (at : Cursor) (found : Option (List ℕ)) → table.FindsNext (base_view b).entries.list b.table s at found → FindsNext (base_view b) s at found
   found_next s at found f a e = f (rows_of (base_view b)) table_rows a (table_own s.id.0 a e)
+
+  -- one that was stored without variables stands in the table as it is in the store
+  pub ground_stands : (i : ℕ) (a : Atom) → Some a ≡ atom_of (base_view b).store.rows i → is_ground_trees a.args ≡ true → Some a ≡ atom_at b.table i
+  ground_stands i a there ground =
+      let same : resolved_atom b.bindings.subst a ≡ a = ap (λ (ts : Trees). record a { args = ts }) (ground_stays_all (value_at b.bindings.subst) a.args ground) in
+      sym (table_atom i ∙ (ap (under b.bindings.subst) (sym there) ∙ ap Some same))
+
+  -- what does not stand there is nothing to search for
+  pub found_none : (s : Active A) → None ≡ atom_at b.table s.id.0 → FindsFirst (base_view b) s None
+  found_none s none a e = absurd (none-some a (none ∙ table_own s.id.0 a e))
 
   -- what does not live does not stand in the table
   pub found_dead : (i : ℕ) → atom_of (base_view b).store.rows i ≡ None → atom_at b.table i ≡ None

@@ -10,11 +10,11 @@ use Rattle.chr_semantics.specs.Snapshot.{snapshot_for}
 use Rattle.chr_semantics.specs.State.{State, resolved_atom, rows}
 use Rattle.chr_semantics.specs.Subst.{Subst}
 use Rattle.chr_semantics.specs.Tasks.{Task}
-use Rattle.chr_find.specs.NotedFiringsView.{noted_in}
+use Rattle.chr_find.specs.PendingFiringsView.{noted_in}
 use Rattle.chr_find.specs.SnapshotView.{IsTaken}
 use Rattle.chr_find.specs.SnapshotView.{is_not_dead as is_not_dead_in}
 use Rattle.chr_find.specs.TableView.{HasRows}
-use Rattle.chr_find.specs.declared.noted_firings.NotedFirings.{NotedFirings}
+use Rattle.chr_find.specs.declared.pending_firings.PendingFirings.{PendingFirings}
 use Rattle.chr_find.proofs.TakenFirings.{fired_live, live_all}
 use Rattle.chr_base.specs.Agreement.{is_alive, is_not_dead}
 use Rattle.chr_base.specs.BaseView.{IsFresh, base_view}
@@ -22,14 +22,15 @@ use Rattle.chr_base.specs.Lending.{AreLent}
 use Rattle.chr_base.specs.Model.{rows_of}
 use Rattle.chr_base.specs.Sharing.{IsStateOf}
 use Rattle.chr_base.specs.declared.base.Base.{Base}
-use Rattle.chr_base.proofs.Lent.{all_but, and_one}
+use Rattle.chr_base.proofs.Lent.{all_but}
 use Rattle.chr_base.proofs.Searched.{table_lives, table_rows}
+use Rattle.chr_find.proofs.FiredHistory.{both_true}
 
 ids_resolved : (s : State) (rs : List Row) → ids_of (map (λ (r : Row). (r.0, resolved_atom s.subst r.1)) rs) ≡ ids_of rs
 ids_resolved s [] = refl
 ids_resolved s (r ∷ rs) = ap (λ (l : List ℕ). r.0 ∷ l) (ids_resolved s rs)
 
-module _ {A : Type 0} (b : Base A) (fresh : IsFresh b) (f : NotedFirings A) (kept : b.firings ≡ Some f) (s : State) (of : IsStateOf (base_view b) s) where
+module _ {A : Type 0} (b : Base A) (fresh : IsFresh b) (f : PendingFirings A) (kept : b.firings ≡ Some f) (s : State) (of : IsStateOf (base_view b) s) where
   rows_are : rows_of (base_view b) ≡ rows s
   rows_are = sym (λ k. map (λ (r : Row). (r.0, resolved_atom (of.subst k) r.1)) (of.store k))
 
@@ -49,7 +50,7 @@ module _ {A : Type 0} (b : Base A) (fresh : IsFresh b) (f : NotedFirings A) (kep
       ∙ ap (λ (h : History). fired_before h r ids && list_all (has_number (ids_of (rows s))) ids) of.history
       ∙ ap (λ (l : List ℕ). fired_before (base_view b).entries.list r ids && list_all (has_number l) ids) (ids_resolved s s.store ∙ ap ids_of of.store)
       ∙ ap (λ (w : Bool). fired_before (base_view b).entries.list r ids && w) (sym (live_all (base_view b).store.rows ids))
-      ∙ and_one (fired_before (base_view b).entries.list r ids) (list_all (is_alive (base_view b).store) ids) (entry_lives r ids live)
+      ∙ both_true (fired_before (base_view b).entries.list r ids) (list_all (is_alive (base_view b).store) ids) (entry_lives r ids live)
       ∙ sym (lent r ids live)
 
   pub taken_is : (ts us : List Task) (g : Option Atom) (h : Option Atom) → us ≡ ts → h ≡ option_map (resolved_atom (base_view b).subst) g → IsTaken b.table (noted_in f) (base_view b).store.next_id us h (snapshot_for s ts g)

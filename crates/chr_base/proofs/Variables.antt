@@ -13,22 +13,7 @@ use Rattle.chr_term.specs.declared.term.Term.{Term}
 use Rattle.chr_term.specs.declared.term.Term.TheVariants.{Var}
 use Rattle.chr_bind.specs.Matching.{AgreesWith, matched_tree}
 use Rattle.chr_bind.specs.declared.matching.Match.{Match}
-
-matched_step : (b : Bool) (u t w : Tree) (o : Option Tree) → (o ≡ Some t → w ≡ t) → cond b (Some u) o ≡ Some t → cond b u w ≡ t
-matched_step true u t w o f e = cc
-matched_step false u t w o f e = f e
-
-matched_value : (m : Subst) (x : ℕ) (t : Tree) → match_at m x ≡ Some t → value_at m x ≡ t
-matched_value [] x t e = cc
-matched_value (p ∷ m) x t e = matched_step (p.0 == x) p.1 t (value_at m x) (match_at m x) (matched_value m x t) e
-
-free_step : (b : Bool) (u v w : Tree) (o : Option Tree) → (o ≡ None → w ≡ v) → cond b (Some u) o ≡ None → cond b u w ≡ v
-free_step true u v w o f e = cc
-free_step false u v w o f e = f e
-
-free_value : (m : Subst) (x : ℕ) → match_at m x ≡ None → value_at m x ≡ var x
-free_value [] x e = refl
-free_value (p ∷ m) x e = free_step (p.0 == x) p.1 (var x) (value_at m x) (match_at m x) (free_value m x) e
+use Rattle.chr_bind.proofs.Instances.{free_value, matched_value}
 
 in_heads : (rule : Rule) (m : Subst) (next x : ℕ) → x < rule.head_vars → in_body rule m next x ≡ value_at m x
 in_heads rule m next x lt = ap (λ b. cond b (value_at m x) (var (next + (x - rule.head_vars)))) (lt-ltb x rule.head_vars lt)

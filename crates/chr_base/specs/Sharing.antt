@@ -2,14 +2,14 @@
 use Rattle.std.specs.Prelude.{◌≡◌, Option, None, Some}
 use Rattle.chr_semantics.specs.State.{State}
 use Rattle.chr_find.specs.TableView.{IsForAll, IsKeyed}
-use Rattle.chr_find.specs.NotedFiringsView.{IsSettled}
-use Rattle.chr_find.specs.declared.noted_firings.NotedFirings.{NotedFirings}
+use Rattle.chr_find.specs.PendingFiringsView.{IsSettled}
+use Rattle.chr_find.specs.declared.pending_firings.PendingFirings.{PendingFirings}
 use Rattle.chr_base.specs.BaseView.{IsFresh}
 use Rattle.chr_base.specs.Model.{BaseModel}
 use Rattle.chr_base.specs.declared.base.Base.{Base}
 
 -- the firings are kept, and all are entered
-abbrev pub AreKept : {A : Type 0} → Option (NotedFirings A) → Type 0
+abbrev pub AreKept : {A : Type 0} → Option (PendingFirings A) → Type 0
 AreKept None = ⊥
 AreKept (Some f) = IsSettled f
 

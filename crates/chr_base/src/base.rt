@@ -17,7 +17,7 @@ ghost use Rattle.chr_base.specs.Lending.{Lends};
 use crate::Memory;
 use crate::bookmark::Bookmark;
 use chr_bind::Bindings;
-use chr_find::{NotedFirings, Plan, Table};
+use chr_find::{PendingFirings, Plan, Table};
 use chr_map::Pointer;
 use chr_rules::Program;
 use chr_store::{History, Id, Row, Store};
@@ -34,7 +34,7 @@ pub struct Base<'p, A: Allocator = Global> {
     pub(crate) history: History<A>,
     pub(crate) table: Table<A>,
     /// What has fired, for snapshots: it is kept from the first one on.
-    pub(crate) firings: Option<NotedFirings<A>>,
+    pub(crate) firings: Option<PendingFirings<A>>,
     /// Whether variables were bound since the table's rows were resolved.
     pub(crate) is_stale: bool,
     /// A stack: the last one alone is looked at.
@@ -108,24 +108,26 @@ impl<'p, A: Allocator + Copy> Base<'p, A> {
     }
 
     /// The row of a constraint with the bindings applied.
-    pub(crate) fn resolved_row(&self, sym: Sym, args: &Args<A>) -> Result<Row<A>, Memory>
+    pub fn resolved_row(&self, sym: Sym, args: &Args<A>) -> Result<Row<A>, Memory>
         ensures { IfOk result (λ row. row_atom row
-            ≡ resolved_atom self.now.bindings.subst (atom_over sym args.now)) }
+            ≡ resolved_atom (base_view self.now).subst (atom_over sym args.now)) }
     {
         let args = self.bindings.resolve_args(args)?;
         Ok(Row { sym, args })
     }
 
-    /// Adds a constraint under the next identity. Where memory is refused, nothing changes.
-    pub fn add(&mut self, sym: Sym, args: &Args<A>) -> Result<Id, Memory>
-        requires { (base_view self.old).store.changes < MAX_CHANGES }
+    /// Adds a constraint, with its row to which the bindings are applied, under the next identity. Where memory is refused, nothing
+    /// changes.
+    pub fn add(&mut self, sym: Sym, args: &Args<A>, row: Row<A>) -> Result<Id, Memory>
+        requires few { (base_view self.old).store.changes < MAX_CHANGES }
+        requires resolved { row_atom row
+            ≡ resolved_atom (base_view self.old).subst (atom_over sym args.now) }
         ensures ok { OnOk result (base_view self.new
             ≡ record (base_view self.old) { store = added (base_view self.old).store (atom_over sym args.now) }) }
         ensures id { IfOk result (λ id. id.0 ≡ (base_view self.old).store.next_id) }
         ensures err { OnErr result (base_view self.new ≡ base_view self.old) }
         ensures program { program_of self.new ≡ program_of self.old }
     {
-        let row = self.resolved_row(sym, args)?;
         let shared = args.share()?;
         self.table.room(1)?;
         match self.store.add(sym, shared) {

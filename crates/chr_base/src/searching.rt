@@ -1,19 +1,20 @@
 //! The search for partners, which goes on where the last one for the same constraint at the same head ended.
-ghost use Rattle.std.specs.Prelude.{◌≡◌, ◌<◌, IfOk, None, OnOk, Some, map, slice_get, vec_capacity, vec_len};
+ghost use Rattle.std.specs.Prelude.{◌≡◌, ◌<◌, IfOk, None, OnOk, Some, map, option_map, slice_get, vec_capacity, vec_len};
 ghost use Rattle.chr_semantics.specs.Bounds.{IsBounded};
 ghost use Rattle.chr_semantics.specs.Search.{atom_of};
 ghost use Rattle.chr_semantics.specs.State.{goal};
 ghost use Rattle.chr_rules.specs.ProgramView.{rules_of};
 ghost use Rattle.chr_rules.specs.RuleView.{goal_view, rule_view};
+ghost use Rattle.chr_store.specs.Rows.{row_atom};
 ghost use Rattle.chr_find.specs.SearchView.{IsSearchable};
-ghost use Rattle.chr_find.specs.TableView.{IsFor};
+ghost use Rattle.chr_find.specs.TableView.{IsFor, atom_at};
 
 use crate::Memory;
 use crate::base::Base;
 use crate::heads::build_fired;
 use chr_find::{Active, Cursor};
 use chr_rules::{Goal, Rule};
-use chr_store::{HeadIds, Id};
+use chr_store::{HeadIds, Id, Row};
 use std::alloc::Allocator;
 
 impl<'p, A: Allocator + Copy> Base<'p, A> {
@@ -85,6 +86,19 @@ impl<'p, A: Allocator + Copy> Base<'p, A> {
         self.forget(id);
     }
 
+    /// The row of a constraint with the bindings applied. That of one that was stored without variables stands in the store as it is.
+    pub(crate) fn row(&self, id: Id) -> Option<&Row<A>>
+        requires { IsFresh self.now }
+        ensures { option_map (λ row. row_atom row.now) result ≡ atom_at self.now.table id.0 }
+    {
+        if let Some(row) = self.store.row(id) {
+            if row.args.is_ground() {
+                return Some(row);
+            }
+        }
+        self.table.row(id)
+    }
+
     /// What the search finds in a table that is ready for the active constraint.
     fn found(&self, active: &Active<'_, A>) -> Result<Option<HeadIds>, Memory>
         requires searchable { IsSearchable active.now.rule.now active.now.place }
@@ -96,10 +110,16 @@ impl<'p, A: Allocator + Copy> Base<'p, A> {
         ensures dead { atom_of (base_view self.now).store.rows active.now.id.0 ≡ None →
             IfOk result (λ found. found ≡ None) }
     {
+        let row = match self.row(active.id) {
+            None => return Ok(None),
+            Some(row) => row,
+        };
         let mut tries = 0;
         match self.cursor(active) {
-            None => self.table.first(active, &self.history, &mut tries),
-            Some(cursor) => self.table.next(active, &self.history, &cursor, &mut tries),
+            None => self.table.first(active, row, &self.history, &mut tries),
+            Some(cursor) => self
+                .table
+                .next(active, row, &self.history, &cursor, &mut tries),
         }
     }
 
@@ -131,6 +151,6 @@ impl<'p, A: Allocator + Copy> Base<'p, A> {
         ensures { IfOk result (λ built. IsBodyFor (base_view self.now) (rule_view rule.now) ids.now (map (λ g. goal (goal_view g)) built.items)) }
     {
         let next = self.bindings.len();
-        build_fired(self.alloc, &self.table, rule, ids.as_slice(), next)
+        build_fired(self.alloc, self, rule, ids.as_slice(), next)
     }
 }

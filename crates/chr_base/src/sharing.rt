@@ -8,14 +8,14 @@ ghost use Rattle.chr_base.specs.Lending.{AreAlike, HasPlace, IsNoted};
 
 use crate::Memory;
 use crate::base::Base;
-use chr_find::{NotedFirings, Snapshot, Task};
+use chr_find::{PendingFirings, Snapshot, Task};
 use chr_store::{Fired, Row};
 use chr_term::{Args, Sym};
 use std::alloc::Allocator;
 
 /// Makes room for a firing, where firings are kept.
 pub(crate) fn room_to_note<A: Allocator + Copy>(
-    firings: &mut Option<NotedFirings<A>>,
+    firings: &mut Option<PendingFirings<A>>,
 ) -> Result<(), Memory>
     ensures same { AreAlike firings.old firings.new }
     ensures ok { OnOk result (HasPlace firings.new) }
@@ -27,7 +27,7 @@ pub(crate) fn room_to_note<A: Allocator + Copy>(
 }
 
 /// Notes a firing, where firings are kept.
-pub(crate) fn note<A: Allocator + Copy>(firings: &mut Option<NotedFirings<A>>, fired: &Fired)
+pub(crate) fn note<A: Allocator + Copy>(firings: &mut Option<PendingFirings<A>>, fired: &Fired)
     requires { HasPlace firings.old }
     ensures { IsNoted fired.now firings.old firings.new }
 {
@@ -49,7 +49,7 @@ impl<'p, A: Allocator + Copy> Base<'p, A> {
         match &mut self.firings {
             Some(firings) => firings.settle(),
             None => {
-                let mut firings = NotedFirings::of(self.alloc, &self.store, &self.history)?;
+                let mut firings = PendingFirings::of(self.alloc, &self.store, &self.history)?;
                 firings.settle()?;
                 self.firings = Some(firings);
                 Ok(())

@@ -6,7 +6,6 @@ use Rattle.std.proofs.lemmas.Option.{slice_get_within}
 use Rattle.chr_semantics.specs.Tree.{Tree, var}
 use Rattle.chr_semantics.specs.Subst.{Subst, value_at, apply, occurs, with_binding, IsSolved}
 use Rattle.chr_semantics.proofs.Instances.{instance-solves}
-use Rattle.chr_semantics.proofs.Lists.{eqb_other}
 use Rattle.chr_semantics.proofs.SolvedLaw.{solved_twice}
 use Rattle.chr_semantics.proofs.UnifierEqual.{IsFree, apply-bound, apply_absent, bound_is, bound_solved, here, one}
 use Rattle.std.specs.Borrow.{Bor}
@@ -19,6 +18,7 @@ use Rattle.chr_bind.specs.declared.chains.Link.TheVariants.{Free, Follows, Bound
 use Rattle.std.proofs.lemmas.List.{length-set}
 use Rattle.chr_bind.proofs.Changed.{free_count-set, slice_get-before, slice_get-last, slice_get-set_other, slice_get-set_same}
 use Rattle.chr_bind.proofs.Links.{has_pair, linked_at}
+use Rattle.std.proofs.lemmas.Bool.{ne_eqb}
 
 extension_by-last : (s : Subst) (es : Pairs) (e : ℕ × Tree) → extension_by s (es ++ e ∷ []) ≡ with_binding e.0 (apply (extension_by s es) e.1) (extension_by s es)
 extension_by-last s [] e = refl
@@ -111,7 +111,7 @@ module _ (links : List Link) (pairs : Pairs) (x n : ℕ) (t : Tree) (h : IsSound
   y_after y e = value_after y ∙ ap (apply (one n (apply (solution pairs) t))) e ∙ stays
 
   other_after : (y m : ℕ) → value_at (solution pairs) y ≡ var m → n ≢ m → value_at (solution (pairs ++ (n, t) ∷ [])) y ≡ var m
-  other_after y m e ne = value_after y ∙ ap (apply (one n (apply (solution pairs) t))) e ∙ ap (λ b. cond b (apply (solution pairs) t) (var m)) (eqb_other n m ne)
+  other_after y m e ne = value_after y ∙ ap (apply (one n (apply (solution pairs) t))) e ∙ ap (λ b. cond b (apply (solution pairs) t) (var m)) (ne_eqb n m ne)
 
   stands_after : (y : ℕ) (i : ℕ) → StandsFor (solution pairs) y (slice_get pairs i) → StandsFor (solution (pairs ++ (n, t) ∷ [])) y (slice_get (pairs ++ (n, t) ∷ []) i)
   stands_after y i k =

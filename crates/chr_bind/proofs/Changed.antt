@@ -24,7 +24,7 @@ slice_get-before [] i a b h = cc
 slice_get-before (x ∷ xs) zero a b h = h
 slice_get-before (x ∷ xs) (suc i) a b h = slice_get-before xs i a b h
 
-set_back : {A : Type 0} (xs : List A) (i : ℕ) (a b : A) → slice_get xs i ≡ Some b → set (set xs i a) i b ≡ xs
+pub set_back : {A : Type 0} (xs : List A) (i : ℕ) (a b : A) → slice_get xs i ≡ Some b → set (set xs i a) i b ≡ xs
 set_back [] i a b h = cc
 set_back (x ∷ xs) zero a b h = let same : x ≡ b = cc in ap (λ y. y ∷ xs) (sym same)
 set_back (x ∷ xs) (suc i) a b h = ap (λ ys. x ∷ ys) (set_back xs i a b h)
@@ -40,9 +40,14 @@ pub links_before-last : (es : List (ℕ × Link)) (e : ℕ × Link) (links : Lis
 links_before-last [] e links = refl
 links_before-last (f ∷ es) e links = ap (λ ls. set ls f.0 f.1) (links_before-last es e links)
 
--- a change that is remembered is undone
-pub links_before-change : (es : List (ℕ × Link)) (links : List Link) (i : ℕ) (l k : Link) → slice_get links i ≡ Some k → links_before (es ++ (i, k) ∷ []) (set links i l) ≡ links_before es links
-links_before-change es links i l k h = links_before-last es (i, k) (set links i l) ∙ ap (links_before es) (set_back links i l k h)
+-- and all later changes before the earlier ones
+pub links_before-append : (es fs : List (ℕ × Link)) (links : List Link) → links_before (es ++ fs) links ≡ links_before es (links_before fs links)
+links_before-append [] fs links = refl
+links_before-append (e ∷ es) fs links = ap (λ ls. set ls e.0 e.1) (links_before-append es fs links)
+
+-- two changes that are undone
+pub two_undone : (old mid new : List Link) (e f : ℕ × Link) → set mid e.0 e.1 ≡ old → set new f.0 f.1 ≡ mid → links_before (e ∷ f ∷ []) new ≡ old
+two_undone old mid new e f first second = ap (λ ls. set ls e.0 e.1) second ∙ first
 
 pub set_beyond : {A : Type 0} (xs : List A) (i : ℕ) (a : A) → length xs ≤ i → set xs i a ≡ xs
 set_beyond [] i a h = refl

@@ -12,7 +12,9 @@ use Rattle.chr_semantics.proofs.UnifierEqual.{bound_is, from_apart, mgu_makes_eq
 use Rattle.chr_semantics.proofs.UnifierNone.{mgu_none}
 use Rattle.chr_term.specs.TermView.{view, trees_view}
 use Rattle.chr_term.specs.declared.term.Term.{Term}
-use Rattle.chr_bind.specs.Agenda.{Eliminates, Lists, lists_apart, rest_apart}
+use Rattle.chr_bind.specs.Agenda.{Eliminates, IsRootComparison, Lists, lists_apart, rest_apart}
+use Rattle.chr_bind.specs.declared.unification.Binding.{Binding}
+use Rattle.chr_bind.specs.declared.unification.RootComparison.TheVariants as root
 use Rattle.std.specs.Borrow.{Bor}
 use Rattle.chr_bind.specs.Chains.{IsSound, Pairs, lent_pairs, owned_pair, owned_pairs, pairs_in, solution, extension_by}
 use Rattle.chr_bind.specs.Unified.{IsAnswer, IsUnified}
@@ -118,6 +120,28 @@ pub solution_once_more : {A : Type 0} (made : List (ℕ × Term A)) (added new :
     → solution (pairs_in made new) ≡ with_binding x (apply (solution (pairs_in made added)) (view t.now)) (solution (pairs_in made added))
 solution_once_more made added new x t e = ap (λ w. solution (pairs_in made w)) e ∙ ap solution (pairs_in-last made added (x, t)) ∙ solution-last (pairs_in made added) (x, view t.now)
 
+-- two terms for which no binding is needed, one, or none that helps
+module _ (pairs : Pairs) (a b : Tree) (solved : IsSolved (solution pairs)) where
+  pub none_needed : apart (apply (solution pairs) a) (apply (solution pairs) b) ≡ Some [] → mgu (solution pairs) a b ≡ Some (solution pairs)
+  none_needed is = reaches_unifier 0 (solution pairs) a b (solution pairs) solved (λ m. ap (elimination_from (m + 0) (solution pairs)) is)
+
+  pub none_helps : apart (apply (solution pairs) a) (apply (solution pairs) b) ≡ None → mgu (solution pairs) a b ≡ None
+  none_helps is = reaches_none 0 (solution pairs) a b (λ m. ap (elimination_from (m + 0) (solution pairs)) is)
+
+  module _ (x : ℕ) (t : Tree) (is : apart (apply (solution pairs) a) (apply (solution pairs) b) ≡ Some ((x, apply (solution pairs) t) ∷ [])) where
+    pub one_needed : occurs x (apply (solution pairs) t) ≡ false → mgu (solution pairs) a b ≡ Some (solution (pairs ++ (x, t) ∷ []))
+    one_needed absent =
+        let s = solution pairs in
+        reaches_unifier 1 s a b (solution (pairs ++ (x, t) ∷ [])) solved
+        (λ m.
+        let sum : m + 1 ≡ suc m = omega arith in
+        ap (λ f. elimination_from f s (apart (apply s a) (apply s b))) sum ∙ ap (elimination_from (suc m) s) is ∙ elimination-next m s x (apply s t) (Some []) absent ∙ ap Some (sym (solution-last pairs (x, t))))
+
+    pub inside_itself : occurs x (apply (solution pairs) t) ≡ true → mgu (solution pairs) a b ≡ None
+    inside_itself within =
+        let s = solution pairs in
+        reaches_none 0 s a b (λ m. ap (elimination_from (m + 0) s) is ∙ occurs_inside (m + 0) s x (apply s t) (Some []) within)
+
 -- with one binding before the others
 pub elimination_before : {E : Type 0} (s next : Subst) (es rest : Option Equations) (old first new : ℕ) (r : Subst) (result : Result Bool E) → first ≡ old + 1 → ((m : ℕ) → elimination_from (m + 1) s es ≡ elimination_from m next rest)
     → IfOk result (Eliminates next rest first new r) → IfOk result (Eliminates s es old new r)
@@ -175,6 +199,40 @@ unified_as pairs more a b n Bound h is l e = (
   omega (arith, length-solution (pairs ++ more), length-solution pairs, length-append pairs more, l, e),
 )
 unified_as pairs more a b n Clash h is l e = absurd e
+
+-- Two terms whose roots were compared: none of the bindings that are still to be added is there.
+module _ {A : Type 0} (links : List Link) (made : List (ℕ × Term A)) (a b : Tree) (solved : IsSolved (solution (owned_pairs made))) where
+  bare : pairs_in made [] ≡ owned_pairs made
+  bare = append-nil (owned_pairs made)
+
+  pub same_roots : IsRootComparison {A = A} links (solution (pairs_in made [])) a b root.Same → IsUnified a b (solution (owned_pairs made)) (solution (owned_pairs made)) Same
+  same_roots h =
+      let pairs = owned_pairs made in
+      let is : apart (apply (solution pairs) a) (apply (solution pairs) b) ≡ Some [] = subst (λ (ps : Pairs). apart (apply (solution ps) a) (apply (solution ps) b) ≡ Some []) bare h in
+      subst (λ (ps : Pairs). IsUnified a b (solution pairs) (solution ps) Same) (append-nil pairs) (unified_as pairs [] a b 0 Same solved (none_needed pairs a b solved is ∙ ap (λ (ps : Pairs). Some (solution ps)) (sym (append-nil pairs))) refl refl)
+
+  pub apart_roots : IsRootComparison {A = A} links (solution (pairs_in made [])) a b root.Clash → IsUnified a b (solution (owned_pairs made)) (solution (owned_pairs made)) Clash
+  apart_roots h = (none_helps (owned_pairs made) a b solved (subst (λ (ps : Pairs). apart (apply (solution ps) a) (apply (solution ps) b) ≡ None) bare h), refl)
+
+  module _ (d : Binding A) (h : IsRootComparison links (solution (pairs_in made [])) a b (root.Bind d)) where
+    equals : apart (apply (solution (owned_pairs made)) a) (apply (solution (owned_pairs made)) b) ≡ Some ((d.name, apply (solution (owned_pairs made)) (view d.term.now)) ∷ [])
+    equals = subst (λ (ps : Pairs). apart (apply (solution ps) a) (apply (solution ps) b) ≡ Some ((d.name, apply (solution ps) (view d.term.now)) ∷ [])) bare h.0
+
+    pub within_root : occurs d.name (apply (solution (pairs_in made [])) (view d.term.now)) ≡ true → IsUnified a b (solution (owned_pairs made)) (solution (owned_pairs made)) Clash
+    within_root within =
+        (inside_itself (owned_pairs made) a b solved d.name (view d.term.now) equals (subst (λ (ps : Pairs). occurs d.name (apply (solution ps) (view d.term.now)) ≡ true) bare within), refl)
+
+    pub absent_in_root : occurs d.name (apply (solution (pairs_in made [])) (view d.term.now)) ≡ false → occurs d.name (apply (solution (owned_pairs made)) (view d.term.now)) ≡ false
+    absent_in_root absent = subst (λ (ps : Pairs). occurs d.name (apply (solution ps) (view d.term.now)) ≡ false) bare absent
+
+    pub bound_root : (new : List (ℕ × Term A)) (t : Tree) → t ≡ view d.term.now → owned_pairs new ≡ owned_pairs made ++ (d.name, t) ∷ [] → occurs d.name (apply (solution (pairs_in made [])) (view d.term.now)) ≡ false
+        → IsUnified a b (solution (owned_pairs made)) (solution (owned_pairs new)) Bound
+    bound_root new t copied is absent =
+        let pairs = owned_pairs made in
+        let one_more = (d.name, view d.term.now) ∷ [] in
+        let all : owned_pairs new ≡ pairs ++ one_more = is ∙ ap (λ (u : Tree). pairs ++ (d.name, u) ∷ []) copied in
+        subst (λ (ps : Pairs). IsUnified a b (solution pairs) (solution ps) Bound) (sym all)
+        (unified_as pairs one_more a b 1 Bound solved (one_needed pairs a b solved d.name (view d.term.now) equals (absent_in_root absent)) refl (omega arith))
 
 pub owned_pairs-append : {A : Type 0} (es fs : List (ℕ × Term A)) → owned_pairs (es ++ fs) ≡ owned_pairs es ++ owned_pairs fs
 owned_pairs-append [] fs = refl

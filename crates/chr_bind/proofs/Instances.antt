@@ -10,6 +10,7 @@ use Rattle.chr_term.specs.TermView.{view}
 use Rattle.chr_term.specs.declared.term.Term.{Term}
 use Rattle.chr_bind.specs.Matching.{AgreesWith, matched_tree}
 use Rattle.chr_bind.specs.declared.matching.Match.{Match}
+use Rattle.chr_semantics.proofs.Plain.{bools_agree}
 
 matched_step : (b : Bool) (u t w : Tree) (o : Option Tree) → (o ≡ Some t → w ≡ t) → cond b (Some u) o ≡ Some t → cond b u w ≡ t
 matched_step true u t w o f e = cc
@@ -44,11 +45,6 @@ instance_free h m x p o a ep eo et =
 
 pub shown_number : (m : Subst) (p : Tree) (z : ℤ) → p ≡ int z → p ≡ apply m p
 shown_number m p z e = e ∙ sym (ap (apply m) e)
-
-bools_agree : (b d : Bool) → (b ≡ true → d ≡ true) → (d ≡ true → b ≡ true) → b ≡ d
-bools_agree true d f h = sym (f refl)
-bools_agree false true f h = h refl
-bools_agree false false f h = refl
 
 -- whether two terms are the same
 pub decides_same : (b : Bool) (t u v w : Tree) → (IsTrue b ↔ (t ≡ u)) → t ≡ v → u ≡ w → b ≡ same v w

@@ -10,6 +10,6 @@ mod Fresh
 mod Values
 mod Fits
 pub mod Marked
-mod Instances
+pub mod Instances
 mod Guards
 mod Renamed

@@ -1,6 +1,8 @@
 -- The variables of a match that are marked.
-use Rattle.std.proofs.Common.{◌≡◌, ℕ, zero, suc, ◌<◌, Bool, true, false, cond, ◌==◌, Option, Some, None, List, ◌∷◌, length, slice_get, set, replicate, ap, refl, ◌∙◌, sym, inl, inr, arith}
+use Rattle.std.proofs.Common.{◌≡◌, ℕ, zero, suc, ◌<◌, Bool, true, false, cond, ◌==◌, Option, Some, None, List, ◌∷◌, length, slice_get, set, ap, refl, ◌∙◌, sym, inl, inr, arith}
+use Rattle.std.specs.Int.{w64}
 use Rattle.std.specs.Prelude.{is_some}
+use Rattle.std.proofs.lemmas.Nat.Bits.{bit_at-zero, bit_at_set_other, bit_at_set_same}
 use Rattle.std.proofs.lemmas.Bool.Decides.{Decides-eqb, eqb_tells}
 use Rattle.std.specs.Borrow.{Bor}
 use Rattle.chr_semantics.specs.Tree.{Tree}
@@ -8,22 +10,20 @@ use Rattle.chr_semantics.specs.Subst.{Subst}
 use Rattle.chr_semantics.specs.Match.{match_at}
 use Rattle.chr_term.specs.TermView.{view}
 use Rattle.chr_term.specs.declared.term.Term.{Term}
-use Rattle.chr_bind.specs.Slots.{AreFilled, is_marked, mark_in, slot_tree, tree_at}
+use Rattle.chr_bind.specs.Slots.{AreFilled, is_marked, slot_tree, tree_at, with_mark}
 use Rattle.chr_bind.specs.Matching.{AreMarksOf, Covers, Keeps, matched_tree}
 use Rattle.chr_bind.specs.declared.matching.Marks.{Marks}
 use Rattle.chr_bind.specs.declared.matching.Match.{Match}
 use Rattle.chr_bind.proofs.Changed.{slice_get-set_other, slice_get-set_same}
 
 -- no variable is marked
-none_marked : (n x : ℕ) → is_marked (replicate n false) x ≡ false
-none_marked zero x = refl
-none_marked (suc n) zero = refl
-none_marked (suc n) (suc x) = none_marked n x
+none_marked : (x : ℕ) → is_marked 0 x ≡ false
+none_marked x = ap (λ (n : ℕ). n == 1) (bit_at-zero x)
 
-marked_put : (marks : List Bool) (x y : ℕ) → x < length marks → is_marked (set marks x true) y ≡ cond (y == x) true (is_marked marks y)
+marked_put : (marks x y : ℕ) → x < 64 → is_marked (with_mark marks x) y ≡ cond (y == x) true (is_marked marks y)
 marked_put marks x y within = elim (eqb_tells y x) [
-  | inl p ↦ ap (is_marked (set marks x true)) p.1 ∙ (ap mark_in (slice_get-set_same marks x true within) ∙ sym (ap (λ (b : Bool). cond b true (is_marked marks y)) p.0))
-  | inr p ↦ ap mark_in (slice_get-set_other marks x y true p.1) ∙ sym (ap (λ (b : Bool). cond b true (is_marked marks y)) p.0)
+  | inl p ↦ ap (is_marked (with_mark marks x)) p.1 ∙ (ap (λ (n : ℕ). n == 1) (bit_at_set_same w64 marks x within) ∙ sym (ap (λ (b : Bool). cond b true (is_marked marks y)) p.0))
+  | inr p ↦ ap (λ (n : ℕ). n == 1) (bit_at_set_other w64 marks x within y p.1) ∙ sym (ap (λ (b : Bool). cond b true (is_marked marks y)) p.0)
 ]
 
 some_tree : (b : Bool) (o : Option Tree) (u : Tree) → cond b o None ≡ Some u → o ≡ Some u
@@ -48,11 +48,11 @@ agrees_step true m n t o p q en ep h = rw (en, ep) refl
 agrees_step false m n t o p q en ep h = rw (en, ep) h
 
 module _ {A : Type 0} where
-  pub none_filled : (n : ℕ) (slots : List (Option (Bor (Term A)))) → AreFilled (replicate n false) slots
-  none_filled n slots x e = absurd (let no : false ≡ true = sym (none_marked n x) ∙ e in cc)
+  pub none_filled : (slots : List (Option (Bor (Term A)))) → AreFilled 0 slots
+  none_filled slots x e = absurd (let no : false ≡ true = sym (none_marked x) ∙ e in cc)
 
-  pub none_matched : (n x : ℕ) (slots : List (Option (Bor (Term A)))) → cond (is_marked (replicate n false) x) (tree_at slots x) None ≡ None
-  none_matched n x slots = ap (λ (b : Bool). cond b (tree_at slots x) None) (none_marked n x)
+  pub none_matched : (x : ℕ) (slots : List (Option (Bor (Term A)))) → cond (is_marked 0 x) (tree_at slots x) None ≡ None
+  none_matched x slots = ap (λ (b : Bool). cond b (tree_at slots x) None) (none_marked x)
 
   -- one slot is filled
   pub slot_put : (slots : List (Option (Bor (Term A)))) (x y : ℕ) (t : Bor (Term A)) → x < length slots → tree_at (set slots x (Some t)) y ≡ cond (y == x) (Some (view t.now)) (tree_at slots y)
@@ -62,14 +62,14 @@ module _ {A : Type 0} where
   ]
 
   -- and marked
-  module _ (marks : List Bool) (slots new : List (Option (Bor (Term A)))) (x : ℕ) (t : Tree) (within : x < length marks) (put : (y : ℕ) → tree_at new y ≡ cond (y == x) (Some t) (tree_at slots y)) where
-    pub put_filled : AreFilled marks slots → AreFilled (set marks x true) new
-    put_filled h y e = filled_step (y == x) (is_marked marks y) (is_marked (set marks x true) y) t (tree_at slots y) (tree_at new y) (marked_put marks x y within) (put y) (h y) e
+  module _ (marks : ℕ) (slots new : List (Option (Bor (Term A)))) (x : ℕ) (t : Tree) (within : x < 64) (put : (y : ℕ) → tree_at new y ≡ cond (y == x) (Some t) (tree_at slots y)) where
+    pub put_filled : AreFilled marks slots → AreFilled (with_mark marks x) new
+    put_filled h y e = filled_step (y == x) (is_marked marks y) (is_marked (with_mark marks x) y) t (tree_at slots y) (tree_at new y) (marked_put marks x y within) (put y) (h y) e
 
-    at_place : (y : ℕ) (q : Option Tree) → cond (is_marked marks y) (tree_at slots y) None ≡ q → cond (is_marked (set marks x true) y) (tree_at new y) None ≡ cond (y == x) (Some t) q
-    at_place y q h = agrees_step (y == x) (is_marked marks y) (is_marked (set marks x true) y) t (tree_at slots y) (tree_at new y) q (marked_put marks x y within) (put y) h
+    at_place : (y : ℕ) (q : Option Tree) → cond (is_marked marks y) (tree_at slots y) None ≡ q → cond (is_marked (with_mark marks x) y) (tree_at new y) None ≡ cond (y == x) (Some t) q
+    at_place y q h = agrees_step (y == x) (is_marked marks y) (is_marked (with_mark marks x) y) t (tree_at slots y) (tree_at new y) q (marked_put marks x y within) (put y) h
 
-    pub put_agrees : (m : Subst) → ((y : ℕ) → cond (is_marked marks y) (tree_at slots y) None ≡ match_at m y) → (y : ℕ) → cond (is_marked (set marks x true) y) (tree_at new y) None ≡ match_at ((x, t) ∷ m) y
+    pub put_agrees : (m : Subst) → ((y : ℕ) → cond (is_marked marks y) (tree_at slots y) None ≡ match_at m y) → (y : ℕ) → cond (is_marked (with_mark marks x) y) (tree_at new y) None ≡ match_at ((x, t) ∷ m) y
     put_agrees m h y = at_place y (match_at m y) (h y) ∙ ap (λ (b : Bool). cond b (Some t) (match_at m y)) turned
       where
         turned : (y == x) ≡ (x == y)
@@ -78,7 +78,7 @@ module _ {A : Type 0} where
           | inr p ↦ p.0 ∙ sym (grind (arith, Decides-eqb x y, p.1))
         ]
 
-    pub put_keeps : cond (is_marked marks x) (tree_at slots x) None ≡ None → (y : ℕ) (u : Tree) → cond (is_marked marks y) (tree_at slots y) None ≡ Some u → cond (is_marked (set marks x true) y) (tree_at new y) None ≡ Some u
+    pub put_keeps : cond (is_marked marks x) (tree_at slots x) None ≡ None → (y : ℕ) (u : Tree) → cond (is_marked marks y) (tree_at slots y) None ≡ Some u → cond (is_marked (with_mark marks x) y) (tree_at new y) None ≡ Some u
     put_keeps free y u e = elim (eqb_tells y x) [
       | inl p ↦ absurd (let no : ◌≡◌ {A = Option Tree} None (Some u) = sym free ∙ (ap (λ (z : ℕ). cond (is_marked marks z) (tree_at slots z) None) (sym p.1) ∙ e) in cc)
       | inr p ↦ at_place y (Some u) e ∙ ap (λ (b : Bool). cond b (Some t) (Some u)) p.0
@@ -97,7 +97,7 @@ module _ {A : Type 0} where
       ap is_some (keeps x there.0 there.1)
 
   -- with the marks of an earlier match it is that one again
-  pub went_back : (h : Match A) (marks : Marks) (others : List Bool) (slots : List (Option (Bor (Term A)))) → AreMarksOf marks h → ((x : ℕ) (u : Tree) → matched_tree h x ≡ Some u → cond (is_marked others x) (tree_at slots x) None ≡ Some u)
+  pub went_back : (h : Match A) (marks : Marks) (others : ℕ) (slots : List (Option (Bor (Term A)))) → AreMarksOf marks h → ((x : ℕ) (u : Tree) → matched_tree h x ≡ Some u → cond (is_marked others x) (tree_at slots x) None ≡ Some u)
       → (x : ℕ) → cond (is_marked marks.marks x) (tree_at slots x) None ≡ matched_tree h x
   went_back h marks others slots is keeps x = by_mark (is_marked marks.marks x) refl
     where

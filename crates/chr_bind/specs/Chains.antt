@@ -8,6 +8,8 @@ use Rattle.chr_term.specs.declared.term.Term.{Term}
 use Rattle.chr_semantics.specs.Bounds.{IsBelow}
 use Rattle.chr_bind.specs.Terms.{IsNoVar}
 use Rattle.chr_bind.specs.declared.chains.Link.{Link}
+use Rattle.chr_bind.specs.declared.unification.Changed.{Changed}
+use Rattle.chr_bind.specs.declared.unification.Changed.TheVariants.{One, Two}
 use Rattle.chr_bind.specs.declared.chains.Link.TheVariants.{Free, Follows, Bound}
 use Rattle.chr_bind.specs.declared.chains.Chains.{Chains}
 
@@ -111,6 +113,11 @@ IsJoined links new x y i = IsJoinedAt links new x y i (slice_get links y)
 abbrev pub links_before : List (ℕ × Link) → List Link → List Link
 links_before [] links = links
 links_before (e ∷ es) links = set (links_before es links) e.0 e.1
+
+-- what was changed, the last change last
+abbrev pub changed_links : Changed → List (ℕ × Link)
+changed_links (One e) = e ∷ []
+changed_links (Two e f) = e ∷ f ∷ []
 
 -- the class of x ends at y: both stand for the same, and y goes on nowhere
 abbrev pub IsLast : Option Link → Type 0

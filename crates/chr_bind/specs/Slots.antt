@@ -1,5 +1,7 @@
 -- The slots of a match, and which of them count.
-use Rattle.std.specs.Prelude.{◌≡◌, ℕ, Bool, true, false, cond, List, Option, Some, None, is_some, slice_get}
+use Rattle.std.specs.Int.{bit_at}
+use Rattle.std.specs.Int.Bits.{bit_or}
+use Rattle.std.specs.Prelude.{◌≡◌, ◌==◌, ◌*◌, ◌%◌, ◌^◌, ℕ, Bool, true, List, Option, Some, None, is_some, slice_get}
 use Rattle.std.specs.Borrow.{Bor}
 use Rattle.chr_semantics.specs.Tree.{Tree}
 use Rattle.chr_term.specs.TermView.{view}
@@ -14,14 +16,14 @@ slot_tree (Some (Some t)) = Some (view t.now)
 abbrev pub tree_at : {A : Type 0} → List (Option (Bor (Term A))) → ℕ → Option Tree
 tree_at slots x = slot_tree (slice_get slots x)
 
-abbrev pub mark_in : Option Bool → Bool
-mark_in None = false
-mark_in (Some b) = b
+-- the variable is marked: its bit is set
+abbrev pub is_marked : ℕ → ℕ → Bool
+is_marked marks x = bit_at marks x == 1
 
--- the variable is marked
-abbrev pub is_marked : List Bool → ℕ → Bool
-is_marked marks x = mark_in (slice_get marks x)
+-- with the variable marked
+abbrev pub with_mark : ℕ → ℕ → ℕ
+with_mark marks x = bit_or marks (1 * 2 ^ x % 2 ^ 64)
 
 -- each slot that is marked has a tree
-abbrev pub AreFilled : {A : Type 0} → List Bool → List (Option (Bor (Term A))) → Type 0
+abbrev pub AreFilled : {A : Type 0} → ℕ → List (Option (Bor (Term A))) → Type 0
 AreFilled marks slots = (x : ℕ) → is_marked marks x ≡ true → is_some (tree_at slots x) ≡ true

@@ -7,13 +7,13 @@ ghost use Rattle.chr_term.specs.Replaced.{args_by};
 ghost use Rattle.chr_term.specs.TermView.{trees_view, view};
 ghost use Rattle.chr_semantics.specs.Bounds.{IsBelow};
 ghost use Rattle.chr_bind.specs.Chains.{AreSound, IsSound, Pairs, subst_of};
-ghost use Rattle.chr_bind.specs.Unified.{IsAnswer, IsUnified};
+ghost use Rattle.chr_bind.specs.Unified.{IsUnified};
 ghost use Rattle.chr_bind.specs.Values.{value_view};
 
 use crate::Memory;
 use crate::chains::{Chains, Link};
 use crate::fault::Fault;
-use crate::unification::{Additions, take_over, unify_terms};
+use crate::unification::unify_terms;
 use chr_term::{Args, Term};
 use std::alloc::{Allocator, Global};
 use std::marker::Model;
@@ -111,14 +111,8 @@ impl<A: Allocator + Copy> Bindings<A> {
         ensures len { self.new.len ≡ self.old.len }
         ensures spare { self.new.spare ≡ self.old.spare }
     {
-        let (links, made) = (self.links.as_mut_slice(), self.made.as_slice());
-        let added = match unify_terms(self.alloc, links, made, left, right)? {
-            None => return Ok(Unified::Clash),
-            Some(added) => added,
-        };
-        let answer = answer_of(&added);
-        take_over(self.links.as_mut_slice(), &mut self.made, added)?;
-        Ok(answer)
+        let links = self.links.as_mut_slice();
+        unify_terms(self.alloc, links, &mut self.made, left, right)
     }
 }
 
@@ -206,17 +200,6 @@ impl<A: Allocator> Bindings<A> {
             made: self.made.as_slice(),
             added: &[],
         }
-    }
-}
-
-/// The answer of a unification that is possible.
-fn answer_of<A: Allocator>(added: &Additions<A>) -> Unified
-    ensures { IsAnswer (length added.now.pairs.items) result }
-{
-    if added.pairs.is_empty() {
-        Unified::Same
-    } else {
-        Unified::Bound
     }
 }
 

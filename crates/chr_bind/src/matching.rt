@@ -5,10 +5,31 @@ use chr_semantics::limits::MAX_RULE_VARIABLES;
 use chr_term::Term;
 use std::alloc::{Allocator, Global};
 
-/// Which variables of a match are matched.
+/// Which variables of a match are matched: a bit for each, and there are no more variables than bits.
 #[derive(Clone, Copy, Drop)]
 pub struct Marks {
-    marks: [bool; MAX_RULE_VARIABLES],
+    marks: u64,
+}
+
+impl Marks {
+    ghost use Rattle.std.specs.Prelude.{◌≡◌, ◌<◌};
+    ghost use Rattle.chr_bind.specs.Slots.{is_marked, with_mark};
+
+    /// Whether a variable is marked.
+    fn has(self, var: usize) -> bool
+        requires { var < MAX_RULE_VARIABLES }
+        ensures { result ≡ is_marked self.marks var }
+    {
+        (self.marks >> var) & 1 == 1
+    }
+
+    /// Marks a variable.
+    fn put(&mut self, var: usize)
+        requires { var < MAX_RULE_VARIABLES }
+        ensures { self.new.marks ≡ with_mark self.old.marks var }
+    {
+        self.marks |= 1 << var;
+    }
 }
 
 /// Places for terms, by the numbers of variables.
@@ -56,9 +77,7 @@ impl<'t, A: Allocator> Match<'t, A> {
             slots: Slots {
                 terms: [None; MAX_RULE_VARIABLES],
             },
-            marks: Marks {
-                marks: [false; MAX_RULE_VARIABLES],
-            },
+            marks: Marks { marks: 0 },
         }
     }
 
@@ -67,8 +86,8 @@ impl<'t, A: Allocator> Match<'t, A> {
         ensures { option_map (λ term. view term.now) result ≡ matched_tree self.now var }
     {
         let place = var as usize;
-        let (slots, marks) = (&self.slots.terms[..], &self.marks.marks[..]);
-        if place < slots.len() && marks[place] {
+        let slots = &self.slots.terms[..];
+        if place < slots.len() && self.marks.has(place) {
             slots[place]
         } else {
             None
@@ -98,6 +117,6 @@ impl<'t, A: Allocator> Match<'t, A> {
         ensures kept { Keeps self.old self.new }
     {
         self.slots.put(var, term);
-        self.marks.marks[var] = true;
+        self.marks.put(var);
     }
 }

@@ -5,11 +5,12 @@ ghost use Rattle.chr_semantics.specs.Mgu.{both};
 ghost use Rattle.chr_term.specs.TermView.{view, trees_view};
 ghost use Rattle.chr_semantics.specs.Bounds.{AreBelow, IsBelow};
 ghost use Rattle.chr_term.specs.Size.{size};
-ghost use Rattle.chr_bind.specs.Chains.{AreSound, IsAttached, IsJoined, IsSound, lent_pairs, name_of, owned_pairs, pairs_in, solution, subst_of, links_before};
+ghost use Rattle.chr_bind.specs.Chains.{AreSound, IsAttached, IsJoined, IsSound, lent_pairs, changed_links, name_of, owned_pairs, pairs_in, solution, subst_of, links_before};
 ghost use Rattle.chr_bind.specs.Agenda.{Differs, IsAllDone, IsBelowAgenda, IsBinding, IsBound, IsRootComparison, Eliminates, agenda_size, lists_apart, lists_size, rest_apart, terms_apart};
-ghost use Rattle.chr_bind.specs.Unified.{IsUnification};
+ghost use Rattle.chr_bind.specs.Unified.{IsAnswer, IsUnification, IsUnified};
 
 use crate::Memory;
+use crate::bindings::Unified;
 use crate::chains::{Chains, Link, Root};
 use chr_term::{Term, copy};
 use std::alloc::Allocator;
@@ -220,27 +221,40 @@ fn first_difference<'t, A: Allocator>(
     }
 }
 
-/// Changes a link, for which there is room, and remembers what it was.
-fn change<A: Allocator>(
-    links: &mut [Link],
-    before: &mut Vec<(usize, Link), A>,
-    place: usize,
-    link: Link,
-)
-    requires known { place < length links.old }
-    requires room { vec_len before.old < vec_capacity before.old }
+/// The links that a binding changed, each as it was before, the last change last.
+#[derive(Clone, Copy, Drop)]
+enum Changed {
+    One((usize, Link)),
+    Two((usize, Link), (usize, Link)),
+}
+
+/// Changes a link, and answers what it was.
+fn change(links: &mut [Link], place: usize, link: Link) -> (usize, Link)
+    requires { place < length links.old }
     ensures links { links.new ≡ set links.old place link }
-    ensures undone { links_before before.new.items links.new
-        ≡ links_before before.old.items links.old }
-    ensures len { vec_len before.new ≡ vec_len before.old + 1 }
-    ensures capacity { vec_capacity before.new ≡ vec_capacity before.old }
+    ensures undone { set links.new result.0 result.1 ≡ links.old }
 {
-    before.push_reserved((place, links[place]));
+    let before = (place, links[place]);
     links[place] = link;
+    before
+}
+
+/// Adds what was changed to what is remembered, with room for it.
+fn remember<A: Allocator>(before: &mut Vec<(usize, Link), A>, changed: Changed)
+    requires { vec_len before.old + 2 ≤ vec_capacity before.old }
+    ensures { before.new.items ≡ before.old.items ++ changed_links changed }
+{
+    match changed {
+        Changed::One(only) => before.push_reserved(only),
+        Changed::Two(first, second) => {
+            before.push_reserved(first);
+            before.push_reserved(second);
+        }
+    }
 }
 
 /// Makes the links what they were before all changes.
-pub(crate) fn undo<A: Allocator>(links: &mut [Link], before: Vec<(usize, Link), A>)
+fn undo<A: Allocator>(links: &mut [Link], before: Vec<(usize, Link), A>)
     ensures { links.new ≡ links_before before.items links.old }
 {
     let mut before = before;
@@ -261,64 +275,53 @@ fn size_of(link: Link) -> u64 {
 }
 
 /// Joins a free class with another one, whose least variable stays: the smaller class goes on at the larger one.
-fn join<A: Allocator>(
-    links: &mut [Link],
-    before: &mut Vec<(usize, Link), A>,
-    end: usize,
-    other: usize,
-    number: usize,
-)
+fn join(links: &mut [Link], end: usize, other: usize, number: usize) -> Changed
     requires known { end < length links.old }
     requires other { other < length links.old }
-    requires room { vec_len before.old + 2 ≤ vec_capacity before.old }
     ensures joined { IsJoined links.old links.new end other number }
-    ensures undone { links_before before.new.items links.new
-        ≡ links_before before.old.items links.old }
+    ensures undone { links_before (changed_links result) links.new ≡ links.old }
 {
     match links[other] {
         Link::Free(name, many) => {
             let few = size_of(links[end]);
             let all = many.saturating_add(few);
             if few <= many {
-                change(links, before, end, Link::Follows(other, number));
-                change(links, before, other, Link::Free(name, all));
+                let first = change(links, end, Link::Follows(other, number));
+                Changed::Two(first, change(links, other, Link::Free(name, all)))
             } else {
-                change(links, before, other, Link::Follows(end, number));
-                change(links, before, end, Link::Free(name, all));
+                let first = change(links, other, Link::Follows(end, number));
+                Changed::Two(first, change(links, end, Link::Free(name, all)))
             }
         }
-        Link::Follows(_, _) => change(links, before, end, Link::Follows(other, number)),
-        Link::Bound(_) => change(links, before, end, Link::Follows(other, number)),
+        Link::Follows(_, _) => Changed::One(change(links, end, Link::Follows(other, number))),
+        Link::Bound(_) => Changed::One(change(links, end, Link::Follows(other, number))),
     }
 }
 
 /// Links the class of a variable, which does not occur in its term, to that term.
 fn attach<'t, A: Allocator>(
     links: &mut [Link],
-    before: &mut Vec<(usize, Link), A>,
     made: &'t [(u64, Term<A>)],
     added: &[(u64, &'t Term<A>)],
     binding: &Binding<'t, A>,
-)
+) -> Changed
     requires sound { IsSound links.old (pairs_in made.now added.now) }
     requires end { name_of (slice_get links.old binding.now.end) ≡ Some binding.now.name }
     requires below { IsBelow (length links.old) (view binding.now.term.now) }
     requires absent { let s = solution (pairs_in made.now added.now) in
         occurs binding.now.name (apply s (view binding.now.term.now)) ≡ false }
-    requires room { vec_len before.old + 2 ≤ vec_capacity before.old }
     ensures bound { IsAttached links.old links.new (pairs_in made.now added.now)
         (binding.now.name, view binding.now.term.now) }
-    ensures undone { links_before before.new.items links.new
-        ≡ links_before before.old.items links.old }
+    ensures undone { links_before (changed_links result) links.new ≡ links.old }
 {
     let number = made.len() + added.len();
     match binding.term {
         Term::Var(x) => {
             let other = Chains { links, made, added }.end(*x as usize);
-            join(links, before, binding.end, other, number);
+            join(links, binding.end, other, number)
         }
-        Term::Int(_) => change(links, before, binding.end, Link::Bound(number)),
-        Term::Node(_, _) => change(links, before, binding.end, Link::Bound(number)),
+        Term::Int(_) => Changed::One(change(links, binding.end, Link::Bound(number))),
+        Term::Node(_, _) => Changed::One(change(links, binding.end, Link::Bound(number))),
     }
 }
 
@@ -344,8 +347,8 @@ fn bind<'t, A: Allocator>(
 {
     progress.added.reserve(1)?;
     progress.before.reserve(2)?;
-    let added = progress.added.as_slice();
-    attach(links, &mut progress.before, made, added, binding);
+    let changed = attach(links, made, progress.added.as_slice(), binding);
+    remember(&mut progress.before, changed);
     progress.added.push_reserved((binding.name, binding.term));
     Ok(())
 }
@@ -444,9 +447,9 @@ fn make_equal<'t, A: Allocator + Copy>(
 
 /// What a unification added, and the links that it changed, each as it was before.
 #[derive(Drop)]
-pub(crate) struct Additions<A: Allocator> {
-    pub pairs: Vec<(u64, Term<A>), A>,
-    pub before: Vec<(usize, Link), A>,
+struct Additions<A: Allocator> {
+    pairs: Vec<(u64, Term<A>), A>,
+    before: Vec<(usize, Link), A>,
 }
 
 /// The bindings with copies of their terms.
@@ -489,7 +492,7 @@ fn keep<A: Allocator + Copy>(
 
 /// Makes two terms equal, and hands out what was added for that: the links are then those with it. They are as before where nothing makes
 /// the terms equal, and where memory is refused.
-pub(crate) fn unify_terms<A: Allocator + Copy>(
+fn add_bindings<A: Allocator + Copy>(
     alloc: A,
     links: &mut [Link],
     made: &[(u64, Term<A>)],
@@ -521,7 +524,7 @@ pub(crate) fn unify_terms<A: Allocator + Copy>(
 }
 
 /// Appends what was added to the bindings, or undoes the links that it changed where memory is refused.
-pub(crate) fn take_over<A: Allocator>(
+fn take_over<A: Allocator>(
     links: &mut [Link],
     made: &mut Vec<(u64, Term<A>), A>,
     added: Additions<A>,
@@ -538,5 +541,110 @@ pub(crate) fn take_over<A: Allocator>(
             undo(links, added.before);
             Err(error)
         }
+    }
+}
+
+/// The answer of a unification that is possible.
+fn answer_of<A: Allocator>(added: &Additions<A>) -> Unified
+    ensures { IsAnswer (length added.now.pairs.items) result }
+{
+    if added.pairs.is_empty() {
+        Unified::Same
+    } else {
+        Unified::Bound
+    }
+}
+
+/// As `unify_terms`, by as many bindings as are needed.
+fn unify_all<A: Allocator + Copy>(
+    alloc: A,
+    links: &mut [Link],
+    made: &mut Vec<(u64, Term<A>), A>,
+    left: &Term<A>,
+    right: &Term<A>,
+) -> Result<Unified, Memory>
+    requires sound { IsSound links.old (owned_pairs made.old.items) }
+    requires left { IsBelow (length links.old) (view left.now) }
+    requires right { IsBelow (length links.old) (view right.now) }
+    ensures sound { IsSound links.new (owned_pairs made.new.items) }
+    ensures unified { IfOk result (IsUnified (view left.now) (view right.now)
+        (solution (owned_pairs made.old.items)) (solution (owned_pairs made.new.items))) }
+    ensures refused { OnErr result (made.new.items ≡ made.old.items) }
+    ensures len { length links.new ≡ length links.old }
+{
+    let added = match add_bindings(alloc, links, made.as_slice(), left, right)? {
+        None => return Ok(Unified::Clash),
+        Some(added) => added,
+    };
+    let answer = answer_of(&added);
+    take_over(links, made, added)?;
+    Ok(answer)
+}
+
+/// Binds the class of a variable, which ends there, to a term in which it does not occur. Where memory is refused, nothing changes.
+fn bind_alone<A: Allocator>(
+    links: &mut [Link],
+    made: &mut Vec<(u64, Term<A>), A>,
+    end: usize,
+    name: u64,
+    term: Term<A>,
+) -> Result<(), Memory>
+    requires sound { IsSound links.old (owned_pairs made.old.items) }
+    requires end { name_of (slice_get links.old end) ≡ Some name }
+    requires below { IsBelow (length links.old) (view term) }
+    requires absent { let s = solution (owned_pairs made.old.items) in
+        occurs name (apply s (view term)) ≡ false }
+    ensures sound { IsSound links.new (owned_pairs made.new.items) }
+    ensures made { OnOk result
+        (owned_pairs made.new.items ≡ owned_pairs made.old.items ++ (name, view term) ∷ []) }
+    ensures refused { OnErr result (made.new.items ≡ made.old.items) }
+    ensures len { length links.new ≡ length links.old }
+{
+    made.reserve(1)?;
+    let binding = Binding {
+        end,
+        name,
+        term: &term,
+    };
+    let _changed = attach(links, made.as_slice(), &[], &binding);
+    made.push_reserved((name, term));
+    Ok(())
+}
+
+/// Makes two terms equal, with the occurs check, and says what was done: the links are those of the bindings that were made. Most often
+/// one is all that is needed. After `Clash`, and where memory is refused, the bindings are as before.
+pub(crate) fn unify_terms<A: Allocator + Copy>(
+    alloc: A,
+    links: &mut [Link],
+    made: &mut Vec<(u64, Term<A>), A>,
+    left: &Term<A>,
+    right: &Term<A>,
+) -> Result<Unified, Memory>
+    requires sound { IsSound links.old (owned_pairs made.old.items) }
+    requires left { IsBelow (length links.old) (view left.now) }
+    requires right { IsBelow (length links.old) (view right.now) }
+    ensures sound { IsSound links.new (owned_pairs made.new.items) }
+    ensures unified { IfOk result (IsUnified (view left.now) (view right.now)
+        (solution (owned_pairs made.old.items)) (solution (owned_pairs made.new.items))) }
+    ensures refused { OnErr result (made.new.items ≡ made.old.items) }
+    ensures len { length links.new ≡ length links.old }
+{
+    let chains = Chains {
+        links,
+        made: made.as_slice(),
+        added: &[],
+    };
+    match compare(&chains, left, right) {
+        RootComparison::Same => Ok(Unified::Same),
+        RootComparison::Clash => Ok(Unified::Clash),
+        RootComparison::Bind(Binding { end, name, term }) => {
+            if chains.occurs(name, term) {
+                return Ok(Unified::Clash);
+            }
+            let term = copy(term)?;
+            bind_alone(links, made, end, name, term)?;
+            Ok(Unified::Bound)
+        }
+        RootComparison::Arguments(_, _) => unify_all(alloc, links, made, left, right),
     }
 }

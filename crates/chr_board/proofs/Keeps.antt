@@ -8,6 +8,7 @@ use Rattle.chr_semantics.specs.Desk.{Phase, Serial, count_of, drained, given_up,
 use Rattle.chr_semantics.specs.declared.limits.TheConstants.{MAX_OFFERED_TASKS}
 use Rattle.chr_board.specs.IsDesk.{IsDesk, are_once, is_among, is_owed, seat, tasks_at}
 use Rattle.chr_board.proofs.Phases.{count_of-append, count_of-few, count_of-some, count_of-step, count_of-with_phase, get-append, get-front, get-with_phase, in_phase, length-with_phase, one, seat-with_phase, waiting_not_posted}
+use Rattle.std.proofs.Math.Bool.{or-true}
 
 pub nothing_offered : (post_room answer_room : ℕ) → IsDesk [] 0 0 [] [] post_room answer_room
 nothing_offered post_room answer_room = record {
@@ -29,7 +30,7 @@ same_seats : (p : Phase) (ss : List Serial) (j : ℕ) (posts : List ℕ)
     → map (λ k. option_map seat (slice_get (with_phase p ss j) k)) posts ≡ map (λ k. option_map seat (slice_get ss k)) posts
 same_seats p ss j posts = λ i. map (λ k. seat-with_phase p ss j k i) posts
 
-equal_is : (a b : ℕ) → (a == b) ≡ true → a ≡ b
+pub equal_is : (a b : ℕ) → (a == b) ≡ true → a ≡ b
 equal_is a b e = grind (arith, e)
 
 unequal_is : (a b : ℕ) → (a == b) ≡ false → nat_lt a (b + 1) ≡ nat_lt a b
@@ -54,10 +55,6 @@ length-snoc (y ∷ ys) x = omega (arith, length-snoc ys x)
 equal_sym : (a b : ℕ) (r : Bool) → (a == b) ≡ r → (b == a) ≡ r
 equal_sym a b true e = grind (arith, e)
 equal_sym a b false e = grind (arith, e)
-
-or-true : (b : Bool) → (b || true) ≡ true
-or-true true = refl
-or-true false = refl
 
 among_last : (posts : List ℕ) (at k : ℕ) → (at == k) ≡ true → is_among (posts ++ at ∷ []) k ≡ true
 among_last [] at k e = ap (λ b. b || false) e

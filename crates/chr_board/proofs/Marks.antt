@@ -5,9 +5,7 @@ use Rattle.std.proofs.lemmas.Option.{slice_get-map}
 use Rattle.chr_semantics.specs.Desk.{Serial, drained, handed_over, is_posted, with_phase}
 use Rattle.chr_board.specs.IsDesk.{is_among, marked}
 use Rattle.chr_board.proofs.Phases.{get-with_phase, in_phase, same_at_each}
-
-equal_turned : (a b : ℕ) → (a == b) ≡ (b == a)
-equal_turned a b = grind arith
+use Rattle.chr_semantics.proofs.Tests.{eqb_sym}
 
 drained_twice : (o : Option Serial) → option_map (in_phase drained) (option_map (in_phase drained) o) ≡ option_map (in_phase drained) o
 drained_twice None = refl
@@ -21,7 +19,7 @@ at_marked (p ∷ ps) ss k =
     ∙ go (p == k) (is_among ps k)
   where
     turned : cond (k == p) (option_map (in_phase drained) (slice_get ss k)) (slice_get ss k) ≡ cond (p == k) (option_map (in_phase drained) (slice_get ss k)) (slice_get ss k)
-    turned = ap (λ b. cond b (option_map (in_phase drained) (slice_get ss k)) (slice_get ss k)) (equal_turned k p)
+    turned = ap (λ b. cond b (option_map (in_phase drained) (slice_get ss k)) (slice_get ss k)) (eqb_sym k p)
 
     go : (a b : Bool) → cond b (option_map (in_phase drained) (cond a (option_map (in_phase drained) (slice_get ss k)) (slice_get ss k))) (cond a (option_map (in_phase drained) (slice_get ss k)) (slice_get ss k))
         ≡ cond (a || b) (option_map (in_phase drained) (slice_get ss k)) (slice_get ss k)

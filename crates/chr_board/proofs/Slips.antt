@@ -8,6 +8,7 @@ use Rattle.chr_semantics.specs.Desk.{Desk, Serial, Slip, after_drain, handed_ove
 use Rattle.chr_board.specs.IsDesk.{IsDesk, seat}
 use Rattle.chr_board.specs.RowView.{row_view, rows_view}
 use Rattle.chr_board.specs.declared.row.Row.{Row}
+use Rattle.chr_board.proofs.Keeps.{equal_is}
 
 -- the task that a slip is of
 pub record IsHeld (ss : List Serial) (w : Slip) : Type 0 where
@@ -15,9 +16,6 @@ pub record IsHeld (ss : List Serial) (w : Slip) : Type 0 where
   pub is_there : slice_get ss w.serial ≡ Some task
   pub is_out : is_out task ≡ true
   pub seat_is : seat task ≡ (w.place, w.index)
-
-equal_is : (a b : ℕ) → (a == b) ≡ true → a ≡ b
-equal_is a b e = grind (arith, e)
 
 pub held_is : (ss : List Serial) (w : Slip) → is_slip_of w (slice_get ss w.serial) ≡ true → IsHeld ss w
 held_is ss w e = go (slice_get ss w.serial) refl e

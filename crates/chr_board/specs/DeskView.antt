@@ -2,7 +2,7 @@
 use Rattle.std.specs.List.{zip}
 use Rattle.chr_semantics.specs.Desk as semantics
 use Rattle.chr_shelf.specs.declared.answer.Answer.{Answer}
-use Rattle.chr_shelf.specs.declared.run.Run.{Ghosts}
+use Rattle.chr_shelf.specs.declared.run.RunName.{Ghosts}
 use Rattle.chr_board.specs.RowView.{rows_view}
 use Rattle.chr_board.specs.declared.desk.Desk.{Desk}
 

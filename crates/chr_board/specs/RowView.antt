@@ -3,7 +3,7 @@ use Rattle.std.specs.Prelude.{◌-◌, ℕ, Bool, List, length, map, Option, opt
 use Rattle.chr_semantics.specs.Desk as semantics
 use Rattle.chr_semantics.specs.Desk.{Serial, is_waiting, is_out, is_given_up, is_posted, is_drained}
 use Rattle.chr_shelf.specs.declared.answer.Answer.{Answer}
-use Rattle.chr_shelf.specs.declared.run.Run.{Ghosts}
+use Rattle.chr_shelf.specs.declared.run.RunName.{Ghosts}
 use Rattle.chr_shelf.specs.Seat.{index_of, place_of, ticket_of}
 use Rattle.chr_board.specs.declared.row.Phase.{Phase}
 use Rattle.chr_board.specs.declared.row.Phase.TheVariants.{Waiting, Out, GivenUp, Posted, Drained}

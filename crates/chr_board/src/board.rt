@@ -11,20 +11,20 @@ use crate::searches::Searches;
 use crate::slip::Slip;
 use crate::totals::Totals;
 use chr_find::Task;
-use chr_shelf::{Answer, Run};
+use chr_shelf::{Answer, RunName};
 use std::alloc::{Allocator, Global};
 use std::sync::{Condvar, Mutex, Wait};
 
 /// A desk behind a lock, with a signal for those who wait for a task, and the searches that have begun behind another. Nobody holds a lock
 /// while searching.
 #[derive(Drop)]
-pub struct Board<J: Run, A: Allocator = Global> {
+pub struct Board<J: RunName, A: Allocator = Global> {
     desk: Mutex<Desk<J, A>>,
     changed: Condvar,
     searches: Mutex<Searches<A>>,
 }
 
-impl<J: Run, A: Allocator + Copy> Board<J, A> {
+impl<J: RunName, A: Allocator + Copy> Board<J, A> {
     /// An open board without a task.
     pub fn new(alloc: A) -> Board<J, A> {
         Board {

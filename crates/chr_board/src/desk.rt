@@ -13,13 +13,13 @@ use crate::row::{Phase, Row, count, mark_drained, move_to, push_rows};
 use crate::slip::Slip;
 use crate::totals::Totals;
 use chr_semantics::limits::MAX_OFFERED_TASKS;
-use chr_shelf::{Answer, Run};
+use chr_shelf::{Answer, RunName};
 use std::alloc::{Allocator, Global};
 
 /// The tasks of a run that were offered to workers, each under a serial of its own, with the answers that were not drained yet. There is room
 /// for every answer that may still come, so that handing out and answering take no memory.
 #[derive(Drop)]
-pub struct Desk<J: Run, A: Allocator = Global> {
+pub struct Desk<J: RunName, A: Allocator = Global> {
     rows: Vec<Row, A>,
     /// The rows below it do not wait, and the others do.
     next: usize,
@@ -34,7 +34,7 @@ pub struct Desk<J: Run, A: Allocator = Global> {
         (vec_capacity serials) (vec_capacity posted) } by { Prim.hlevel props },
 }
 
-impl<J: Run, A: Allocator> Desk<J, A> {
+impl<J: RunName, A: Allocator> Desk<J, A> {
     ghost use Rattle.chr_board.specs.DeskView.{desk_view};
 
     /// Whether that task is out, as the slip says.
@@ -82,7 +82,7 @@ impl<J: Run, A: Allocator> Desk<J, A> {
     }
 }
 
-impl<J: Run, A: Allocator + Copy> Desk<J, A> {
+impl<J: RunName, A: Allocator + Copy> Desk<J, A> {
     ghost use Rattle.chr_board.specs.DeskView.{desk_view};
 
     /// An open desk without a task.

@@ -7,7 +7,7 @@ use crate::board::Board;
 use crate::slip::Slip;
 use chr_find::Task;
 use chr_rules::Program;
-use chr_shelf::{Run, Shelf, Ticket, solve};
+use chr_shelf::{RunName, Shelf, Ticket, solve};
 use std::alloc::Allocator;
 use std::sync::Wait;
 
@@ -36,7 +36,7 @@ pub struct Tally {
 }
 
 /// Whether the round of the slip is still the one that was offered last.
-fn is_newest<J: Run, A: Allocator + Copy>(
+fn is_newest<J: RunName, A: Allocator + Copy>(
     rt: &impl Wait,
     board: &Board<J, A>,
     slip: &Slip,
@@ -46,7 +46,7 @@ fn is_newest<J: Run, A: Allocator + Copy>(
 
 /// The ticket of a slip's round, and the task, where its search may begin now: the round is still the one that was offered last, the task stands
 /// in it, and nobody else has begun to search for it.
-fn begun<J: Run, A: Allocator + Copy>(
+fn begun<J: RunName, A: Allocator + Copy>(
     rt: &impl Wait,
     shelf: &Shelf<A>,
     board: &Board<J, A>,
@@ -68,7 +68,7 @@ fn begun<J: Run, A: Allocator + Copy>(
 }
 
 /// Searches for a task and posts the answer; or gives it up. Whether it was posted.
-fn answer<J: Run, A: Allocator + Copy, G: Gate>(
+fn answer<J: RunName, A: Allocator + Copy, G: Gate>(
     rt: &impl Wait,
     program: &Program<A>,
     shelf: &Shelf<A>,
@@ -101,7 +101,7 @@ fn answer<J: Run, A: Allocator + Copy, G: Gate>(
 /// Answers tasks until the board is closed, or 4,294,967,295 of them were taken. A task is given up whose round is not the one that was
 /// offered last, whose snapshot is not found, for which another search has begun whose answer was not drained yet, or whose search lacks
 /// memory.
-pub fn work<J: Run, A: Allocator + Copy, G: Gate, R: Wait>(
+pub fn work<J: RunName, A: Allocator + Copy, G: Gate, R: Wait>(
     rt: &R,
     program: &Program<A>,
     shelf: &Shelf<A>,

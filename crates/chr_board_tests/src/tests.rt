@@ -7,7 +7,7 @@ use chr_board::*;
 use chr_find::{Snapshot, Task};
 use chr_machine::Machine;
 use chr_rules::{Program, Query};
-use chr_shelf::{Answer, Run, Shelf, Ticket, Unsolved, solve};
+use chr_shelf::{Answer, RunName, Shelf, Ticket, Unsolved, solve};
 use chr_store::Id;
 use chr_texts::{SPECULATION, both_of};
 use std::alloc::{Allocator, Global};
@@ -32,7 +32,7 @@ fn snapshot_of<A: Allocator + Copy>(
 }
 
 /// These are the answers to the tasks of that place with these indices.
-fn assert_answers<J: Run, A: Allocator>(
+fn assert_answers<J: RunName, A: Allocator>(
     rt: &impl Abort,
     answers: &[Answer<J, A>],
     place: usize,

@@ -5,7 +5,7 @@ use Rattle.chr_semantics.specs.Schedule.{Event}
 use Rattle.chr_semantics.specs.Tasks.{Task}
 use Rattle.chr_laws.specs.Stands as stands
 use Rattle.chr_laws.specs.Stands.{Stands}
-use Rattle.chr_shelf.specs.declared.run.Run.{Ghosts}
+use Rattle.chr_shelf.specs.declared.run.RunName.{Ghosts}
 use Rattle.chr_machine.specs.MachineView.{Steps}
 use Rattle.chr_machine.specs.Model.{Model}
 use Rattle.chr_machine.specs.NeedView.{need, plain, search_of}

@@ -35,10 +35,10 @@ take_length (y ∷ ys) zero x e = refl
 take_length (y ∷ ys) (suc k) x e = ap (λ (n : ℕ). suc n) (take_length ys k x e)
 
 -- an event that stands in a schedule
-pub event_there : (es : List declared.Event) (k : ℕ) (d e : declared.Event) → k < length es → get_or es k d ≡ e → slice_get (events_view es) k ≡ Some (event_view e)
-event_there [] k d e h is = absurd (omega (arith, h))
-event_there (x ∷ es) zero d e h is = ap (λ (y : declared.Event). Some (event_view y)) is
-event_there (x ∷ es) (suc k) d e h is = event_there es k d e (omega (arith, h)) is
+pub event_there : (es : List declared.Event) (k : ℕ) (d : declared.Event) {e : declared.Event} → k < length es → get_or es k d ≡ e → slice_get (events_view es) k ≡ Some (event_view e)
+event_there [] k d h is = absurd (omega (arith, h))
+event_there (x ∷ es) zero d h is = ap (λ (y : declared.Event). Some (event_view y)) is
+event_there (x ∷ es) (suc k) d h is = event_there es k d (omega (arith, h)) is
 
 -- the same refusal of something else
 pub refusal_as : (o w : Option Refusal) (e : ReplayError) → ((x : Refusal) → o ≡ Some x → w ≡ Some x) → IsRefusal o e → IsRefusal w e
@@ -65,7 +65,7 @@ step_steps p q g (Some t) = by (is_served p q g t)
 pub begun_replay : (p : Program) (r : Query) → HasReplayed p r [] [] 0
 begun_replay p r = record { accepted = refl; done_are = refl; steps_are = refl }
 
-module _ (p : Program) (r : Query) (all : List Event) (k : ℕ) (e : Event) (is : slice_get all k ≡ Some e) (done : List Event) (steps : ℕ) (h : HasReplayed p r (take k all) done steps) where
+module _ {p : Program} {r : Query} (all : List Event) (k : ℕ) {e : Event} (is : slice_get all k ≡ Some e) {done : List Event} {steps : ℕ} (h : HasReplayed p r (take k all) done steps) where
   abbrev q : State
   q = start r
 
@@ -116,31 +116,31 @@ module _ (p : Program) (r : Query) (all : List Event) (k : ℕ) (e : Event) (is 
       }
 
 -- a Publish
-module _ (p : Program) (r : Query) (all : List Event) (k : ℕ) (is : slice_get all k ≡ Some publish) (done : List Event) (steps : ℕ) (h : HasReplayed p r (take k all) done steps) where
+module _ {p : Program} {r : Query} (all : List Event) (k : ℕ) (is : slice_get all k ≡ Some publish) {done : List Event} {steps : ℕ} (h : HasReplayed p r (take k all) done steps) where
   same_refusal : refusal p (start r) (progress p (start r) (take k all)) k publish ≡ refusal p (start r) (progress p (start r) done) k publish
   same_refusal = replay_law.publishes p r (take k all) k ∙ ap (λ (l : List Event). refusal p (start r) (progress p (start r) l) k publish) (sym h.done_are)
 
   pub publish_refused : (o : ReplayError) → IsRefusal (refusal p (start r) (progress p (start r) done) k publish) o → IsRefusal (first_refusal p (start r) no_progress 0 all) o
-  publish_refused o i = refusal_as (refusal p (start r) (progress p (start r) done) k publish) (first_refusal p (start r) no_progress 0 all) o (λ x d. refused p r all k publish is done steps h x (same_refusal ∙ d)) i
+  publish_refused o i = refusal_as (refusal p (start r) (progress p (start r) done) k publish) (first_refusal p (start r) no_progress 0 all) o (λ x d. refused all k is h x (same_refusal ∙ d)) i
 
   pub publish_replayed : (new : List Event) → refusal p (start r) (progress p (start r) done) k publish ≡ None → new ≡ done ++ publish ∷ [] → HasReplayed p r (take (k + 1) all) new steps
-  publish_replayed new d made = replayed p r all k publish is done steps h new steps (same_refusal ∙ d) made h.steps_are
+  publish_replayed new d made = replayed all k is h new steps (same_refusal ∙ d) made h.steps_are
 
 -- an arrival
-module _ (p : Program) (r : Query) (all : List Event) (k i x : ℕ) (is : slice_get all k ≡ Some (arrive i x)) (done : List Event) (steps : ℕ) (h : HasReplayed p r (take k all) done steps) where
+module _ {p : Program} {r : Query} (all : List Event) (k : ℕ) {i x : ℕ} (is : slice_get all k ≡ Some (arrive i x)) {done : List Event} {steps : ℕ} (h : HasReplayed p r (take k all) done steps) where
   same_arrival : refusal p (start r) (progress p (start r) (take k all)) k (arrive i x) ≡ refusal p (start r) (progress p (start r) done) k (arrive i x)
   same_arrival = replay_law.arrives p r (take k all) k i x ∙ ap (λ (l : List Event). refusal p (start r) (progress p (start r) l) k (arrive i x)) (sym h.done_are)
 
   pub arrival_refused : (o : ReplayError) → IsRefusal (refusal p (start r) (progress p (start r) done) k (arrive i x)) o → IsRefusal (first_refusal p (start r) no_progress 0 all) o
-  arrival_refused o w = refusal_as (refusal p (start r) (progress p (start r) done) k (arrive i x)) (first_refusal p (start r) no_progress 0 all) o (λ y d. refused p r all k (arrive i x) is done steps h y (same_arrival ∙ d)) w
+  arrival_refused o w = refusal_as (refusal p (start r) (progress p (start r) done) k (arrive i x)) (first_refusal p (start r) no_progress 0 all) o (λ y d. refused all k is h y (same_arrival ∙ d)) w
 
   pub arrival_replayed : (new : List Event) → refusal p (start r) (progress p (start r) done) k (arrive i x) ≡ None → new ≡ done ++ arrive i x ∷ [] → HasReplayed p r (take (k + 1) all) new steps
   arrival_replayed new d made =
       let g = progress p (start r) (take k all) in
-      replayed p r all k (arrive i x) is done steps h new steps (same_arrival ∙ d) made (h.steps_are ∙ sym (took_steps g x (took g i x)))
+      replayed all k is h new steps (same_arrival ∙ d) made (h.steps_are ∙ sym (took_steps g x (took g i x)))
 
 -- a Step
-module _ (p : Program) (r : Query) (all : List Event) (k : ℕ) (is : slice_get all k ≡ Some move) (done : List Event) (steps : ℕ) (h : HasReplayed p r (take k all) done steps) where
+module _ {p : Program} {r : Query} (all : List Event) (k : ℕ) (is : slice_get all k ≡ Some move) {done : List Event} {steps : ℕ} (h : HasReplayed p r (take k all) done steps) where
   abbrev so_far : Progress
   so_far = progress p (start r) (take k all)
 
@@ -157,11 +157,11 @@ module _ (p : Program) (r : Query) (all : List Event) (k : ℕ) (is : slice_get 
 
   step_refused : (o : ReplayError) → IsRefusal (cond (nat_lt steps MAX_TRANSITIONS) None (Some (too_many_steps k))) o → IsRefusal (first_refusal p (start r) no_progress 0 all) o
   step_refused o w = refusal_as (cond (nat_lt steps MAX_TRANSITIONS) None (Some (too_many_steps k))) (first_refusal p (start r) no_progress 0 all) o
-      (λ y d. refused p r all k move is done steps h y (ap (λ (n : ℕ). cond (nat_lt n MAX_TRANSITIONS) None (Some (too_many_steps k))) (sym h.steps_are) ∙ d)) w
+      (λ y d. refused all k is h y (ap (λ (n : ℕ). cond (nat_lt n MAX_TRANSITIONS) None (Some (too_many_steps k))) (sym h.steps_are) ∙ d)) w
 
   step_replayed : (new : List Event) → nat_lt steps MAX_TRANSITIONS ≡ true → new ≡ cond (is_running (after p (start r) (progress p (start r) done).steps).status) (done ++ move ∷ []) done → HasReplayed p r (take (k + 1) all) new (steps + 1)
   step_replayed new few made =
-      replayed p r all k move is done steps h new (steps + 1)
+      replayed all k is h new (steps + 1)
       (ap (λ (b : Bool). cond b None (Some (too_many_steps k))) (ap (λ (n : ℕ). nat_lt n MAX_TRANSITIONS) (sym h.steps_are) ∙ few))
       (made ∙ (ap (λ (s : State). cond (is_running s.status) (done ++ move ∷ []) done) state_same ∙ turned (is_running (after p (start r) so_far.steps).status)))
       (ap (λ (n : ℕ). n + 1) h.steps_are ∙ sym (step_steps p (start r) so_far (needed_task p (after p (start r) so_far.steps))))

@@ -1,7 +1,7 @@
 -- A step and an arrival keep the query and the names.
 use Rattle.std.proofs.Common.{◌≡◌, Err, Ok, Result, ap}
 use Rattle.std.specs.Prelude.{IfOk, OnErr}
-use Rattle.chr_shelf.specs.declared.run.Run.{Ghosts}
+use Rattle.chr_shelf.specs.declared.run.RunName.{Ghosts}
 use Rattle.chr_machine.specs.MachineView.{Steps}
 use Rattle.chr_machine.specs.Model.{Model}
 use Rattle.chr_machine.specs.declared.stepped.Stepped.{Stepped}

@@ -4,7 +4,7 @@ use Rattle.std.proofs.lemmas.List.{length-map}
 use Rattle.std.proofs.lemmas.Option.{same_Some, slice_get-map, slice_get_read, slice_get_within}
 use Rattle.std.specs.Prelude.{option_map, slice_get}
 use Rattle.chr_shelf.specs.Seat.{place_of, places_in, shot_of, shots_in}
-use Rattle.chr_shelf.specs.declared.run.Run.{Ghosts}
+use Rattle.chr_shelf.specs.declared.run.RunName.{Ghosts}
 use Rattle.chr_shelf.specs.declared.shelf.Ticket.{Ticket}
 use Rattle.chr_core.specs.Shown.{AreNumbered}
 use Rattle.chr_core.proofs.Numbered.{place_at}

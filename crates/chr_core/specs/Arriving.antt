@@ -4,7 +4,7 @@ use Rattle.chr_semantics.specs.Schedule.{arrive}
 use Rattle.chr_laws.specs.Kept.{Answered}
 use Rattle.chr_shelf.specs.Seat.{ids_of, index_of, task_of}
 use Rattle.chr_shelf.specs.declared.answer.Answer.{Answer}
-use Rattle.chr_shelf.specs.declared.run.Run.{Ghosts}
+use Rattle.chr_shelf.specs.declared.run.RunName.{Ghosts}
 use Rattle.chr_core.specs.CoreView.{IsSameRun, events_of, places_of}
 use Rattle.chr_core.specs.declared.run_core.Core.{Core}
 

@@ -10,7 +10,7 @@ use Rattle.chr_rules.specs.RuleView.{query_view}
 use Rattle.chr_schedule.specs.EventView.{events_view}
 use Rattle.chr_laws.specs.Stands as stands
 use Rattle.chr_shelf.specs.Seat.{places_in}
-use Rattle.chr_shelf.specs.declared.run.Run.{Ghosts}
+use Rattle.chr_shelf.specs.declared.run.RunName.{Ghosts}
 use Rattle.chr_machine.specs.MachineView.{machine_view}
 use Rattle.chr_machine.specs.Model.{Model}
 use Rattle.chr_machine.specs.declared.stepped.Stepped.{Stepped}

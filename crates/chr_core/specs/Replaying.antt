@@ -7,7 +7,7 @@ use Rattle.chr_semantics.specs.State.{start}
 use Rattle.boxcar.specs.Table.{Shelves}
 use Rattle.chr_rules.specs.ProgramView.{rules_of}
 use Rattle.chr_rules.specs.declared.program.Program as checked
-use Rattle.chr_shelf.specs.declared.run.Run.{Ghosts}
+use Rattle.chr_shelf.specs.declared.run.RunName.{Ghosts}
 use Rattle.chr_machine.specs.declared.outcome.Outcome.{Outcome}
 use Rattle.chr_core.specs.CoreView.{IsSameRun, counts_view, events_of, names_in, progress_of, query_of, start_of}
 use Rattle.chr_core.specs.Outcomes.{IsOutcomeOf}

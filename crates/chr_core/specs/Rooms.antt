@@ -1,6 +1,6 @@
 -- Room that was made.
 use Rattle.std.specs.Prelude.{◌<◌, vec_capacity, vec_len}
-use Rattle.chr_shelf.specs.declared.run.Run.{Ghosts}
+use Rattle.chr_shelf.specs.declared.run.RunName.{Ghosts}
 use Rattle.chr_core.specs.PlaceView.{room_in}
 use Rattle.chr_core.specs.declared.run_core.Core.{Core}
 

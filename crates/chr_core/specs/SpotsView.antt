@@ -3,17 +3,17 @@ use Rattle.std.specs.Prelude.{ℕ, Bool, List, [], Option, Some, None}
 use Rattle.indexmap.specs.IndexMap.{IndexMap, get}
 use Rattle.chr_semantics.specs.Tasks.{Task}
 use Rattle.chr_core.specs.PositionsValue.{PositionsValue}
-use Rattle.chr_core.specs.declared.spots.Key.{Key}
+use Rattle.chr_core.specs.declared.spots.TaskKey.{TaskKey}
 use Rattle.chr_core.specs.declared.spots.Spots.{Spots}
-use Rattle.chr_core.specs.contracts.spots.KeyPartialEq.TheImpl.{ghosts}
+use Rattle.chr_core.specs.contracts.spots.TaskKeyPartialEq.TheImpl.{ghosts}
 
-abbrev pub same_key : Key → Key → Bool
+abbrev pub same_key : TaskKey → TaskKey → Bool
 same_key = ghosts.eq
 
-abbrev pub task_of : Key → Task
+abbrev pub task_of : TaskKey → Task
 task_of k = (k.goal, k.occurrence)
 
-abbrev pub key_of : Task → Key
+abbrev pub key_of : Task → TaskKey
 key_of t = record { goal = t.0; occurrence = t.1 }
 
 abbrev pub row_or_none : Option PositionsValue → Option ℕ
@@ -30,13 +30,13 @@ spare_or_zero (Some v) = v.spare
 
 -- of a map of positions by task
 module _ {S : Type 0} where
-  abbrev pub row_under : IndexMap Key PositionsValue S → Key → Option ℕ
+  abbrev pub row_under : IndexMap TaskKey PositionsValue S → TaskKey → Option ℕ
   row_under positions k = row_or_none (get same_key positions k)
 
-  abbrev pub guests_under : IndexMap Key PositionsValue S → Key → List ℕ
+  abbrev pub guests_under : IndexMap TaskKey PositionsValue S → TaskKey → List ℕ
   guests_under positions k = guests_or_none (get same_key positions k)
 
-  abbrev pub spare_under : IndexMap Key PositionsValue S → Key → ℕ
+  abbrev pub spare_under : IndexMap TaskKey PositionsValue S → TaskKey → ℕ
   spare_under positions k = spare_or_zero (get same_key positions k)
 
 -- of the positions of answers

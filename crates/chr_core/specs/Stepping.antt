@@ -1,6 +1,6 @@
 -- What a step of a core needs, and what it leaves.
 use Rattle.std.specs.Prelude.{◌≡◌, ℕ, IfOk, OnErr, Result}
-use Rattle.chr_shelf.specs.declared.run.Run.{Ghosts}
+use Rattle.chr_shelf.specs.declared.run.RunName.{Ghosts}
 use Rattle.chr_machine.specs.MachineView.{Steps}
 use Rattle.chr_machine.specs.NeedView.{Needed, need}
 use Rattle.chr_machine.specs.declared.stepped.Stepped.{Stepped}

@@ -7,7 +7,7 @@ ghost use Rattle.chr_laws.specs.Kept.{Answered};
 
 use crate::Memory;
 use crate::kept::Kept;
-use crate::spots::{Key, Spots};
+use crate::spots::{Spots, TaskKey};
 use chr_find::Task;
 use chr_store::HeadIds;
 use std::alloc::Allocator;
@@ -19,11 +19,11 @@ pub(crate) struct Answers<A: Allocator> {
     pub(crate) spots: Spots<A>,
 }
 
-fn key_of(task: Task) -> Key
+fn key_of(task: Task) -> TaskKey
     ensures goal { result.goal ≡ task.goal.0 }
     ensures occurrence { result.occurrence ≡ task.occurrence }
 {
-    Key {
+    TaskKey {
         goal: task.goal.0,
         occurrence: task.occurrence,
     }

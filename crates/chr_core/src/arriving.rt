@@ -16,7 +16,7 @@ use crate::run_core::Core;
 use chr_find::Task;
 use chr_schedule::Event;
 use chr_semantics::limits::KEPT_ROUNDS;
-use chr_shelf::{Answer, Run, Shelf};
+use chr_shelf::{Answer, RunName, Shelf};
 use std::alloc::Allocator;
 
 /// What became of an answer, with the number of its round.
@@ -31,7 +31,7 @@ pub enum Took {
     Stranger,
 }
 
-impl<'p, J: Run, A: Allocator + Copy> Core<'p, J, A> {
+impl<'p, J: RunName, A: Allocator + Copy> Core<'p, J, A> {
     ghost use Rattle.chr_core.specs.CoreView.{AllowsArrival, IsAsBefore, IsSameRun, arrived, core_in, events_of, machine_in, places_of, progress_of, start_of, took_view};
     ghost use Rattle.chr_core.specs.AnswersView.{HasRoom};
     ghost use Rattle.chr_core.specs.Arriving.{HasArrived, answered};

@@ -1,11 +1,9 @@
 //! Numbers by place.
 ghost use Rattle.std.specs.Prelude.{◌≡◌, ◌<◌, ◌==◌, ℕ, None, OnOk};
 
+use chr_term::FoldState;
 use indexmap::IndexMap;
 use std::alloc::{AllocError, Allocator};
-use std::hash::{BuildHasherDefault, FoldHasher};
-
-type FoldState = BuildHasherDefault<FoldHasher>;
 
 /// The first number that was put at each place.
 #[derive(Drop)]

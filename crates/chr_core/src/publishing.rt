@@ -14,11 +14,11 @@ use crate::round::Round;
 use crate::run_core::Core;
 use chr_schedule::Event;
 use chr_semantics::limits::MAX_ROUNDS;
-use chr_shelf::{Run, Shelf, Ticket};
+use chr_shelf::{RunName, Shelf, Ticket};
 use std::alloc::Allocator;
 use std::sync::Wait;
 
-impl<'p, J: Run, A: Allocator + Copy> Core<'p, J, A> {
+impl<'p, J: RunName, A: Allocator + Copy> Core<'p, J, A> {
     ghost use Rattle.chr_core.specs.CoreView.{IsAsBefore, IsSameRun, events_of, machine_in, places_of, progress_of, start_of};
     ghost use Rattle.chr_core.specs.declared.error.CoreError.TheVariants.{Memory as OutOfMemory};
     ghost use Rattle.chr_core.specs.ErrorView.{is_full};

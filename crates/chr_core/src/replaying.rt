@@ -17,7 +17,7 @@ use chr_machine::Outcome;
 use chr_rules::{Program, Query};
 use chr_schedule::Event;
 use chr_semantics::limits::{MAX_ROUNDS, MAX_TRANSITIONS};
-use chr_shelf::{Run, Shelf, solve};
+use chr_shelf::{RunName, Shelf, solve};
 use std::alloc::Allocator;
 use std::marker::Brand;
 use std::sync::Wait;
@@ -30,14 +30,14 @@ pub(crate) struct Arrival {
     pub(crate) index: u32,
 }
 
-/// The place of the next event of a schedule, and the Steps before it.
+/// Where a replay stands: the place of the next event of the schedule, and the Steps before it.
 #[derive(Clone, Copy, Drop)]
-pub(crate) struct Turn {
+pub(crate) struct Moment {
     pub(crate) place: usize,
     pub(crate) steps: u64,
 }
 
-impl<'p, J: Run, A: Allocator + Copy> Core<'p, J, A> {
+impl<'p, J: RunName, A: Allocator + Copy> Core<'p, J, A> {
     ghost use Rattle.chr_core.specs.CoreView.{events_of, machine_in, progress_of, query_of, start_of};
     ghost use Rattle.chr_core.specs.Replaying.{IsReplayed, IsSameQuery, refusal_after};
 
@@ -150,7 +150,7 @@ impl<'p, J: Run, A: Allocator + Copy> Core<'p, J, A> {
         program: &Program<A>,
         shelf: &Shelf<A>,
         events: &[Event],
-        turn: Turn,
+        turn: Moment,
     ) -> Result<u64, ReplayError>
         requires run { IsOfRun J.shelf J.rules shelf.now program.now }
         requires within { turn.place < length events.now }
@@ -192,7 +192,7 @@ impl<'p, J: Run, A: Allocator + Copy> Core<'p, J, A> {
     {
         let mut steps = 0u64;
         for place in 0..events.len() {
-            let turn = Turn { place, steps };
+            let turn = Moment { place, steps };
             steps = self.replay_event(rt, program, shelf, events, turn)?;
         }
         Ok(())
@@ -200,7 +200,7 @@ impl<'p, J: Run, A: Allocator + Copy> Core<'p, J, A> {
 }
 
 /// As `replay`, over a shelf and under the name of its run.
-fn replay_named<J: Run, A: Allocator + Copy>(
+fn replay_named<J: RunName, A: Allocator + Copy>(
     rt: &impl Wait,
     alloc: A,
     program: &Program<A>,

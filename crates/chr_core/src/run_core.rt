@@ -27,7 +27,7 @@ use crate::round::Round;
 use chr_machine::{Machine, Outcome};
 use chr_rules::{Program, Query};
 use chr_schedule::Event;
-use chr_shelf::{Run, Ticket};
+use chr_shelf::{RunName, Ticket};
 use std::alloc::{Allocator, Global};
 
 /// How many answers were kept, came late, or came again; and how many steps used one, or searched themselves.
@@ -42,7 +42,7 @@ pub struct Counts {
 
 /// A run of a query to which answers come that were made elsewhere. It stands at a schedule of its query, which is the list of its events.
 #[derive(Drop)]
-pub struct Core<'p, J: Run, A: Allocator = Global> {
+pub struct Core<'p, J: RunName, A: Allocator = Global> {
     pub(crate) machine: Machine<'p, A>,
     pub(crate) query: Query<A>,
     pub(crate) events: Vec<Event, A>,
@@ -65,7 +65,7 @@ pub struct Core<'p, J: Run, A: Allocator = Global> {
     ghost numbered: { AreNumbered (number_at by_place) (places_in tickets.items) } by { Prim.hlevel cores },
 }
 
-impl<'p, J: Run, A: Allocator + Copy> Core<'p, J, A> {
+impl<'p, J: RunName, A: Allocator + Copy> Core<'p, J, A> {
     ghost use Rattle.chr_core.specs.CoreView.{counts_view, events_of, machine_in, names_in, progress_of, query_of, start_of};
 
     /// The core of a query that was read for this program, at its start.

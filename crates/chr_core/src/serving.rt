@@ -10,7 +10,7 @@ use crate::run_core::Core;
 use crate::stamps::{own_touches, touches};
 use chr_find::Task;
 use chr_machine::Need;
-use chr_shelf::Run;
+use chr_shelf::RunName;
 use chr_store::Row;
 use std::alloc::Allocator;
 
@@ -33,7 +33,7 @@ fn is_sum(one: u128, other: u128, sum: u128) -> bool
     }
 }
 
-impl<'p, J: Run, A: Allocator + Copy> Core<'p, J, A> {
+impl<'p, J: RunName, A: Allocator + Copy> Core<'p, J, A> {
     ghost use Rattle.chr_core.specs.CoreView.{core_in, machine_in, progress_of, start_of};
     ghost use Rattle.chr_core.specs.Serving.{GuestPasses, IsAsked, NoneServes, ServesAt, guest_passes, row_passes, served_by};
 

@@ -3,15 +3,13 @@ ghost use Rattle.std.specs.Prelude.{◌≡◌, ◌<◌, ◌++◌, ◌∷◌, [],
 ghost use Rattle.chr_semantics.specs.Tasks.{Task, same_task};
 
 use crate::positions::Positions;
+use chr_term::FoldState;
 use indexmap::IndexMap;
 use std::alloc::{AllocError, Allocator};
-use std::hash::{BuildHasherDefault, FoldHasher};
-
-type FoldState = BuildHasherDefault<FoldHasher>;
 
 /// A task: the search for the constraint with this identity at this occurrence of its symbol.
 #[derive(Clone, Copy, PartialEq, Eq, Hash, Drop)]
-pub(crate) struct Key {
+pub(crate) struct TaskKey {
     pub(crate) goal: u64,
     pub(crate) occurrence: u32,
 }
@@ -19,7 +17,7 @@ pub(crate) struct Key {
 /// For each task the position of one answer to a stored constraint's task, and the positions of answers to guests' tasks.
 #[derive(Drop)]
 pub(crate) struct Spots<A: Allocator> {
-    positions: IndexMap<Key, Positions<A>, FoldState, A>,
+    positions: IndexMap<TaskKey, Positions<A>, FoldState, A>,
     alloc: A,
 }
 
@@ -38,7 +36,7 @@ impl<A: Allocator + Copy> Spots<A> {
     }
 
     /// Makes room for one more answer to a task, and changes nothing else.
-    pub(crate) fn room(&mut self, key: Key) -> Result<(), AllocError>
+    pub(crate) fn room(&mut self, key: TaskKey) -> Result<(), AllocError>
         ensures row { (t : Task) → row_at self.new t ≡ row_at self.old t }
         ensures guests { (t : Task) → guests_at self.new t ≡ guests_at self.old t }
         ensures ok { OnOk result (0 < spare_at self.new (task_of key)) }
@@ -57,7 +55,7 @@ impl<A: Allocator> Spots<A> {
     ghost use Rattle.chr_core.specs.SpotsView.{guests_at, row_at, spare_at, task_of};
 
     /// The position of the answer to a stored constraint's task.
-    pub(crate) fn row(&self, key: Key) -> Option<usize>
+    pub(crate) fn row(&self, key: TaskKey) -> Option<usize>
         ensures { result ≡ row_at self.now (task_of key) }
     {
         // Most runs keep no answer: nothing is hashed in these.
@@ -71,7 +69,7 @@ impl<A: Allocator> Spots<A> {
     }
 
     /// The positions of the answers to a guest's task, in the order in which they came.
-    pub(crate) fn guests(&self, key: Key) -> &[usize]
+    pub(crate) fn guests(&self, key: TaskKey) -> &[usize]
         ensures { result.now ≡ guests_at self.now (task_of key) }
     {
         if self.positions.is_empty() {
@@ -84,7 +82,7 @@ impl<A: Allocator> Spots<A> {
     }
 
     /// Puts the position of the answer to a stored constraint's task, for which room was made.
-    pub(crate) fn set_row(&mut self, key: Key, position: usize)
+    pub(crate) fn set_row(&mut self, key: TaskKey, position: usize)
         requires { 0 < spare_at self.old (task_of key) }
         ensures row { (t : Task) → row_at self.new t
             ≡ cond (same_task t (task_of key)) (Some position) (row_at self.old t) }
@@ -96,7 +94,7 @@ impl<A: Allocator> Spots<A> {
     }
 
     /// Appends the position of an answer to a guest's task, for which room was made.
-    pub(crate) fn push_guest(&mut self, key: Key, position: usize)
+    pub(crate) fn push_guest(&mut self, key: TaskKey, position: usize)
         requires { 0 < spare_at self.old (task_of key) }
         ensures row { (t : Task) → row_at self.new t ≡ row_at self.old t }
         ensures guests { (t : Task) → guests_at self.new t

@@ -13,7 +13,7 @@ use chr_find::Task;
 use chr_machine::{Need, Stepped};
 use chr_schedule::Event;
 use chr_semantics::limits::MAX_TRANSITIONS;
-use chr_shelf::Run;
+use chr_shelf::RunName;
 use std::alloc::Allocator;
 
 /// Appends the event of a step, for which room was made: Ended and Spent are none. How many Steps that makes.
@@ -31,7 +31,7 @@ fn note_step<A: Allocator>(events: &mut Vec<Event, A>, stepped: Stepped) -> u64
     }
 }
 
-impl<'p, J: Run, A: Allocator + Copy> Core<'p, J, A> {
+impl<'p, J: RunName, A: Allocator + Copy> Core<'p, J, A> {
     ghost use Rattle.chr_core.specs.CoreView.{IsAsBefore, core_in, events_of, machine_in, places_of, query_of, start_of, stepped_events};
     ghost use Rattle.chr_core.specs.Rooms.{HasEventRoom};
     ghost use Rattle.chr_core.specs.Serving.{NoneServes, ServesAt};

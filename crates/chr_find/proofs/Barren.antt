@@ -2,7 +2,7 @@
 use Rattle.std.proofs.Common.{◌≡◌, ◌∙◌, ◌+◌, ◌==◌, ◌||◌, ℕ, zero, suc, Bool, true, false, cond, List, [], ◌∷◌, ◌++◌, map, Option, Some, None, ap, refl, sym, arith, add-zero}
 use Rattle.std.specs.Prelude.{All, filter, flat_map, slice_get}
 use Rattle.std.proofs.lemmas.List.Elements.{All-cons, All-head, All-nil, All-tail}
-use Rattle.chr_semantics.proofs.Makes.{Extends, Extends-through, fit_atom_least, fit_atom_makes, none_some}
+use Rattle.chr_semantics.proofs.Makes.{Extends, Extends-through, fit_atom_least, fit_atom_makes}
 use Rattle.chr_semantics.specs.Join.{Joined, after_row, branch, joined}
 use Rattle.chr_semantics.specs.Match.{Row, fit_atom}
 use Rattle.chr_semantics.specs.Program.{Atom, Head}
@@ -10,6 +10,7 @@ use Rattle.chr_semantics.specs.Search.{has_number}
 use Rattle.chr_semantics.specs.Subst.{Subst}
 use Rattle.chr_find.specs.Shown.{any_new}
 use Rattle.chr_find.proofs.Gates.{new_id}
+use Rattle.std.proofs.lemmas.Option.{none-some}
 
 -- what does not fit under a match does not fit under a longer one
 misfit_more : (h a : Atom) (m n : Subst) → Extends m n → fit_atom h a m ≡ None → fit_atom h a n ≡ None
@@ -20,7 +21,7 @@ misfit_more h a m n more none = by_match (fit_atom h a n) refl
     by_match (Some k) e =
         let made = fit_atom_makes h a n k e in
         let least = fit_atom_least h a m k (Extends-through m n k more made.0) made.1 in
-        absurd (none_some least.0 (sym none ∙ least.1))
+        absurd (none-some least.0 (sym none ∙ least.1))
 
 none_after : (a : Row) (ps : List Joined) → ps ≡ [] → map (after_row a) ps ≡ []
 none_after a ps e = ap (map (after_row a)) e
@@ -54,7 +55,7 @@ branch_none further c false h m (Some n) e none = none_after c (further n) (none
 
 -- a head but the own one that no row fits leaves nothing
 pub joined_none : (rows : List Row) (a : Row) (place : ℕ) (hs : List Head) (used : List ℕ) (j : ℕ) (m n : Subst) (k : ℕ) (x : Head) → slice_get hs k ≡ Some x → (j + k == place) ≡ false → Extends m n → All (λ (c : Row). fit_atom x.atom c.1 m ≡ None) rows → joined rows a place hs used j n ≡ []
-joined_none rows a place [] used j m n k x at apart more all = absurd (none_some x at)
+joined_none rows a place [] used j m n k x at apart more all = absurd (none-some x at)
 joined_none rows a place (h ∷ hs) used j m n zero x at apart more all =
     let same : h ≡ x = one_head h x at in
     let other : (j == place) ≡ false = ap (λ (i : ℕ). i == place) (sym (add-zero j)) ∙ apart in

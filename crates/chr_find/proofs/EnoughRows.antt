@@ -2,7 +2,7 @@
 use Rattle.std.proofs.Common.{◌≡◌, ◌∙◌, ℕ, ◌<◌, Bool, true, false, List, ap, sym, refl, subst, inr, ◌∷◌}
 use Rattle.std.specs.Prelude.{◌==◌, ◌&&◌, Option, Some, None, option_and_then, option_map, get_or, length}
 use Rattle.std.specs.List.{list_any}
-use Rattle.std.proofs.lemmas.Bool.{ne_eqb}
+use Rattle.std.proofs.lemmas.Bool.{eq-eqb, ne_eqb}
 use Rattle.std.proofs.lemmas.Bool.Decides.{Decides-eqb}
 use Rattle.std.proofs.lemmas.List.Folds.{list_any_at}
 use Rattle.std.proofs.lemmas.Option.{slice_get_read}
@@ -21,14 +21,38 @@ use Rattle.chr_semantics.specs.Tree.{Trees}
 use Rattle.chr_term.specs.TermView.{atom_view, trees_view, view}
 use Rattle.chr_term.specs.declared.term.Sym.{Sym}
 use Rattle.chr_term.specs.declared.term.Term.{Term}
-use Rattle.chr_find.specs.Enough.{FitsHead, IsEnough, TakesAs}
+use Rattle.chr_find.specs.Enough.{FitsHead, IsEnough, IsEnoughBy, TakesAs}
+use Rattle.chr_find.specs.PlanView.{is_lookup}
 use Rattle.chr_find.specs.RootView.{root_view, roots_view}
-use Rattle.chr_find.specs.declared.list.List.TheVariants.{Symbol, At}
+use Rattle.chr_find.specs.declared.bucket.Bucket.TheVariants.{All, Symbol, At}
+use Rattle.chr_find.specs.declared.plan.Lookup.TheVariants.{Position, Symbol as Alone}
 use Rattle.chr_find.specs.declared.root.Root.{Root}
 use Rattle.chr_find.proofs.Arguments.{arg_view}
+use Rattle.chr_find.specs.declared.plan.Lookup.{Lookup}
 
-pub symbol_enough : (ps : ℕ → List ℕ) (f : Sym) (h : Atom) (m : Subst) → h.sym ≡ f.0 → IsEnough ps h m (Symbol f)
-symbol_enough ps f h m e c out = root_law.symbols (record { atom = h; passive = false }) m c (eqb_sym c.1.sym h.sym ∙ (ap (λ (n : ℕ). n == c.1.sym) e ∙ out))
+-- a constraint of another symbol
+symbol_apart : (f : Sym) (h : Atom) (m : Subst) → h.sym ≡ f.0 → (c : Constraint) → (f.0 == c.1.sym) ≡ false → fit_atom h c.1 m ≡ None
+symbol_apart f h m e c other = root_law.symbols (record { atom = h; passive = false }) m c (eqb_sym c.1.sym h.sym ∙ (ap (λ (n : ℕ). n == c.1.sym) e ∙ other))
+
+-- the indexes of a symbol are those of the same one
+same_symbol : (ps : ℕ → List Lookup) (x : Lookup) (f n : ℕ) → list_any (is_lookup x) (ps f) ≡ true → (f == n) ≡ true → list_any (is_lookup x) (ps n) ≡ true
+same_symbol ps x f n planned same = ap (λ (k : ℕ). list_any (is_lookup x) (ps k)) (sym ((Decides-eqb f n).0 same)) ∙ planned
+
+-- a test that fails where the symbols are the same fails by the symbols
+by_symbol : (s p : Bool) (P : Type 0) → (s && p) ≡ false → (s ≡ false → P) → (s ≡ true → p ≡ true) → P
+by_symbol false p P e f g = f refl
+by_symbol true p P e f g = absurd (let no : false ≡ true = sym e ∙ g refl in cc)
+
+pub symbol_enough : (ps : ℕ → List Lookup) (f : Sym) (h : Atom) (m : Subst) → h.sym ≡ f.0 → list_any (is_lookup Alone) (ps f.0) ≡ true → IsEnough ps h m (Symbol f)
+symbol_enough ps f h m e planned c out =
+    by_symbol (f.0 == c.1.sym) (list_any (is_lookup Alone) (ps c.1.sym)) (fit_atom h c.1 m ≡ None) out (symbol_apart f h m e c) (same_symbol ps Alone f.0 c.1.sym planned)
+
+-- as the code learns it
+pub alone_enough : {A : Type 0} (f : Sym) (args : List (Term A)) (matching : Match A) → IsEnoughBy matching (atom_view f args) Alone (Symbol f)
+alone_enough f args matching ps m planned agrees = symbol_enough ps f (atom_view f args) m refl planned
+
+pub all_enough : (ps : ℕ → List Lookup) (h : Atom) (m : Subst) → IsEnough ps h m All
+all_enough ps h m c out = absurd (let no : true ≡ false = out in cc)
 
 -- a test that fails where the symbols are the same fails by the root
 by_root : (s p k : Bool) (P : Type 0) → (s && (p && k)) ≡ false → (s ≡ false → P) → (s ≡ true → p ≡ true) → (k ≡ false → P) → P
@@ -36,22 +60,26 @@ by_root false p k P e f g h = f refl
 by_root true true k P e f g h = h e
 by_root true false k P e f g h = absurd (let no : false ≡ true = g refl in cc)
 
-pub root_enough : (ps : ℕ → List ℕ) (f : Sym) (p : ℕ) (k : Root) (h : Atom) (m : Subst) → h.sym ≡ f.0 → list_any (λ q. q == p) (ps f.0) ≡ true → option_and_then (pattern_root m) (arg_at h.args p) ≡ Some (root_view k) → IsEnough ps h m (At f p k)
+pub root_enough : (ps : ℕ → List Lookup) (f : Sym) (p : ℕ) (k : Root) (h : Atom) (m : Subst) → h.sym ≡ f.0 → list_any (is_lookup (Position p)) (ps f.0) ≡ true → option_and_then (pattern_root m) (arg_at h.args p) ≡ Some (root_view k) → IsEnough ps h m (At f p k)
 root_enough ps f p k h m e planned asks c out =
-    by_root (f.0 == c.1.sym) (list_any (λ q. q == p) (ps c.1.sym)) (is_root (root_view k) (option_map root_of (arg_at c.1.args p))) (fit_atom h c.1 m ≡ None) out
-    (λ other. symbol_enough ps f h m e c other)
-    (λ same. ap (λ (n : ℕ). list_any (λ q. q == p) (ps n)) (sym ((Decides-eqb f.0 c.1.sym).0 same)) ∙ planned)
+    by_root (f.0 == c.1.sym) (list_any (is_lookup (Position p)) (ps c.1.sym)) (is_root (root_view k) (option_map root_of (arg_at c.1.args p))) (fit_atom h c.1 m ≡ None) out
+    (symbol_apart f h m e c)
+    (same_symbol ps (Position p) f.0 c.1.sym planned)
     (λ apart. root_law.roots (record { atom = h; passive = false }) m p (root_view k) c asks apart)
 
 -- as the code learns it
-pub list_enough : {A : Type 0} (ps : ℕ → List ℕ) (f : Sym) (args : List (Term A)) (p : ℕ) (t : Term A) (o : Option Root) (k : Root) (m : Subst) → list_any (λ q. q == p) (ps f.0) ≡ true → p < length args → t ≡ get_or args p t → o ≡ Some k → roots_view o ≡ pattern_root m (view t)
+pub bucket_enough : {A : Type 0} (ps : ℕ → List Lookup) (f : Sym) (args : List (Term A)) (p : ℕ) (t : Term A) (o : Option Root) (k : Root) (m : Subst) → list_any (is_lookup (Position p)) (ps f.0) ≡ true → p < length args → t ≡ get_or args p t → o ≡ Some k → roots_view o ≡ pattern_root m (view t)
     → IsEnough ps (atom_view f args) m (At f p k)
-list_enough ps f args p t o k m planned within term is asks =
+bucket_enough ps f args p t o k m planned within term is asks =
     root_enough ps f p k (atom_view f args) m refl planned (ap (option_and_then (pattern_root m)) (arg_view args p ∙ ap (option_map view) (slice_get_read args _ p t refl within term)) ∙ (sym asks ∙ ap roots_view is))
 
--- a position for the symbol
-pub planned_at : (ps : ℕ → List ℕ) (f : ℕ) (qs : List ℕ) (i d p : ℕ) → qs ≡ ps f → i < length qs → p ≡ get_or qs i d → list_any (λ q. q == p) (ps f) ≡ true
-planned_at ps f qs i d p planned inside at = ap (list_any (λ q. q == p)) (sym planned) ∙ list_any_at (λ q. q == p) qs i d inside ((Decides-eqb (get_or qs i d) p).1 (sym at))
+lookup_itself : (x : Lookup) → is_lookup x x ≡ true
+lookup_itself Alone = refl
+lookup_itself (Position p) = eq-eqb p p refl
+
+-- an index of the symbol
+pub planned_at : (ps : ℕ → List Lookup) (f : ℕ) (qs : List Lookup) (i : ℕ) (d : Lookup) → qs ≡ ps f → i < length qs → list_any (is_lookup (get_or qs i d)) (ps f) ≡ true
+planned_at ps f qs i d planned inside = let x = get_or qs i d in ap (list_any (is_lookup x)) (sym planned) ∙ list_any_at (is_lookup x) qs i d inside (lookup_itself x)
 
 -- neither the own identity nor one of the others
 pub unused : (i own : ℕ) (used : List ℕ) → has_number used i ≡ false → (i ≡ own → ⊥) → has_number (own ∷ used) i ≡ false

@@ -63,7 +63,7 @@ scanned : (es : List (Fired × Unit {0})) (q : Fired) → is_in es q ≡ true �
 scanned [] q e = cc
 scanned (x ∷ es) q e = scan_at (fired_cmp q x.0) x.1 (value_of fired_cmp es q) (value_at fired_cmp total-law es q) (scanned es q) e
 
-both_true : (a b : Bool) → (a ≡ true → b ≡ true) → (a && b) ≡ a
+pub both_true : (a b : Bool) → (a ≡ true → b ≡ true) → (a && b) ≡ a
 both_true true b h = h refl
 both_true false b h = refl
 

@@ -9,17 +9,14 @@ use Rattle.chr_semantics.specs.Search.{ids_of}
 use Rattle.chr_semantics.specs.Join.{Joined, after_row}
 use Rattle.chr_semantics.specs.Cursor.{is_new, lex_lt}
 use Rattle.chr_find.specs.Gate.{Gate, admits, before, free, gate_bound, next_gate, on, passed}
-
-or_true : (b : Bool) → (b || true) ≡ true
-or_true true = refl
-or_true false = refl
+use Rattle.std.proofs.Math.Bool.{or-true}
 
 end_at : (from : ℕ) (b : Bool) (t : List ℕ) → (b || list_any (is_new from) t) ≡ admits from (cond b free before) t
 end_at from true t = refl
 end_at from false t = refl
 
 on_at : (from : ℕ) (b less same : Bool) (ls t : List ℕ) → ((less || (same && lex_lt ls t)) || (b || list_any (is_new from) t)) ≡ admits from (cond b free (cond less free (cond same (on ls) before))) t
-on_at from true less same ls t = or_true (less || (same && lex_lt ls t))
+on_at from true less same ls t = or-true (less || (same && lex_lt ls t))
 on_at from false true same ls t = refl
 on_at from false false true ls t = refl
 on_at from false false false ls t = refl

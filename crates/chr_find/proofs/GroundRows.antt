@@ -1,7 +1,7 @@
 -- Tables in which no constraint has variables.
 use Rattle.std.proofs.Common.{◌≡◌, ◌∙◌, ◌==◌, ◌<◌, ◌||◌, ℕ, Bool, true, false, not, cond, List, [], ◌∷◌, ap, arith, length, refl, subst, sym}
 use Rattle.std.specs.Prelude.{Option, Some, None, filter, option_map}
-use Rattle.std.proofs.lemmas.Bool.{eq-eqb, ne_eqb}
+use Rattle.std.proofs.lemmas.Bool.{eq-eqb, ne_eqb, not-false}
 use Rattle.std.proofs.lemmas.Bool.Decides.{Decides-eqb}
 use Rattle.chr_map.specs.Order.{Ascends}
 use Rattle.chr_semantics.specs.Match as semantics
@@ -10,12 +10,12 @@ use Rattle.chr_semantics.specs.Search.{atom_of, ids_of}
 use Rattle.chr_semantics.specs.State.{resolved_atom}
 use Rattle.chr_semantics.specs.Subst.{Subst}
 use Rattle.chr_semantics.specs.Tree.{is_ground_trees}
-use Rattle.chr_find.specs.Places.{place_cmp}
-use Rattle.chr_find.specs.PlanView.{positions_of}
+use Rattle.chr_find.specs.IndexKeys.{index_cmp}
+use Rattle.chr_find.specs.PlanView.{lookups_of}
 use Rattle.chr_find.specs.Rebinding.{Replaces, is_open, open_ids}
 use Rattle.chr_find.specs.Shown.{AllOver, AreGround, Rises, atom_in, walk}
 use Rattle.chr_find.specs.TableView.{IsWhole, atom_at, atoms_with}
-use Rattle.chr_find.specs.declared.list.List.TheVariants.{Open}
+use Rattle.chr_find.specs.declared.bucket.Bucket.TheVariants.{Open}
 use Rattle.chr_find.specs.declared.rebinding.Replaced.{Replaced}
 use Rattle.chr_find.specs.declared.table.Table.{Table}
 use Rattle.chr_find.proofs.MadeWhole.{closed_stays, ground_same, open_looked}
@@ -23,10 +23,6 @@ use Rattle.chr_find.proofs.MadeWhole.{closed_stays, ground_same, open_looked}
 -- the same constraints
 pub ground_alike : (f k : ℕ → Option Atom) → ((i : ℕ) → k i ≡ f i) → AreGround f → AreGround k
 ground_alike f k same h i a e = h i a (sym (same i) ∙ e)
-
-pub was_true : (b : Bool) → not b ≡ false → b ≡ true
-was_true true e = refl
-was_true false e = cc
 
 -- none at all
 pub ground_nowhere : (f : ℕ → Option Atom) → ((i : ℕ) → f i ≡ None) → AreGround f
@@ -50,7 +46,7 @@ ground_without f n h = ground_with f n None (λ a e. cc) h
 -- one more, where neither it nor the others have variables
 pub ground_added : (f : ℕ → Option Atom) (n : ℕ) (a : Atom) (others new : Bool) → (others ≡ false → AreGround f) → new ≡ not (is_ground_trees a.args) → (others || new) ≡ false → AreGround (atoms_with f n (Some a))
 ground_added f n a true new h is e = cc
-ground_added f n a false new h is e = ground_with f n (Some a) (λ b same. ap (λ (x : Atom). is_ground_trees x.args) (sym (some_is a b same)) ∙ was_true (is_ground_trees a.args) (sym is ∙ e)) (h refl)
+ground_added f n a false new h is e = ground_with f n (Some a) (λ b same. ap (λ (x : Atom). is_ground_trees x.args) (sym (some_is a b same)) ∙ not-false (is_ground_trees a.args) (sym is ∙ e)) (h refl)
   where
     some_is : (x y : Atom) → ◌≡◌ {A = Option Atom} (Some x) (Some y) → x ≡ y
     some_is x y e = cc
@@ -84,15 +80,11 @@ ground_none_open s (c ∷ rows) up h =
 pub none_replaced : {A : Type 0} (f : ℕ → Option Atom) (rs : List (Replaced A)) → rs ≡ [] → Replaces f rs
 none_replaced f rs e = subst (λ (l : List (Replaced _)). Replaces f l) (sym e) (record { rises = tt; there = tt })
 
-pub none_listed : {X : Type 0} (l : List X) → length l ≡ 0 → l ≡ []
-none_listed [] e = refl
-none_listed (x ∷ l) e = absurd (omega (arith, e))
-
 -- a table whose list of rows with variables is empty
-module _ {A : Type 0} (t : Table A) (whole : IsWhole t) (up : Ascends place_cmp t.noted.rows) where
-  pub none_open : walk Open t.noted.rows ≡ [] → AreGround (atom_at t)
+module _ {A : Type 0} (t : Table A) (whole : IsWhole t) (up : Ascends index_cmp t.index.rows) where
+  pub none_open : walk Open t.index.rows ≡ [] → AreGround (atom_at t)
   none_open empty i a e =
-      by_test (is_ground_trees a.args) (ap (λ (o : Option Atom). atom_in Open (positions_of t.noted.plan) o) (sym e) ∙ (sym (open_looked t whole up i) ∙ ap (λ (rows : List semantics.Row). atom_of rows i) empty))
+      by_test (is_ground_trees a.args) (ap (λ (o : Option Atom). atom_in Open (lookups_of t.index.plan) o) (sym e) ∙ (sym (open_looked t whole up i) ∙ ap (λ (rows : List semantics.Row). atom_of rows i) empty))
     where
       by_test : (b : Bool) → cond (not b) (Some a) None ≡ None → b ≡ true
       by_test true e = refl

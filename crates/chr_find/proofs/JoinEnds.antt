@@ -18,6 +18,7 @@ use Rattle.chr_find.proofs.FoundLists.{finds_after, finds_same}
 use Rattle.chr_find.proofs.Gates.{passed-after, passed-flat_map}
 use Rattle.chr_find.proofs.JoinSteps.{step_misfit, used_next}
 use Rattle.chr_find.proofs.SearchParts.{drop_at}
+use Rattle.chr_semantics.proofs.SearchedLists.{flat_map-filter}
 
 end_picked : (t : Bool) (prefix : List ℕ) (m : Subst) → option_map (λ (p : Joined). prefix ++ ids_of p.0) (cond t (Some ([], m)) None) ≡ cond t (Some prefix) None
 end_picked true prefix m = ap (λ (l : List ℕ). Some l) (append-nil prefix)
@@ -86,14 +87,6 @@ joined_here : (rows : List Row) (a : Row) (place : ℕ) (x : Head) (hs : List He
     → joined rows a place all used k m ≡ flat_map (λ c. step_of rows a place hs used k m x.atom c) rows
 joined_here rows a place x hs used k m all is other = rw (is, other) refl
 
-flat_kept : {X Y : Type 0} (f : X → List Y) (p : X → Bool) (xs : List X) → ((x : X) → p x ≡ false → f x ≡ []) → flat_map f (filter p xs) ≡ flat_map f xs
-flat_kept f p [] out = refl
-flat_kept f p (x ∷ xs) out = by_test (p x) refl (flat_kept f p xs out)
-  where
-    by_test : (b : Bool) → p x ≡ b → flat_map f (filter p xs) ≡ flat_map f xs → flat_map f (cond b (x ∷ filter p xs) (filter p xs)) ≡ f x ++ flat_map f xs
-    by_test true e go = ap (λ l. f x ++ l) go
-    by_test false e go = go ∙ ap (λ l. l ++ flat_map f xs) (sym (out x e))
-
 module _ {A : Type 0} (rows : List Row) (h : History) (r : ℕ) (rule : Rule) (place own level : ℕ) (partners : List ℕ) (matching : Match A) (from quiet : ℕ) (gate : Gate) (x : Head) (at : slice_get rule.heads level ≡ Some x) where
   pub at_own : (longer : List ℕ) (result : Option (List ℕ)) (told now : ℕ) → longer ≡ partners ++ own ∷ [] → (level == place) ≡ true
       → JoinIs rows h r rule place own (level + 1) longer matching from quiet (next_gate from gate own) result told now → JoinIs rows h r rule place own level partners matching from quiet gate result told now
@@ -115,5 +108,5 @@ module _ {A : Type 0} (rows : List Row) (h : History) (r : ℕ) (rule : Rule) (p
       let f : Row → List Joined = λ c. passed from gate (step c) in
       finds_same h r rule.guard partners (passed from gate (joined rows a place (drop level rule.heads) used level m)) (flat_map f (filter keep rows)) result told now
       (ap (passed from gate) (joined_here rows a place x hs used level m (drop level rule.heads) (drop_at rule.heads level x at) other)
-      ∙ (passed-flat_map from gate step rows ∙ sym (flat_kept f keep rows (λ c out. ap (passed from gate) (step_misfit rows a place hs used level m x.atom c (enough m agrees c out))))))
+      ∙ (passed-flat_map from gate step rows ∙ sym (flat_map-filter f keep rows (λ c out. ap (passed from gate) (step_misfit rows a place hs used level m x.atom c (enough m agrees c out))))))
       (w a used m owns known agrees q)

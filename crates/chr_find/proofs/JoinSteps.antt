@@ -16,11 +16,7 @@ use Rattle.chr_find.specs.Joins.{JoinIs, WalkIs, step_of}
 use Rattle.chr_find.specs.SearchIs.{if_found}
 use Rattle.chr_find.proofs.FoundLists.{finds_after, finds_first_part, finds_none, finds_same, finds_second_part}
 use Rattle.chr_find.proofs.Gates.{passed-after}
-
-branch_none : (f : Subst → List Joined) (c : Row) (b : Bool) (e : Option Subst) → e ≡ None → branch f c b e ≡ []
-branch_none f c true e h = refl
-branch_none f c false None h = refl
-branch_none f c false (Some n) h = cc
+use Rattle.chr_semantics.proofs.JoinLaw.{branch_none}
 
 step_used : (rows : List Row) (a : Row) (place : ℕ) (hs : List Head) (used : List ℕ) (k : ℕ) (m : Subst) (h : Atom) (c : Row) → has_number (a.0 ∷ used) c.0 ≡ true → step_of rows a place hs used k m h c ≡ []
 step_used rows a place hs used k m h c e = rw e refl

@@ -9,7 +9,7 @@ use Rattle.chr_semantics.specs.Keys.{rows_keyed}
 use Rattle.chr_semantics.specs.Match.{Row}
 use Rattle.chr_semantics.specs.Search.{atom_of, has_number, ids_of}
 use Rattle.chr_semantics.proofs.Tests.{eqb_sym}
-use Rattle.chr_find.specs.KeyedView.{is_keyed_at}
+use Rattle.chr_find.specs.LentKeysView.{is_keyed_at}
 use Rattle.chr_find.specs.Shown.{AllOver, Rises}
 use Rattle.chr_find.proofs.SameNumbers.{Over, Up, not_over, same_from_up}
 

@@ -7,7 +7,7 @@ use Rattle.chr_semantics.proofs.Lists.{list_all-more}
 use Rattle.chr_semantics.specs.Match as semantics
 use Rattle.chr_semantics.specs.Program.{Atom}
 use Rattle.chr_semantics.specs.Search.{History, atom_of}
-use Rattle.chr_find.specs.Past.{IsLike}
+use Rattle.chr_find.specs.FiringHistory.{IsLike}
 use Rattle.chr_find.specs.TableView.{HasRows, atom_at, lives}
 use Rattle.chr_find.specs.declared.table.Table.{Table}
 

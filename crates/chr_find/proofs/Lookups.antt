@@ -7,6 +7,8 @@ use Rattle.chr_semantics.specs.Match.{Row}
 use Rattle.chr_semantics.specs.Program.{Atom}
 use Rattle.chr_semantics.specs.Search.{atom_of}
 use Rattle.chr_find.specs.Shown.{AllOver, Rises}
+use Rattle.std.proofs.lemmas.Option.{none-some}
+use Rattle.chr_semantics.proofs.Plain.{some_same}
 
 apart : (x y : ℕ) (b : Bool) → (x == y) ≡ b → y < x → b ≡ false
 apart x y false e lt = refl
@@ -26,12 +28,6 @@ over_more i j (c ∷ rows) lt h = (omega (arith, lt, h.0), over_more i j rows lt
 first_is : (c : Row) (rows : List Row) → atom_of (c ∷ rows) c.0 ≡ Some c.1
 first_is c rows = rw (same c.0) refl
 
-none_is_some : (a : Atom) → ◌≡◌ {A = Option Atom} None (Some a) → ⊥
-none_is_some a e = cc
-
-some_is : (a b : Atom) → ◌≡◌ {A = Option Atom} (Some a) (Some b) → a ≡ b
-some_is a b e = ap (λ (o : Option Atom). elim o [ None ↦ a | Some x ↦ x ]) e
-
 row_is : (c d : Row) → c.0 ≡ d.0 → c.1 ≡ d.1 → c ≡ d
 row_is c d e f i = (e i, f i)
 
@@ -49,16 +45,16 @@ tails c d xs ys e over above h i = by_test (c.0 == i) refl
 -- rows that ascend and have the same at each identity are the same
 pub same_rows : (xs ys : List Row) → Rises xs → Rises ys → ((i : ℕ) → atom_of xs i ≡ atom_of ys i) → xs ≡ ys
 same_rows [] [] up also h = refl
-same_rows [] (d ∷ ys) up also h = absurd (none_is_some d.1 (h d.0 ∙ first_is d ys))
-same_rows (c ∷ xs) [] up also h = absurd (none_is_some c.1 (sym (h c.0) ∙ first_is c xs))
+same_rows [] (d ∷ ys) up also h = absurd (none-some d.1 (h d.0 ∙ first_is d ys))
+same_rows (c ∷ xs) [] up also h = absurd (none-some c.1 (sym (h c.0) ∙ first_is c xs))
 same_rows (c ∷ xs) (d ∷ ys) up also h = by_order (λ e. same_rows xs ys up.1 also.1 (tails c d xs ys e up.0 also.0 h)) (cases_order c.0 d.0)
   where
     by_order : (c.0 ≡ d.0 → xs ≡ ys) → (c.0 ≡ d.0) ⊎ ((c.0 < d.0) ⊎ (d.0 < c.0)) → c ∷ xs ≡ d ∷ ys
     by_order rest (inl e) =
-        let atoms = some_is c.1 d.1 (sym (first_is c xs) ∙ (h c.0 ∙ (ap (atom_of (d ∷ ys)) e ∙ first_is d ys))) in
+        let atoms = some_same c.1 d.1 (sym (first_is c xs) ∙ (h c.0 ∙ (ap (atom_of (d ∷ ys)) e ∙ first_is d ys))) in
         ap (λ (x : Row). x ∷ xs) (row_is c d e atoms) ∙ ap (λ (l : List Row). d ∷ l) (rest e)
-    by_order rest (inr (inl lt)) = absurd (none_is_some c.1 (sym (none_over c.0 (d ∷ ys) (lt, over_more c.0 d.0 ys lt also.0)) ∙ (sym (h c.0) ∙ first_is c xs)))
-    by_order rest (inr (inr lt)) = absurd (none_is_some d.1 (sym (none_over d.0 (c ∷ xs) (lt, over_more d.0 c.0 xs lt up.0)) ∙ (h d.0 ∙ first_is d ys)))
+    by_order rest (inr (inl lt)) = absurd (none-some c.1 (sym (none_over c.0 (d ∷ ys) (lt, over_more c.0 d.0 ys lt also.0)) ∙ (sym (h c.0) ∙ first_is c xs)))
+    by_order rest (inr (inr lt)) = absurd (none-some d.1 (sym (none_over d.0 (c ∷ xs) (lt, over_more d.0 c.0 xs lt up.0)) ∙ (h d.0 ∙ first_is d ys)))
 
 -- the constraints that pass a test
 abbrev pub atom_if : (Row → Bool) → ℕ → Option Atom → Option Atom

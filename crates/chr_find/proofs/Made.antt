@@ -16,6 +16,7 @@ use Rattle.chr_store.specs.declared.id.Id.{Id}
 use Rattle.chr_find.specs.Rebinding.{AreThere, IsMade, is_open, new_rows, open_ids}
 use Rattle.chr_find.specs.Shown.{AllOver, AllUnder, Rises}
 use Rattle.chr_find.specs.declared.rebinding.Replaced.{Replaced}
+use Rattle.chr_semantics.proofs.Plain.{some_same}
 
 -- lists with one more at the end
 under_parts : (n : ℕ) (xs : List semantics.Row) (c : semantics.Row) → AllUnder n (xs ++ c ∷ []) → AllUnder n xs × (c.0 < n)
@@ -50,14 +51,11 @@ atom_new (x ∷ xs) c i e at = by_test (x.0 == i) (λ f. atom_new xs c i f at) e
     by_test true go e = cc
     by_test false go e = go e
 
-some_is : (x y : Atom) → ◌≡◌ {A = Option Atom} (Some x) (Some y) → x ≡ y
-some_is x y e = cc
-
 atom_last : (xs : List semantics.Row) (c : semantics.Row) (i : ℕ) (b : Atom) → atom_of (xs ++ c ∷ []) i ≡ Some b → (atom_of xs i ≡ Some b) ⊎ ((c.0 ≡ i) × (c.1 ≡ b))
 atom_last [] c i b e = by_test (c.0 == i) refl e
   where
     by_test : (t : Bool) → (c.0 == i) ≡ t → cond t (Some c.1) None ≡ Some b → (◌≡◌ {A = Option Atom} None (Some b)) ⊎ ((c.0 ≡ i) × (c.1 ≡ b))
-    by_test true is e = inr ((Decides-eqb c.0 i).0 is, some_is c.1 b e)
+    by_test true is e = inr ((Decides-eqb c.0 i).0 is, some_same c.1 b e)
     by_test false is e = inl e
 atom_last (x ∷ xs) c i b e = by_test (x.0 == i) (atom_last xs c i b) e
   where

@@ -12,20 +12,22 @@ use Rattle.chr_semantics.specs.Subst.{Subst, value_at}
 use Rattle.chr_semantics.specs.Tree.{is_ground_trees}
 use Rattle.chr_store.specs.Rows.{row_atom}
 use Rattle.chr_store.specs.declared.id.Id.{Id}
-use Rattle.chr_find.specs.Places.{place_cmp}
-use Rattle.chr_find.specs.PlanView.{positions_of}
+use Rattle.chr_find.specs.IndexKeys.{index_cmp}
+use Rattle.chr_find.specs.PlanView.{lookups_of}
 use Rattle.chr_find.specs.Rebinding.{IsMade, is_open, new_rows, open_ids, over, standing_rows}
-use Rattle.chr_find.specs.Shown.{AllOver, AllUnder, Rises, atom_in, rows_in_list, walk}
-use Rattle.chr_find.specs.NotedView.{noted_atom}
+use Rattle.chr_find.specs.Shown.{AllOver, AllUnder, Rises, atom_in, bucket_rows, walk}
+use Rattle.chr_find.specs.PendingIndexView.{indexed_atom}
 use Rattle.chr_find.specs.TableView.{HasRows, IsWhole, atom_at}
-use Rattle.chr_find.specs.declared.list.List.TheVariants.{All, Open}
+use Rattle.chr_find.specs.declared.bucket.Bucket.TheVariants.{All, Open}
 use Rattle.chr_find.specs.declared.rebinding.Replaced.{Replaced}
-use Rattle.chr_find.specs.declared.standing.Standing.{Standing}
+use Rattle.chr_find.specs.declared.constraint.Constraint.{Constraint}
 use Rattle.chr_find.specs.declared.table.Table.{Table}
 use Rattle.chr_find.proofs.Newest.{for_all, newest_none}
 use Rattle.chr_find.proofs.TableShown.{has_shown}
 use Rattle.chr_find.proofs.Numbers.{next_is}
 use Rattle.chr_find.proofs.Walk.{rises_walk, walk_looked, walk_shown}
+use Rattle.chr_find.specs.declared.plan.Lookup.{Lookup}
+use Rattle.std.proofs.lemmas.Option.{none-some}
 
 -- a row amid rows that rise
 over_middle : (n : ℕ) (xs : List semantics.Row) (c : semantics.Row) (ys : List semantics.Row) → AllOver n (xs ++ c ∷ ys) → n < c.0
@@ -43,21 +45,21 @@ atom_middle (x ∷ xs) c ys up =
     ap (λ (b : Bool). cond b (Some x.1) (atom_of (xs ++ c ∷ ys) c.0)) (ne_eqb x.0 c.0 (λ e. omega (arith, lt, e))) ∙ atom_middle xs c ys up.1
 
 module _ {A : Type 0} where
-  next_row : (l : List (Standing A)) (k : ℕ) (s : Standing A) → k < length l → s ≡ get_or l k s → standing_rows (take (suc k) l) ≡ standing_rows (take k l) ++ (s.id.0, row_atom s.row) ∷ []
+  next_row : (l : List (Constraint A)) (k : ℕ) (s : Constraint A) → k < length l → s ≡ get_or l k s → standing_rows (take (suc k) l) ≡ standing_rows (take k l) ++ (s.id.0, row_atom s.row) ∷ []
   next_row [] k s lt e = absurd (omega (arith, lt))
-  next_row (x ∷ l) zero s lt e = ap (λ (t : Standing A). (t.id.0, row_atom t.row) ∷ []) (sym e)
+  next_row (x ∷ l) zero s lt e = ap (λ (t : Constraint A). (t.id.0, row_atom t.row) ∷ []) (sym e)
   next_row (x ∷ l) (suc k) s lt e = ap (λ (rows : List semantics.Row). (x.id.0, row_atom x.row) ∷ rows) (next_row l k s (omega (arith, lt)) e)
 
-  pub standing_next : (l : List (Standing A)) (k : ℕ) (s : Standing A) → k < length l → s ≡ get_or l k s → standing_rows (take (k + 1) l) ≡ standing_rows (take k l) ++ (s.id.0, row_atom s.row) ∷ []
+  pub standing_next : (l : List (Constraint A)) (k : ℕ) (s : Constraint A) → k < length l → s ≡ get_or l k s → standing_rows (take (k + 1) l) ≡ standing_rows (take k l) ++ (s.id.0, row_atom s.row) ∷ []
   standing_next l k s lt e = ap (λ (m : ℕ). standing_rows (take m l)) (next_is k) ∙ next_row l k s lt e
 
-  pub standing_split : (l : List (Standing A)) (k : ℕ) (s : Standing A) → k < length l → s ≡ get_or l k s → standing_rows l ≡ standing_rows (take k l) ++ (s.id.0, row_atom s.row) ∷ standing_rows (drop (suc k) l)
+  pub standing_split : (l : List (Constraint A)) (k : ℕ) (s : Constraint A) → k < length l → s ≡ get_or l k s → standing_rows l ≡ standing_rows (take k l) ++ (s.id.0, row_atom s.row) ∷ standing_rows (drop (suc k) l)
   standing_split [] k s lt e = absurd (omega (arith, lt))
-  standing_split (x ∷ l) zero s lt e = ap (λ (t : Standing A). (t.id.0, row_atom t.row) ∷ standing_rows l) (sym e)
+  standing_split (x ∷ l) zero s lt e = ap (λ (t : Constraint A). (t.id.0, row_atom t.row) ∷ standing_rows l) (sym e)
   standing_split (x ∷ l) (suc k) s lt e = ap (λ (rows : List semantics.Row). (x.id.0, row_atom x.row) ∷ rows) (standing_split l k s (omega (arith, lt)) e)
 
 -- who is in the list of rows with variables
-pub in_open : (ps : ℕ → List ℕ) (a : Atom) (o : Option Atom) → Some a ≡ atom_in Open ps o → (o ≡ Some a) × (is_ground_trees a.args ≡ false)
+pub in_open : (ps : ℕ → List Lookup) (a : Atom) (o : Option Atom) → Some a ≡ atom_in Open ps o → (o ≡ Some a) × (is_ground_trees a.args ≡ false)
 in_open ps a None e = cc
 in_open ps a (Some x) e = by_ground (is_ground_trees x.args) refl e
   where
@@ -83,19 +85,16 @@ over_or (c ∷ rows) f i = by_test (c.0 == i) (over_or rows f i)
     by_test true e = refl
     by_test false e = e
 
-none_some : (a : Atom) → ◌≡◌ {A = Option Atom} None (Some a) → ⊥
-none_some a e = cc
-
-in_open_some : (ps : ℕ → List ℕ) (a : Atom) → is_ground_trees a.args ≡ false → atom_in Open ps (Some a) ≡ Some a
+in_open_some : (ps : ℕ → List Lookup) (a : Atom) → is_ground_trees a.args ≡ false → atom_in Open ps (Some a) ≡ Some a
 in_open_some ps a e = ap (λ (b : Bool). cond (not b) (Some a) None) e
 
-module _ {A : Type 0} (s : Subst) (f : ℕ → Option Atom) (rows : List semantics.Row) (rs : List (Replaced A)) (ids : List Id) (made : IsMade s f rows rs ids) (ps : ℕ → List ℕ) (looked : (i : ℕ) → atom_of rows i ≡ atom_in Open ps (f i)) where
+module _ {A : Type 0} (s : Subst) (f : ℕ → Option Atom) (rows : List semantics.Row) (rs : List (Replaced A)) (ids : List Id) (made : IsMade s f rows rs ids) (ps : ℕ → List Lookup) (looked : (i : ℕ) → atom_of rows i ≡ atom_in Open ps (f i)) where
   stays : (i : ℕ) (a : Atom) → atom_of (new_rows rs) i ≡ None → f i ≡ Some a → resolved_atom s a ≡ a
   stays i a none e = by_ground (is_ground_trees a.args) refl
     where
       by_cover : (resolved_atom s a ≡ a) ⊎ (atom_of (new_rows rs) i ≡ Some (resolved_atom s a)) → resolved_atom s a ≡ a
       by_cover (inl same) = same
-      by_cover (inr h) = absurd (none_some (resolved_atom s a) (sym none ∙ h))
+      by_cover (inr h) = absurd (none-some (resolved_atom s a) (sym none ∙ h))
 
       by_ground : (b : Bool) → is_ground_trees a.args ≡ b → resolved_atom s a ≡ a
       by_ground true g = ground_same s a g
@@ -131,34 +130,34 @@ closed_stays s c e =
     was_true true e = refl
     was_true false e = cc
 
-pub open_all : (s : Subst) (ps : ℕ → List ℕ) (rows : List semantics.Row) → open_ids s (rows_in_list Open ps rows) ≡ open_ids s rows
+pub open_all : (s : Subst) (ps : ℕ → List Lookup) (rows : List semantics.Row) → open_ids s (bucket_rows Open ps rows) ≡ open_ids s rows
 open_all s ps rows = ap ids_of (filter_twice (is_open s) (λ (c : semantics.Row). not (is_ground_trees c.1.args)) rows (closed_stays s))
 
 -- the rows of a table, those with variables and all
-module _ {A : Type 0} (t : Table A) (whole : IsWhole t) (up : Ascends place_cmp t.noted.rows) where
-  beside : (i : ℕ) → atom_at t i ≡ noted_atom t.noted i
-  beside i = newest_none t.newest (noted_atom t.noted) i (for_all t whole.all)
+module _ {A : Type 0} (t : Table A) (whole : IsWhole t) (up : Ascends index_cmp t.index.rows) where
+  beside : (i : ℕ) → atom_at t i ≡ indexed_atom t.index i
+  beside i = newest_none t.newest (indexed_atom t.index) i (for_all t whole.all)
 
-  pub open_rises : Rises (walk Open t.noted.rows)
-  open_rises = rises_walk Open t.noted.rows up
+  pub open_rises : Rises (walk Open t.index.rows)
+  open_rises = rises_walk Open t.index.rows up
 
-  pub open_looked : (i : ℕ) → atom_of (walk Open t.noted.rows) i ≡ atom_in Open (positions_of t.noted.plan) (atom_at t i)
+  pub open_looked : (i : ℕ) → atom_of (walk Open t.index.rows) i ≡ atom_in Open (lookups_of t.index.plan) (atom_at t i)
   open_looked i =
-      walk_looked Open t.noted.rows i up
-      ∙ (ap (option_map row_atom) (sym (whole.settled.noted (record { list = Open; id = record { 0 = i } })))
-      ∙ (t.shown (record { list = Open; id = record { 0 = i } }) ∙ ap (atom_in Open (positions_of t.noted.plan)) (sym (beside i))))
+      walk_looked Open t.index.rows i up
+      ∙ (ap (option_map row_atom) (sym (whole.settled.index (record { bucket = Open; id = record { 0 = i } })))
+      ∙ (t.shown (record { bucket = Open; id = record { 0 = i } }) ∙ ap (atom_in Open (lookups_of t.index.plan)) (sym (beside i))))
 
-  pub all_rises : Rises (walk All t.noted.rows)
-  all_rises = rises_walk All t.noted.rows up
+  pub all_rises : Rises (walk All t.index.rows)
+  all_rises = rises_walk All t.index.rows up
 
-  pub all_looked : (i : ℕ) → atom_of (walk All t.noted.rows) i ≡ atom_at t i
-  all_looked i = walk_looked All t.noted.rows i up ∙ (ap (option_map row_atom) (sym (whole.settled.noted (record { list = All; id = record { 0 = i } }))) ∙ sym (beside i))
+  pub all_looked : (i : ℕ) → atom_of (walk All t.index.rows) i ≡ atom_at t i
+  all_looked i = walk_looked All t.index.rows i up ∙ (ap (option_map row_atom) (sym (whole.settled.index (record { bucket = All; id = record { 0 = i } }))) ∙ sym (beside i))
 
-  pub open_rows : (rows : List semantics.Row) → HasRows t rows → walk Open t.noted.rows ≡ rows_in_list Open (positions_of t.noted.plan) rows
-  open_rows rows has = let shown = has_shown t rows whole.settled.noted has.rises (λ i. has.same i ∙ beside i) in walk_shown (positions_of t.noted.plan) Open t.noted.rows rows up shown.rises shown.shows
+  pub open_rows : (rows : List semantics.Row) → HasRows t rows → walk Open t.index.rows ≡ bucket_rows Open (lookups_of t.index.plan) rows
+  open_rows rows has = let shown = has_shown t rows whole.settled.index has.rises (λ i. has.same i ∙ beside i) in walk_shown (lookups_of t.index.plan) Open t.index.rows rows up shown.rises shown.shows
 
   -- a row amid them
-  module _ (l : List (Standing A)) (k : ℕ) (c : Standing A) (all : standing_rows l ≡ walk Open t.noted.rows) (lt : k < length l) (at : c ≡ get_or l k c) where
+  module _ (l : List (Constraint A)) (k : ℕ) (c : Constraint A) (all : standing_rows l ≡ walk Open t.index.rows) (lt : k < length l) (at : c ≡ get_or l k c) where
     split : Rises (standing_rows (take k l) ++ (c.id.0, row_atom c.row) ∷ standing_rows (drop (suc k) l))
     split = subst Rises (sym all ∙ standing_split l k c lt at) open_rises
 
@@ -167,5 +166,5 @@ module _ {A : Type 0} (t : Table A) (whole : IsWhole t) (up : Ascends place_cmp 
 
     pub stands_open : (atom_at t c.id.0 ≡ Some (row_atom c.row)) × (is_ground_trees (row_atom c.row).args ≡ false)
     stands_open =
-        in_open (positions_of t.noted.plan) (row_atom c.row) (atom_at t c.id.0)
+        in_open (lookups_of t.index.plan) (row_atom c.row) (atom_at t c.id.0)
         (sym (atom_middle (standing_rows (take k l)) (c.id.0, row_atom c.row) (standing_rows (drop (suc k) l)) split) ∙ (ap (λ (rows : List semantics.Row). atom_of rows c.id.0) (sym (standing_split l k c lt at) ∙ all) ∙ open_looked c.id.0))

@@ -1,6 +1,7 @@
 -- Where rows are new, and where none is.
 use Rattle.std.proofs.Common.{◌≡◌, ◌∙◌, ℕ, zero, suc, ◌+◌, ◌-◌, ◌<◌, Bool, true, false, cond, ◌||◌, ◌==◌, List, [], ◌∷◌, ◌++◌, Some, drop, ap, refl, sym, subst, arith}
-use Rattle.std.specs.Prelude.{filter, slice_get}
+use mathlib.Core.Path.{fun_ext}
+use Rattle.std.specs.Prelude.{◌&&◌, filter, slice_get}
 use Rattle.std.specs.declared.cmp.Ordering.TheVariants.{Equal}
 use Rattle.std.proofs.lemmas.List.Folds.{list_any-append}
 use Rattle.chr_map.specs.Order.{Ascends}
@@ -11,11 +12,18 @@ use Rattle.chr_semantics.specs.Program.{Head}
 use Rattle.chr_store.specs.Rows.{row_atom}
 use Rattle.chr_store.specs.declared.row.Row.{Row}
 use Rattle.chr_find.specs.Joins.{AreOld, IsQuiet, IsQuietAt, QuietFrom}
-use Rattle.chr_find.specs.Places.{place_cmp}
-use Rattle.chr_find.specs.Shown.{AllUnder, any_new, walk}
-use Rattle.chr_find.specs.contracts.list.ListOrd.TheImpl.{ghosts}
-use Rattle.chr_find.specs.declared.list.List.{List as Listing}
-use Rattle.chr_find.specs.declared.list.Place.{Place}
+use Rattle.chr_find.specs.IndexKeys.{index_cmp}
+use Rattle.chr_find.specs.PlanView.{is_lookup}
+use Rattle.chr_find.specs.Shown.{AllUnder, any_new, bucket_rows, walk}
+use Rattle.chr_find.specs.contracts.bucket.BucketOrd.TheImpl.{ghosts}
+use Rattle.chr_find.specs.declared.bucket.Bucket.{Bucket}
+use Rattle.chr_find.specs.declared.bucket.Bucket.TheVariants.{Symbol}
+use Rattle.chr_find.specs.declared.bucket.IndexKey.{IndexKey}
+use Rattle.chr_find.specs.declared.plan.Lookup.{Lookup}
+use Rattle.chr_find.specs.declared.plan.Lookup.TheVariants.{Symbol as Alone}
+use Rattle.chr_term.specs.declared.term.Sym.{Sym}
+use Rattle.std.specs.List.{list_any}
+use Rattle.std.proofs.lemmas.Bool.Decides.{Decides-eqb}
 use Rattle.chr_find.proofs.Gates.{old_id}
 use Rattle.chr_find.proofs.SearchParts.{drop_at}
 use Rattle.chr_find.proofs.WalkParts.{part_equal, part_passed, part_under}
@@ -30,14 +38,14 @@ or_true_at false c = refl
 
 module _ {A : Type 0} where
   -- the middle is new
-  pub part_new : (l : Listing) (part xs : List (Place × Row A)) (m : Place × Row A) (ys : List (Place × Row A)) (from : ℕ) → part ≡ xs ++ m ∷ ys → ghosts.cmp l m.0.list ≡ Equal → is_new from m.0.id.0 ≡ true → true ≡ any_new from (walk l part)
+  pub part_new : (l : Bucket) (part xs : List (IndexKey × Row A)) (m : IndexKey × Row A) (ys : List (IndexKey × Row A)) (from : ℕ) → part ≡ xs ++ m ∷ ys → ghosts.cmp l m.0.bucket ≡ Equal → is_new from m.0.id.0 ≡ true → true ≡ any_new from (walk l part)
   part_new l part xs m ys from is equal new =
       sym (ap (any_new from) (part_equal l part xs m ys is equal)
       ∙ (list_any-append (λ (c : semantics.Row). is_new from c.0) (walk l xs) ((m.0.id.0, row_atom m.1) ∷ [] ++ walk l ys)
       ∙ (ap (λ (b : Bool). any_new from (walk l xs) || (b || any_new from (walk l ys))) new ∙ or_true_at (any_new from (walk l xs)) (any_new from (walk l ys)))))
 
   -- it is not, and so are those before it
-  pub part_old : (l : Listing) (part xs : List (Place × Row A)) (m : Place × Row A) (ys : List (Place × Row A)) (from : ℕ) → part ≡ xs ++ m ∷ ys → Ascends place_cmp part → ghosts.cmp l m.0.list ≡ Equal → m.0.id.0 < from → any_new from (walk l ys) ≡ any_new from (walk l part)
+  pub part_old : (l : Bucket) (part xs : List (IndexKey × Row A)) (m : IndexKey × Row A) (ys : List (IndexKey × Row A)) (from : ℕ) → part ≡ xs ++ m ∷ ys → Ascends index_cmp part → ghosts.cmp l m.0.bucket ≡ Equal → m.0.id.0 < from → any_new from (walk l ys) ≡ any_new from (walk l part)
   part_old l part xs m ys from is up equal lt =
       sym (ap (any_new from) (part_passed l part xs m ys is equal)
       ∙ (list_any-append (λ (c : semantics.Row). is_new from c.0) (walk l xs ++ (m.0.id.0, row_atom m.1) ∷ []) (walk l ys)
@@ -58,6 +66,14 @@ old_rows from f (c ∷ rows) e = by_test (f == c.1.sym) refl (old_rows from f ro
         let both : (is_new from c.0 ≡ false) × (any_new from (filter (λ (d : semantics.Row). f == d.1.sym) rows) ≡ false) = or_false (is_new from c.0) (any_new from (filter (λ (d : semantics.Row). f == d.1.sym) rows)) old in
         ((λ of_it. both.0), rest both.1)
     by_test false same rest old = ((λ of_it. absurd (let no : false ≡ true = sym same ∙ (eqb_sym f c.1.sym ∙ of_it) in cc)), rest old)
+
+-- where the symbol has an index, the list by it has all its rows
+planned_test : (ps : ℕ → List Lookup) (f n : ℕ) → list_any (is_lookup Alone) (ps f) ≡ true → (b : Bool) → (f == n) ≡ b → (b && list_any (is_lookup Alone) (ps n)) ≡ b
+planned_test ps f n planned true same = ap (λ (k : ℕ). list_any (is_lookup Alone) (ps k)) (sym ((Decides-eqb f n).0 same)) ∙ planned
+planned_test ps f n planned false other = refl
+
+pub planned_rows : (ps : ℕ → List Lookup) (f : Sym) (rows : List semantics.Row) → list_any (is_lookup Alone) (ps f.0) ≡ true → bucket_rows (Symbol f) ps rows ≡ filter (λ (c : semantics.Row). f.0 == c.1.sym) rows
+planned_rows ps f rows planned = ap (λ (p : semantics.Row → Bool). filter p rows) (fun_ext (λ c. planned_test ps f.0 c.1.sym planned (f.0 == c.1.sym) refl))
 
 -- one head less
 quiet_next : (rows : List semantics.Row) (place own from j k : ℕ) (heads : List Head) → QuietFrom rows place own from j (drop k heads) → QuietFrom rows place own from (j + 1) (drop (suc k) heads)

@@ -11,7 +11,7 @@ has_at [] k d lt = absurd (omega (arith, lt))
 has_at (x ∷ l) zero d lt = or_left (x == x) (has_number l x) (eq-eqb x x refl)
 has_at (x ∷ l) (suc k) d lt = or_right (get_or l k d == x) (has_number l (get_or l k d)) (has_at l k d (omega (arith, lt)))
 
-one_or : (a b : Bool) → (a || b) ≡ true → (a ≡ true) ⊎ (b ≡ true)
+pub one_or : (a b : Bool) → (a || b) ≡ true → (a ≡ true) ⊎ (b ≡ true)
 one_or true b e = inl refl
 one_or false b e = inr e
 

@@ -11,14 +11,14 @@ use Rattle.chr_semantics.specs.Subst.{Subst}
 use Rattle.chr_find.specs.Finds.{Finds}
 use Rattle.chr_find.specs.Gate.{passed}
 use Rattle.chr_find.specs.Joins.{IsQuiet, JoinIs}
-use Rattle.chr_find.specs.ModeView.{gate_of}
+use Rattle.chr_find.specs.CursorStateView.{gate_of}
 use Rattle.chr_find.specs.SearchIs.{if_found}
 use Rattle.chr_find.specs.declared.join.Search.{Search}
-use Rattle.chr_find.specs.declared.mode.Mode.{Mode}
+use Rattle.chr_find.specs.declared.cursor_state.CursorState.{CursorState}
 use Rattle.chr_find.proofs.OwnFirst.{own_found}
 use Rattle.chr_find.proofs.SearchParts.{found_so}
 
-module _ {P A : Type 0} (rows : List Row) (h : History) (s : Search P A) (x : Head) (own : Atom) (mode : Mode) where
+module _ {P A : Type 0} (rows : List Row) (h : History) (s : Search P A) (x : Head) (own : Atom) (mode : CursorState) where
   -- it is what the whole search finds
   pub own_joins : (matching : Match A) (b d : Bool) (l : List ℕ) (told now : ℕ) → (m : Subst) × (fit_atom x.atom own [] ≡ Some m) × AgreesWith matching m → b ≡ d → IsQuiet rows (rule_view s.rule.now).heads s.place s.own.0 s.from s.quiet
       → JoinIs rows h s.number (rule_view s.rule.now) s.place s.own.0 0 [] matching s.from s.quiet (gate_of mode s.after.now) (if_found b l) told now

@@ -11,25 +11,18 @@ use Rattle.chr_semantics.specs.Subst.{Subst}
 use Rattle.chr_store.specs.Rows.{row_atom}
 use Rattle.chr_find.specs.Shown.{Rises}
 use Rattle.chr_find.specs.Newest.{IsApart, with_newest}
-use Rattle.chr_find.specs.declared.standing.Standing.{Standing}
+use Rattle.chr_find.specs.declared.constraint.Constraint.{Constraint}
 use Rattle.chr_find.proofs.Lookups.{atom_if, filter_looked, rises_filter}
+use Rattle.std.proofs.lemmas.Bool.{not-false}
+use Rattle.chr_semantics.proofs.JoinLaw.{branch_same}
 
 -- without the row of an identity
 abbrev pub others : ℕ → List Row → List Row
 others n rows = filter (λ (c : Row). not (c.0 == n)) rows
 
-was_true : (b : Bool) → not b ≡ false → b ≡ true
-was_true true e = refl
-was_true false e = cc
-
 -- the own row is used
 own_used : (further : Subst → List Joined) (a c : Row) (used : List ℕ) (e : Option Subst) → not (c.0 == a.0) ≡ false → branch further c (has_number (a.0 ∷ used) c.0) e ≡ []
-own_used further a c used e own = ap (λ (b : Bool). branch further c (b || has_number used c.0) e) (was_true (c.0 == a.0) own)
-
-further_same : (f g : Subst → List Joined) (c : Row) (b : Bool) (e : Option Subst) → ((n : Subst) → f n ≡ g n) → branch f c b e ≡ branch g c b e
-further_same f g c true e same = refl
-further_same f g c false None same = refl
-further_same f g c false (Some n) same = ap (map (after_row c)) (same n)
+own_used further a c used e own = ap (λ (b : Bool). branch further c (b || has_number used c.0) e) (not-false (c.0 == a.0) own)
 
 pub joined_others : (rows : List Row) (a : Row) (place : ℕ) (heads : List Head) (used : List ℕ) (k : ℕ) (m : Subst) → joined (others a.0 rows) a place heads used k m ≡ joined rows a place heads used k m
 joined_others rows a place [] used k m = refl
@@ -37,7 +30,7 @@ joined_others rows a place (h ∷ hs) used k m =
     let behind : List Row → Row → Subst → List Joined = λ over c n. joined over a place hs (c.0 ∷ used) (k + 1) n in
     let partners : flat_map (λ (c : Row). branch (behind (others a.0 rows) c) c (has_number (a.0 ∷ used) c.0) (fit_atom h.atom c.1 m)) (others a.0 rows)
     ≡ flat_map (λ (c : Row). branch (behind rows c) c (has_number (a.0 ∷ used) c.0) (fit_atom h.atom c.1 m)) rows =
-    flat_map-same _ _ (others a.0 rows) (λ c. further_same (behind (others a.0 rows) c) (behind rows c) c (has_number (a.0 ∷ used) c.0) (fit_atom h.atom c.1 m) (λ n. joined_others rows a place hs (c.0 ∷ used) (k + 1) n))
+    flat_map-same _ _ (others a.0 rows) (λ c. branch_same (behind (others a.0 rows) c) (behind rows c) c (has_number (a.0 ∷ used) c.0) (fit_atom h.atom c.1 m) (λ n. joined_others rows a place hs (c.0 ∷ used) (k + 1) n))
     ∙ flat_map-filter _ (λ (c : Row). not (c.0 == a.0)) rows (λ c e. own_used (behind rows c) a c used (fit_atom h.atom c.1 m) e)
     in
     let own = joined_others rows a place hs (a.0 ∷ used) (k + 1) m in
@@ -62,7 +55,7 @@ pub record HasOwn (own : ℕ) (f : ℕ → Option Atom) (rows : List Row) : Type
   pub same : SameJoin own some rows
 
 -- the rows of the lists, where the newest constraint is the own one
-pub own_rows : {A : Type 0} (o : Option (Standing A)) (f : ℕ → Option Atom) (own : ℕ) (rows : List Row) → ((s : Standing A) → o ≡ Some s → s.id.0 ≡ own) → IsApart o f → Rises rows → ((i : ℕ) → atom_of rows i ≡ with_newest o f i)
+pub own_rows : {A : Type 0} (o : Option (Constraint A)) (f : ℕ → Option Atom) (own : ℕ) (rows : List Row) → ((s : Constraint A) → o ≡ Some s → s.id.0 ≡ own) → IsApart o f → Rises rows → ((i : ℕ) → atom_of rows i ≡ with_newest o f i)
     → HasOwn own f rows
 own_rows None f own rows is apart up same = record { some = rows; rises = up; looked = same; same = λ rule place x a. refl }
 own_rows (Some s) f own rows is apart up same = record { some = others own rows; rises = rises_filter (λ (c : Row). not (c.0 == own)) rows up; looked = looked; same = own_others own rows }

@@ -8,7 +8,7 @@ use Rattle.chr_semantics.specs.Program.{Atom, Head}
 use Rattle.chr_semantics.specs.Search.{History}
 use Rattle.chr_semantics.specs.Tries.{capped, tried_tuples}
 use Rattle.chr_find.specs.First.{IsFirst}
-use Rattle.chr_find.specs.Past.{IsLike}
+use Rattle.chr_find.specs.FiringHistory.{IsLike}
 use Rattle.chr_find.specs.SearchView.{IsSearchable}
 use Rattle.chr_find.specs.TableView.{HasRows, atom_at, lives}
 use Rattle.chr_find.specs.declared.active.Active.{Active}

@@ -6,20 +6,21 @@ use Rattle.std.specs.Prelude.{Option, Some, None, option_map}
 use Rattle.chr_semantics.specs.Program.{Atom}
 use Rattle.chr_store.specs.Rows.{row_atom}
 use Rattle.chr_store.specs.declared.row.Row.{Row}
-use Rattle.chr_find.specs.NoteView.{changed_at}
-use Rattle.chr_find.specs.NotedView.{AreShown, IsSettled, noted_atom, row_at}
-use Rattle.chr_find.specs.Places.{held}
-use Rattle.chr_find.specs.PlanView.{positions_of}
+use Rattle.chr_find.specs.IndexChangeView.{changed_at}
+use Rattle.chr_find.specs.PendingIndexView.{AreShown, IsSettled, indexed_atom, row_at}
+use Rattle.chr_find.specs.IndexKeys.{held}
+use Rattle.chr_find.specs.PlanView.{lookups_of}
 use Rattle.chr_find.specs.Shown.{Shows, atom_in}
 use Rattle.chr_find.specs.TableView.{atoms_with}
-use Rattle.chr_find.specs.declared.list.List.TheVariants.{All}
-use Rattle.chr_find.specs.declared.list.Place.{Place}
-use Rattle.chr_find.specs.declared.lists.Change.{Change}
-use Rattle.chr_find.specs.declared.noted.Noted.{Noted}
+use Rattle.chr_find.specs.declared.bucket.Bucket.TheVariants.{All}
+use Rattle.chr_find.specs.declared.bucket.IndexKey.{IndexKey}
+use Rattle.chr_find.specs.declared.index.Change.{Change}
+use Rattle.chr_find.specs.declared.pending_index.PendingIndex.{PendingIndex}
 use Rattle.chr_find.specs.declared.plan.Plan.{Plan}
 use Rattle.chr_find.proofs.ShownRows.{atom_if, shows_change}
+use Rattle.chr_find.specs.declared.plan.Lookup.{Lookup}
 
-at_all : (ps : ℕ → List ℕ) (o : Option Atom) → atom_in All ps o ≡ o
+at_all : (ps : ℕ → List Lookup) (o : Option Atom) → atom_in All ps o ≡ o
 at_all ps None = refl
 at_all ps (Some a) = refl
 
@@ -37,56 +38,56 @@ with_twice true x y z = refl
 with_twice false x y z = refl
 
 -- what stands at the places is told by the constraints
-module _ {A : Type 0} (n : Noted A) (p : Plan A) (at : Place → Option (Row A)) (f : ℕ → Option Atom) (rows : (q : Place) → row_at n q ≡ at q) (shows : Shows (positions_of p) at f) where
-  pub atoms_are : (i : ℕ) → noted_atom n i ≡ f i
+module _ {A : Type 0} (n : PendingIndex A) (p : Plan A) (at : IndexKey → Option (Row A)) (f : ℕ → Option Atom) (rows : (q : IndexKey) → row_at n q ≡ at q) (shows : Shows (lookups_of p) at f) where
+  pub atoms_are : (i : ℕ) → indexed_atom n i ≡ f i
   atoms_are i =
-      ap (option_map row_atom) (rows (record { list = All; id = record { 0 = i } }))
-      ∙ (shows (record { list = All; id = record { 0 = i } }) ∙ at_all (positions_of p) (f i))
+      ap (option_map row_atom) (rows (record { bucket = All; id = record { 0 = i } }))
+      ∙ (shows (record { bucket = All; id = record { 0 = i } }) ∙ at_all (lookups_of p) (f i))
 
   pub shown_is : n.plan ≡ p → AreShown n
   shown_is plan q =
       ap (option_map row_atom) (rows q)
-      ∙ (shows q ∙ (ap (λ (r : Plan A). atom_in q.list (positions_of r) (f q.id.0)) (sym plan) ∙ ap (atom_in q.list (positions_of n.plan)) (sym (atoms_are q.id.0))))
+      ∙ (shows q ∙ (ap (λ (r : Plan A). atom_in q.bucket (lookups_of r) (f q.id.0)) (sym plan) ∙ ap (atom_in q.bucket (lookups_of n.plan)) (sym (atoms_are q.id.0))))
 
-module _ {A : Type 0} (n m : Noted A) where
+module _ {A : Type 0} (n m : PendingIndex A) where
   -- the same at each place
-  module _ (same : (q : Place) → row_at n q ≡ row_at m q) where
-    pub atoms_same : (i : ℕ) → noted_atom n i ≡ noted_atom m i
-    atoms_same i = ap (option_map row_atom) (same (record { list = All; id = record { 0 = i } }))
+  module _ (same : (q : IndexKey) → row_at n q ≡ row_at m q) where
+    pub atoms_same : (i : ℕ) → indexed_atom n i ≡ indexed_atom m i
+    atoms_same i = ap (option_map row_atom) (same (record { bucket = All; id = record { 0 = i } }))
 
     pub shown_same : n.plan ≡ m.plan → AreShown m → AreShown n
-    shown_same plan shown = shown_is n m.plan (row_at m) (noted_atom m) same shown plan
+    shown_same plan shown = shown_is n m.plan (row_at m) (indexed_atom m) same shown plan
 
   -- one change more
-  module _ (c : Change A) (rows : (q : Place) → row_at n q ≡ changed_at m.plan c (row_at m) q) (shown : AreShown m) (was : noted_atom m c.id.0 ≡ atom_if (cond c.is_there false true) (row_atom c.row)) where
-    after : Shows (positions_of m.plan) (changed_at m.plan c (row_at m)) (atoms_with (noted_atom m) c.id.0 (atom_if c.is_there (row_atom c.row)))
-    after = shows_change m.plan c (row_at m) (noted_atom m) shown was
+  module _ (c : Change A) (rows : (q : IndexKey) → row_at n q ≡ changed_at m.plan c (row_at m) q) (shown : AreShown m) (was : indexed_atom m c.id.0 ≡ atom_if (cond c.is_there false true) (row_atom c.row)) where
+    after : Shows (lookups_of m.plan) (changed_at m.plan c (row_at m)) (atoms_with (indexed_atom m) c.id.0 (atom_if c.is_there (row_atom c.row)))
+    after = shows_change m.plan c (row_at m) (indexed_atom m) shown was
 
-    pub atoms_changed : (i : ℕ) → noted_atom n i ≡ atoms_with (noted_atom m) c.id.0 (atom_if c.is_there (row_atom c.row)) i
+    pub atoms_changed : (i : ℕ) → indexed_atom n i ≡ atoms_with (indexed_atom m) c.id.0 (atom_if c.is_there (row_atom c.row)) i
     atoms_changed = atoms_are n m.plan (changed_at m.plan c (row_at m)) _ rows after
 
     pub shown_changed : n.plan ≡ m.plan → AreShown n
     shown_changed = shown_is n m.plan (changed_at m.plan c (row_at m)) _ rows after
 
   -- a row in the place of another
-  module _ (id : Id) (old new : Row A) (rows : (q : Place) → row_at n q ≡ changed_at m.plan (put_at id new) (changed_at m.plan (out_at id old) (row_at m)) q) (shown : AreShown m) (was : noted_atom m id.0 ≡ Some (row_atom old)) where
-    twice : Shows (positions_of m.plan) (changed_at m.plan (put_at id new) (changed_at m.plan (out_at id old) (row_at m))) (atoms_with (atoms_with (noted_atom m) id.0 None) id.0 (Some (row_atom new)))
-    twice = shows_change m.plan (put_at id new) (changed_at m.plan (out_at id old) (row_at m)) (atoms_with (noted_atom m) id.0 None) (shows_change m.plan (out_at id old) (row_at m) (noted_atom m) shown was) (none_at id.0 (noted_atom m))
+  module _ (id : Id) (old new : Row A) (rows : (q : IndexKey) → row_at n q ≡ changed_at m.plan (put_at id new) (changed_at m.plan (out_at id old) (row_at m)) q) (shown : AreShown m) (was : indexed_atom m id.0 ≡ Some (row_atom old)) where
+    twice : Shows (lookups_of m.plan) (changed_at m.plan (put_at id new) (changed_at m.plan (out_at id old) (row_at m))) (atoms_with (atoms_with (indexed_atom m) id.0 None) id.0 (Some (row_atom new)))
+    twice = shows_change m.plan (put_at id new) (changed_at m.plan (out_at id old) (row_at m)) (atoms_with (indexed_atom m) id.0 None) (shows_change m.plan (out_at id old) (row_at m) (indexed_atom m) shown was) (none_at id.0 (indexed_atom m))
 
-    pub atoms_replaced : (i : ℕ) → noted_atom n i ≡ atoms_with (noted_atom m) id.0 (Some (row_atom new)) i
-    atoms_replaced i = atoms_are n m.plan (changed_at m.plan (put_at id new) (changed_at m.plan (out_at id old) (row_at m))) _ rows twice i ∙ with_twice (i == id.0) (Some (row_atom new)) None (noted_atom m i)
+    pub atoms_replaced : (i : ℕ) → indexed_atom n i ≡ atoms_with (indexed_atom m) id.0 (Some (row_atom new)) i
+    atoms_replaced i = atoms_are n m.plan (changed_at m.plan (put_at id new) (changed_at m.plan (out_at id old) (row_at m))) _ rows twice i ∙ with_twice (i == id.0) (Some (row_atom new)) None (indexed_atom m i)
 
     pub shown_replaced : n.plan ≡ m.plan → AreShown n
     shown_replaced = shown_is n m.plan (changed_at m.plan (put_at id new) (changed_at m.plan (out_at id old) (row_at m))) _ rows twice
 
   -- the same entries, where all changes are made
-  pub rows_shared : (es : List (Place × Row A)) → ((q : Place) → row_at n q ≡ held es q) → es ≡ m.rows → IsSettled m → (q : Place) → row_at n q ≡ row_at m q
-  rows_shared es rows same settled q = rows q ∙ (ap (λ (fs : List (Place × Row A)). held fs q) same ∙ sym (settled q))
+  pub rows_shared : (es : List (IndexKey × Row A)) → ((q : IndexKey) → row_at n q ≡ held es q) → es ≡ m.rows → IsSettled m → (q : IndexKey) → row_at n q ≡ row_at m q
+  rows_shared es rows same settled q = rows q ∙ (ap (λ (fs : List (IndexKey × Row A)). held fs q) same ∙ sym (settled q))
 
-module _ {A : Type 0} (n : Noted A) (rows : (q : Place) → row_at n q ≡ None) where
+module _ {A : Type 0} (n : PendingIndex A) (rows : (q : IndexKey) → row_at n q ≡ None) where
   -- no constraint
-  pub atoms_none : (i : ℕ) → noted_atom n i ≡ None
-  atoms_none i = ap (option_map row_atom) (rows (record { list = All; id = record { 0 = i } }))
+  pub atoms_none : (i : ℕ) → indexed_atom n i ≡ None
+  atoms_none i = ap (option_map row_atom) (rows (record { bucket = All; id = record { 0 = i } }))
 
   pub shown_none : AreShown n
-  shown_none q = ap (option_map row_atom) (rows q) ∙ ap (atom_in q.list (positions_of n.plan)) (sym (atoms_none q.id.0))
+  shown_none q = ap (option_map row_atom) (rows q) ∙ ap (atom_in q.bucket (lookups_of n.plan)) (sym (atoms_none q.id.0))

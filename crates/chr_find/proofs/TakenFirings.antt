@@ -12,6 +12,8 @@ use Rattle.chr_semantics.specs.Subst.{Subst}
 use Rattle.chr_find.specs.ScopeView.{entries_kept, keeps_rule, rows_under, takes}
 use Rattle.chr_find.specs.declared.scope.Scope.{Scope}
 use Rattle.chr_find.proofs.FiredHistory.{same_ids_Decides}
+use Rattle.std.proofs.Math.Bool.{or-false}
+use Rattle.chr_store.proofs.FiredRows.{same_ids_sym}
 
 -- who lives has its identity among those of the rows
 pub lives_has : (rows : List semantics.Row) (i : ℕ) → is_some (atom_of rows i) ≡ has_number (ids_of rows) i
@@ -39,13 +41,6 @@ any_append p (x ∷ xs) ys = by_test (p x) (any_append p xs ys)
     by_test : (b : Bool) → list_any p (xs ++ ys) ≡ (list_any p xs || list_any p ys) → (b || list_any p (xs ++ ys)) ≡ ((b || list_any p xs) || list_any p ys)
     by_test true e = refl
     by_test false e = e
-
-same_turned : (xs ys : List ℕ) → same_ids xs ys ≡ same_ids ys xs
-same_turned xs ys = same_from_decides _ _ (same_ids_Decides xs ys) (Decides-like _ (λ e. sym e) (λ e. sym e) (same_ids_Decides ys xs))
-
-none_more : (b : Bool) → (b || false) ≡ b
-none_more true = refl
-none_more false = refl
 
 pub all_kept : {X : Type 0} (p : X → Bool) (xs : List X) → ((x : X) → p x ≡ true) → filter p xs ≡ xs
 all_kept p [] h = refl
@@ -76,10 +71,10 @@ module _ {A : Type 0} (scope : Scope A) (rows : List semantics.Row) where
   one_entry f r ids = by_test (list_all (has_number (ids_of rows)) f.1) (list_all (λ i. is_some (atom_of rows i)) f.1) (sym (live_all rows f.1)) (keeps_rule scope f.0) refl
     where
       is_it : (b c d e : Bool) → b ≡ d → c ≡ e → ((b && c) || false) ≡ (d && e)
-      is_it b c d e x y = none_more (b && c) ∙ cc (x, y)
+      is_it b c d e x y = or-false (b && c) ∙ cc (x, y)
 
       by_test : (l m : Bool) → l ≡ m → (k : Bool) → keeps_rule scope f.0 ≡ k → fired_before (filter (λ (g : ℕ × List ℕ). keeps_rule scope g.0) (cond l (f ∷ []) [])) r ids ≡ ((k && m) && (r == f.0 && same_ids ids f.1))
-      by_test true true e true kept = ap (λ (b : Bool). fired_before (cond b (f ∷ []) []) r ids) kept ∙ is_it (f.0 == r) (same_ids f.1 ids) (r == f.0) (same_ids ids f.1) (eqb_sym f.0 r) (same_turned f.1 ids)
+      by_test true true e true kept = ap (λ (b : Bool). fired_before (cond b (f ∷ []) []) r ids) kept ∙ is_it (f.0 == r) (same_ids f.1 ids) (r == f.0) (same_ids ids f.1) (eqb_sym f.0 r) (same_ids_sym f.1 ids)
       by_test true true e false kept = ap (λ (b : Bool). fired_before (cond b (f ∷ []) []) r ids) kept
       by_test true false e k kept = cc
       by_test false true e k kept = cc

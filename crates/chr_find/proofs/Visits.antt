@@ -10,14 +10,14 @@ use Rattle.chr_semantics.specs.Search.{History}
 use Rattle.chr_store.specs.Rows.{row_atom}
 use Rattle.chr_store.specs.declared.row.Row.{Row}
 use Rattle.chr_find.specs.Gate.{gate_bound}
-use Rattle.chr_find.specs.Places.{place_cmp}
+use Rattle.chr_find.specs.IndexKeys.{index_cmp}
 use Rattle.chr_find.specs.SearchIs.{WalkFinds, gate_at, if_found}
 use Rattle.chr_find.specs.Shown.{walk}
-use Rattle.chr_find.specs.contracts.list.ListOrd.TheImpl.{ghosts}
+use Rattle.chr_find.specs.contracts.bucket.BucketOrd.TheImpl.{ghosts}
 use Rattle.chr_find.specs.declared.join.Prefix.{Prefix}
 use Rattle.chr_find.specs.declared.join.Search.{Search}
-use Rattle.chr_find.specs.declared.list.List.{List as Listing}
-use Rattle.chr_find.specs.declared.list.Place.{Place}
+use Rattle.chr_find.specs.declared.bucket.Bucket.{Bucket}
+use Rattle.chr_find.specs.declared.bucket.IndexKey.{IndexKey}
 use Rattle.chr_find.proofs.JoinSteps.{walk_found, walk_none, walk_on, walk_same}
 use Rattle.chr_find.proofs.PassedRows.{rows_passed}
 use Rattle.chr_find.proofs.WalkParts.{part_equal, part_passed, part_under}
@@ -41,7 +41,7 @@ module _ {P A : Type 0} (h : History) (s : Search P A) (p : Prefix) where
       walk_on rows h s.number (rule_view s.rule.now) s.place s.own.0 (length p.partners) p.partners old s.from s.quiet (gate_at h s p) x.atom walked xs ys b l result told mid now is none (v x at rows shown)
       (walk_same rows h s.number (rule_view s.rule.now) s.place s.own.0 (length p.partners) p.partners next s.from s.quiet (gate_at h s p) x.atom old ys result mid now same (w x at rows shown))
 
-  module _ (list : Listing) (part before : List (Place × Row A)) (m : Place × Row A) (after : List (Place × Row A)) (parts : part ≡ before ++ m ∷ after) (equal : ghosts.cmp list m.0.list ≡ Equal) where
+  module _ (list : Bucket) (part before : List (IndexKey × Row A)) (m : IndexKey × Row A) (after : List (IndexKey × Row A)) (parts : part ≡ before ++ m ∷ after) (equal : ghosts.cmp list m.0.bucket ≡ Equal) where
     -- found before the middle
     pub found_before : (old : Match A) (b : Bool) (l : List ℕ) (told now : ℕ) → b ≡ true → WalkFinds h s p old (walk list before) (if_found b l) told now → WalkFinds h s p old (walk list part) (Some l) told now
     found_before old b l told now found w = finds_first old (walk list part) (walk list before) ((m.0.id.0, row_atom m.1) ∷ [] ++ walk list after) b l told now (part_equal list part before m after parts equal) found w
@@ -65,7 +65,7 @@ module _ {P A : Type 0} (h : History) (s : Search P A) (p : Prefix) where
         (finds_second next last (one ++ walk list after) one (walk list after) d l result mid late now refl neither there still u)
 
     -- after it, where all rows up to it may be passed over
-    pub found_past : (old : Match A) (least : ℕ) (result : Option (List ℕ)) (told now : ℕ) → Ascends place_cmp part → m.0.id.0 < least → told < 2 ^ 64 → least ≤ gate_bound s.from (gate_at h s p) → (0 < least → s.quiet < (length p.partners) + 2) → WalkFinds h s p old (walk list after) result told now
+    pub found_past : (old : Match A) (least : ℕ) (result : Option (List ℕ)) (told now : ℕ) → Ascends index_cmp part → m.0.id.0 < least → told < 2 ^ 64 → least ≤ gate_bound s.from (gate_at h s p) → (0 < least → s.quiet < (length p.partners) + 2) → WalkFinds h s p old (walk list after) result told now
         → WalkFinds h s p old (walk list part) result told now
     found_past old least result told now up lt small bound late w =
         let passed : List semantics.Row = walk list before ++ (m.0.id.0, row_atom m.1) ∷ [] in

@@ -7,24 +7,26 @@ use Rattle.chr_semantics.specs.Match.{Row, fit_atom}
 use Rattle.chr_semantics.specs.Program.{Atom}
 use Rattle.chr_semantics.specs.Search.{has_number}
 use Rattle.chr_semantics.specs.Subst.{Subst}
-use Rattle.chr_find.specs.Places.{has_list}
-use Rattle.chr_find.specs.declared.list.List.{List as Listing}
+use Rattle.chr_find.specs.IndexKeys.{in_bucket}
+use Rattle.chr_find.specs.PlanView.{is_lookup}
+use Rattle.chr_find.specs.declared.bucket.Bucket.{Bucket}
+use Rattle.chr_find.specs.declared.plan.Lookup.{Lookup}
 
 -- each row that fits the head under the match is in the list
-abbrev pub IsEnough : (ℕ → List ℕ) → Atom → Subst → Listing → Type 0
-IsEnough ps head m l = (c : Row) → has_list (ps c.1.sym) c.1 l ≡ false → fit_atom head c.1 m ≡ None
+abbrev pub IsEnough : (ℕ → List Lookup) → Atom → Subst → Bucket → Type 0
+IsEnough ps head m l = (c : Row) → in_bucket (ps c.1.sym) c.1 l ≡ false → fit_atom head c.1 m ≡ None
 
 -- where both lists have rows enough, so has that one
-abbrev pub IsOneOf : Listing → Listing → Listing → Type 0
-IsOneOf one other l = (ps : ℕ → List ℕ) (head : Atom) (m : Subst) → IsEnough ps head m one → IsEnough ps head m other → IsEnough ps head m l
+abbrev pub IsOneOf : Bucket → Bucket → Bucket → Type 0
+IsOneOf one other l = (ps : ℕ → List Lookup) (head : Atom) (m : Subst) → IsEnough ps head m one → IsEnough ps head m other → IsEnough ps head m l
 
--- the list has rows enough, if rows are found by the position
-abbrev pub IsEnoughAt : {A : Type 0} → Match A → Atom → ℕ → Listing → Type 0
-IsEnoughAt matching head p l = (ps : ℕ → List ℕ) (m : Subst) → list_any (λ q. q == p) (ps head.sym) ≡ true → AgreesWith matching m → IsEnough ps head m l
+-- the list has rows enough, if rows are found by the index
+abbrev pub IsEnoughBy : {A : Type 0} → Match A → Atom → Lookup → Bucket → Type 0
+IsEnoughBy matching head x l = (ps : ℕ → List Lookup) (m : Subst) → list_any (is_lookup x) (ps head.sym) ≡ true → AgreesWith matching m → IsEnough ps head m l
 
--- where the one list has rows enough, so has the other, if rows are found by the position
-abbrev pub StaysEnough : {A : Type 0} → Match A → Atom → ℕ → Listing → Listing → Type 0
-StaysEnough matching head p old new = (ps : ℕ → List ℕ) (m : Subst) → list_any (λ q. q == p) (ps head.sym) ≡ true → AgreesWith matching m → IsEnough ps head m old → IsEnough ps head m new
+-- where the one list has rows enough, so has the other, if rows are found by the index
+abbrev pub StaysEnough : {A : Type 0} → Match A → Atom → Lookup → Bucket → Bucket → Type 0
+StaysEnough matching head x old new = (ps : ℕ → List Lookup) (m : Subst) → list_any (is_lookup x) (ps head.sym) ≡ true → AgreesWith matching m → IsEnough ps head m old → IsEnough ps head m new
 
 -- the constraint fits the head and the match is the longer one, or it does not fit
 abbrev pub FitsHead : {A : Type 0} → Bool → Atom → Atom → Match A → Match A → Type 0

@@ -11,7 +11,7 @@ use Rattle.chr_find.specs.Finds.{Finds}
 use Rattle.chr_find.specs.First.{IsFirst}
 use Rattle.chr_find.specs.Gate.{Gate, passed}
 use Rattle.chr_find.specs.Joins.{IsQuiet}
-use Rattle.chr_find.specs.PlanView.{positions_of}
+use Rattle.chr_find.specs.PlanView.{lookups_of}
 use Rattle.chr_find.specs.Shown.{ForRows}
 use Rattle.chr_find.specs.TableView.{HasRows, atom_at}
 use Rattle.chr_find.specs.declared.active.Active.{Active}
@@ -30,7 +30,7 @@ module _ {A : Type 0} (h : History) (t : Table A) (s : Active A) where
   abbrev pub FindsJoined : ℕ → ℕ → Gate → Option (List ℕ) → ℕ → ℕ → Type 0
   FindsJoined from quiet gate found told now =
       (a : Atom) → atom_at t s.id.0 ≡ Some a → (x : Head) → slice_get (rule_of s).heads s.place ≡ Some x
-      → ForRows (positions_of t.noted.plan) t.noted.rows (λ rows. IsQuiet rows (rule_of s).heads s.place s.id.0 from quiet
+      → ForRows (lookups_of t.index.plan) t.index.rows (λ rows. IsQuiet rows (rule_of s).heads s.place s.id.0 from quiet
       → Finds h s.number (rule_of s).guard [] (passed from gate (own_joined rows (rule_of s) s.place x (s.id.0, a))) found told now)
 
   -- the first tuple that can fire, and the tries of the definitions

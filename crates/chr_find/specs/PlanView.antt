@@ -1,12 +1,21 @@
--- The positions by which the rows of a symbol are found.
-use Rattle.std.specs.Prelude.{ℕ, List, Option, Some, None, slice_get}
+-- The indexes of a symbol.
+use Rattle.std.specs.Prelude.{ℕ, Bool, true, false, ◌==◌, List, Option, Some, None, slice_get}
 use Rattle.std.specs.declared.vec.Vec.{Vec}
+use Rattle.chr_find.specs.declared.plan.Lookup.{Lookup}
+use Rattle.chr_find.specs.declared.plan.Lookup.TheVariants.{Position, Symbol}
 use Rattle.chr_find.specs.declared.plan.Plan.{Plan}
 
-module _ {A : Type 0} where
-  abbrev pub positions_or : List ℕ → Option (Vec ℕ A) → List ℕ
-  positions_or others None = others
-  positions_or others (Some ps) = ps.items
+-- it is that index
+abbrev pub is_lookup : Lookup → Lookup → Bool
+is_lookup Symbol Symbol = true
+is_lookup Symbol (Position q) = false
+is_lookup (Position p) Symbol = false
+is_lookup (Position p) (Position q) = q == p
 
-  abbrev pub positions_of : Plan A → ℕ → List ℕ
-  positions_of p f = positions_or p.others.items (slice_get p.positions.items f)
+module _ {A : Type 0} where
+  abbrev pub lookups_or : List Lookup → Option (Vec Lookup A) → List Lookup
+  lookups_or others None = others
+  lookups_or others (Some ps) = ps.items
+
+  abbrev pub lookups_of : Plan A → ℕ → List Lookup
+  lookups_of p f = lookups_or p.others.items (slice_get p.lookups.items f)

@@ -12,7 +12,7 @@ use Rattle.chr_store.specs.declared.id.Id.{Id}
 use Rattle.chr_store.specs.declared.row.Row.{Row}
 use Rattle.chr_find.specs.Shown.{AllUnder, Rises}
 use Rattle.chr_find.specs.declared.rebinding.Replaced.{Replaced}
-use Rattle.chr_find.specs.declared.standing.Standing.{Standing}
+use Rattle.chr_find.specs.declared.constraint.Constraint.{Constraint}
 
 -- the constraints of the rows, and at other identities those that were there
 abbrev pub over : List semantics.Row → (ℕ → Option Atom) → ℕ → Option Atom
@@ -33,7 +33,7 @@ module _ {A : Type 0} where
     pub rises : Rises (new_rows rs)
     pub there : AreThere f rs
 
-  abbrev pub standing_rows : List (Standing A) → List semantics.Row
+  abbrev pub standing_rows : List (Constraint A) → List semantics.Row
   standing_rows [] = []
   standing_rows (s ∷ ss) = (s.id.0, row_atom s.row) ∷ standing_rows ss
 
@@ -59,7 +59,7 @@ pub record IsMade {A : Type 0} (s : Subst) (f : ℕ → Option Atom) (rows : Lis
   pub woken : numbers ids ≡ open_ids s rows
 
 -- one row more, which has variables and an identity greater than those before
-abbrev pub Adds : {A : Type 0} → Subst → Standing A → List (Replaced A) → List Id → List (Replaced A) → List Id → Type 0
+abbrev pub Adds : {A : Type 0} → Subst → Constraint A → List (Replaced A) → List Id → List (Replaced A) → List Id → Type 0
 Adds s c rs ids new more =
     (f : ℕ → Option Atom) (rows : List semantics.Row) → IsMade s f rows rs ids → AllUnder c.id.0 rows → f c.id.0 ≡ Some (row_atom c.row) → is_ground_trees (row_atom c.row).args ≡ false
     → IsMade s f (rows ++ (c.id.0, row_atom c.row) ∷ []) new more

@@ -10,13 +10,13 @@ use Rattle.chr_semantics.specs.Search.{History}
 use Rattle.chr_find.specs.Finds.{Finds}
 use Rattle.chr_find.specs.Gate.{Gate, passed}
 use Rattle.chr_find.specs.Joins.{IsQuiet, JoinIs, WalkIs}
-use Rattle.chr_find.specs.ModeView.{gate_of}
-use Rattle.chr_find.specs.PlanView.{positions_of}
+use Rattle.chr_find.specs.CursorStateView.{gate_of}
+use Rattle.chr_find.specs.PlanView.{lookups_of}
 use Rattle.chr_find.specs.Shown.{ForRows}
 use Rattle.chr_find.specs.declared.join.Prefix.{Prefix}
 use Rattle.chr_find.specs.declared.join.Reached.{Reached}
 use Rattle.chr_find.specs.declared.join.Search.{Search}
-use Rattle.chr_find.specs.declared.mode.Mode.{Mode}
+use Rattle.chr_find.specs.declared.cursor_state.CursorState.{CursorState}
 
 -- the partners, where they are found
 abbrev pub if_found : Bool → List ℕ → Option (List ℕ)
@@ -24,10 +24,10 @@ if_found found partners = cond found (Some partners) None
 
 module _ {P A : Type 0} (h : History) (s : Search P A) where
   -- for all heads, the own constraint at its own
-  abbrev pub OwnFinds : Atom → Mode → Option (List ℕ) → ℕ → ℕ → Type 0
+  abbrev pub OwnFinds : Atom → CursorState → Option (List ℕ) → ℕ → ℕ → Type 0
   OwnFinds own mode found told now =
       (x : Head) → slice_get (rule_view s.rule.now).heads s.place ≡ Some x
-      → ForRows (positions_of s.plan.now) s.rows.now (λ rows. IsQuiet rows (rule_view s.rule.now).heads s.place s.own.0 s.from s.quiet
+      → ForRows (lookups_of s.plan.now) s.rows.now (λ rows. IsQuiet rows (rule_view s.rule.now).heads s.place s.own.0 s.from s.quiet
       → Finds h s.number (rule_view s.rule.now).guard [] (passed s.from (gate_of mode s.after.now) (own_joined rows (rule_view s.rule.now) s.place x (s.own.0, own))) found told now)
 
 module _ {P A : Type 0} (h : History) (s : Search P A) (p : Prefix) where
@@ -38,13 +38,13 @@ module _ {P A : Type 0} (h : History) (s : Search P A) (p : Prefix) where
   -- for the heads from the level on
   abbrev pub JoinFinds : Match A → Option (List ℕ) → ℕ → ℕ → Type 0
   JoinFinds matching found told now =
-      ForRows (positions_of s.plan.now) s.rows.now (λ rows. JoinIs rows h s.number (rule_view s.rule.now) s.place s.own.0 (length p.partners) p.partners matching s.from s.quiet gate_at found told now)
+      ForRows (lookups_of s.plan.now) s.rows.now (λ rows. JoinIs rows h s.number (rule_view s.rule.now) s.place s.own.0 (length p.partners) p.partners matching s.from s.quiet gate_at found told now)
 
   -- with these rows alone for the head at the level
   abbrev pub WalkFinds : Match A → List semantics.Row → Option (List ℕ) → ℕ → ℕ → Type 0
   WalkFinds matching walked found told now =
       (x : Head) → slice_get (rule_view s.rule.now).heads (length p.partners) ≡ Some x
-      → ForRows (positions_of s.plan.now) s.rows.now (λ rows. WalkIs rows h s.number (rule_view s.rule.now) s.place s.own.0 (length p.partners) p.partners matching s.from s.quiet gate_at x.atom walked found told now)
+      → ForRows (lookups_of s.plan.now) s.rows.now (λ rows. WalkIs rows h s.number (rule_view s.rule.now) s.place s.own.0 (length p.partners) p.partners matching s.from s.quiet gate_at x.atom walked found told now)
 
   -- the same, with what the search has come to, and with the match as before where nothing is found
   abbrev pub JoinLeads : Match A → Match A → Reached → Reached → Bool → Type 0

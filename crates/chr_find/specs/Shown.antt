@@ -8,32 +8,33 @@ use Rattle.chr_store.specs.Rows.{row_atom}
 use Rattle.chr_store.specs.declared.row.Row.{Row}
 use Rattle.chr_semantics.specs.Search.{atom_of}
 use Rattle.chr_semantics.specs.Tree.{is_ground_trees}
-use Rattle.chr_find.specs.Places.{has_list, held, same_list}
-use Rattle.chr_find.specs.declared.list.List.{List as Listing}
-use Rattle.chr_find.specs.declared.list.Place.{Place}
+use Rattle.chr_find.specs.IndexKeys.{in_bucket, held, same_bucket}
+use Rattle.chr_find.specs.declared.bucket.Bucket.{Bucket}
+use Rattle.chr_find.specs.declared.bucket.IndexKey.{IndexKey}
+use Rattle.chr_find.specs.declared.plan.Lookup.{Lookup}
 
 -- the atom, if it is in the list
-abbrev pub atom_in : Listing → (ℕ → List ℕ) → Option Atom → Option Atom
+abbrev pub atom_in : Bucket → (ℕ → List Lookup) → Option Atom → Option Atom
 atom_in l ps None = None
-atom_in l ps (Some a) = cond (has_list (ps a.sym) a l) (Some a) None
+atom_in l ps (Some a) = cond (in_bucket (ps a.sym) a l) (Some a) None
 
 module _ {A : Type 0} where
   -- each place of a list has the constraint of its identity, if that is in the list
-  abbrev pub Shows : (ℕ → List ℕ) → (Place → Option (Row A)) → (ℕ → Option Atom) → Type 0
-  Shows ps at f = (q : Place) → option_map row_atom (at q) ≡ atom_in q.list ps (f q.id.0)
+  abbrev pub Shows : (ℕ → List Lookup) → (IndexKey → Option (Row A)) → (ℕ → Option Atom) → Type 0
+  Shows ps at f = (q : IndexKey) → option_map row_atom (at q) ≡ atom_in q.bucket ps (f q.id.0)
 
   -- the constraints in a list, in the order of the entries
-  abbrev pub walk : Listing → List (Place × Row A) → List semantics.Row
+  abbrev pub walk : Bucket → List (IndexKey × Row A) → List semantics.Row
   walk l [] = []
-  walk l (e ∷ es) = cond (same_list e.0.list l) ((e.0.id.0, row_atom e.1) ∷ walk l es) (walk l es)
+  walk l (e ∷ es) = cond (same_bucket e.0.bucket l) ((e.0.id.0, row_atom e.1) ∷ walk l es) (walk l es)
 
 -- no constraint has variables
 abbrev pub AreGround : (ℕ → Option Atom) → Type 0
 AreGround f = (i : ℕ) (a : Atom) → f i ≡ Some a → is_ground_trees a.args ≡ true
 
 -- the constraints that are in a list
-abbrev pub rows_in_list : Listing → (ℕ → List ℕ) → List semantics.Row → List semantics.Row
-rows_in_list l ps rows = filter (λ (c : semantics.Row). has_list (ps c.1.sym) c.1 l) rows
+abbrev pub bucket_rows : Bucket → (ℕ → List Lookup) → List semantics.Row → List semantics.Row
+bucket_rows l ps rows = filter (λ (c : semantics.Row). in_bucket (ps c.1.sym) c.1 l) rows
 
 -- all identities are greater than n
 abbrev pub AllOver : ℕ → List semantics.Row → Type 0
@@ -55,14 +56,10 @@ abbrev pub any_new : ℕ → List semantics.Row → Bool
 any_new from rows = list_any (λ (c : semantics.Row). is_new from c.0) rows
 
 -- the entries show these rows
-pub record IsShown {A : Type 0} (ps : ℕ → List ℕ) (es : List (Place × Row A)) (rows : List semantics.Row) : Type 0 where
+pub record IsShown {A : Type 0} (ps : ℕ → List Lookup) (es : List (IndexKey × Row A)) (rows : List semantics.Row) : Type 0 where
   pub rises : Rises rows
   pub shows : Shows ps (held es) (atom_of rows)
 
 -- for each list of rows that the entries show
-abbrev pub ForRows : {A : Type 0} → (ℕ → List ℕ) → List (Place × Row A) → (List semantics.Row → Type 0) → Type 0
+abbrev pub ForRows : {A : Type 0} → (ℕ → List Lookup) → List (IndexKey × Row A) → (List semantics.Row → Type 0) → Type 0
 ForRows ps es P = (rows : List semantics.Row) → IsShown ps es rows → P rows
-
--- by whatever positions rows are found
-abbrev pub ForAllRows : {A : Type 0} → List (Place × Row A) → (List semantics.Row → Type 0) → Type 0
-ForAllRows es P = (ps : ℕ → List ℕ) → ForRows ps es P

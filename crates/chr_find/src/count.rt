@@ -1,24 +1,27 @@
-//! How long lists are, to choose the shortest. What is found does not depend on it.
-use crate::list::{List, Place};
+//! How many rows buckets have, to choose the shortest. What is found does not depend on it.
+use crate::bucket::{Bucket, IndexKey};
 use crate::narrowed::narrowed;
 use chr_map::{Middle, Part};
 use chr_store::Row;
 use std::alloc::Allocator;
 
-/// The number of rows in a list.
-pub(crate) fn count<A: Allocator + Copy>(part: Part<'_, Place, Row<A>, A>, list: &List) -> u64 {
-    match narrowed(part, list).middle() {
+/// The number of rows in a bucket.
+pub(crate) fn count<A: Allocator + Copy>(
+    part: Part<'_, IndexKey, Row<A>, A>,
+    bucket: &Bucket,
+) -> u64 {
+    match narrowed(part, bucket).middle() {
         None => 0,
-        Some(middle) => count_edge(middle.before, list, true)
-            .saturating_add(count_edge(middle.after, list, false))
+        Some(middle) => count_edge(middle.before, bucket, true)
+            .saturating_add(count_edge(middle.after, bucket, false))
             .saturating_add(1),
     }
 }
 
-/// The number of rows of a list in a part that begins in it, or ends in it where `is_last`.
+/// The number of rows of a bucket in a part that begins in it, or ends in it where `is_last`.
 fn count_edge<A: Allocator + Copy>(
-    part: Part<'_, Place, Row<A>, A>,
-    list: &List,
+    part: Part<'_, IndexKey, Row<A>, A>,
+    bucket: &Bucket,
     is_last: bool,
 ) -> u64 {
     let mut left = part;
@@ -37,7 +40,7 @@ fn count_edge<A: Allocator + Copy>(
         } else {
             (before, after)
         };
-        if key.list == *list {
+        if key.bucket == *bucket {
             rows = rows.saturating_add(outer.weight()).saturating_add(1);
             left = inner;
         } else {

@@ -3,7 +3,7 @@ ghost use Rattle.std.specs.Prelude.{◌≡◌, ◌||◌, ◌&&◌, ◌==◌, ℕ
 ghost use Rattle.chr_semantics.specs.Search.{same_ids};
 
 use crate::Memory;
-use crate::past::Past;
+use crate::firing_history::FiringHistory;
 use chr_map::{Map, Share};
 use chr_store::Fired;
 use std::alloc::Allocator;
@@ -45,7 +45,7 @@ impl<A: Allocator + Copy> Firings<A> {
     }
 }
 
-impl<A: Allocator + Copy> Past for Firings<A> {
+impl<A: Allocator + Copy> FiringHistory for Firings<A> {
     ghost use Rattle.chr_find.specs.Firings.{history_of};
 
     ghost history = { λ firings. history_of firings.all };

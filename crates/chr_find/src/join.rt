@@ -4,19 +4,19 @@ ghost use Rattle.chr_semantics.specs.declared.limits.TheConstants.{MAX_HEADS};
 ghost use Rattle.chr_rules.specs.RuleView.{rule_view};
 ghost use Rattle.chr_store.specs.Rows.{row_atom};
 ghost use Rattle.chr_find.specs.Gate.{gate_bound, next_gate};
-ghost use Rattle.chr_find.specs.ModeView.{gate_of};
+ghost use Rattle.chr_find.specs.CursorStateView.{gate_of};
 ghost use Rattle.chr_find.specs.SearchIs.{JoinLeads, RowLeads, WalkLeads, gate_at};
 ghost use Rattle.chr_find.specs.SearchView.{AreSmall};
 ghost use Rattle.chr_find.specs.Shown.{walk};
 
 use crate::Memory;
-use crate::list::{List, Place};
-use crate::lists::Rows;
-use crate::mode::Mode;
+use crate::bucket::{Bucket, IndexKey};
+use crate::candidates::{bucket_for, takes};
+use crate::cursor_state::CursorState;
+use crate::firing_history::FiringHistory;
+use crate::index::Index;
 use crate::narrowed::narrowed;
-use crate::past::Past;
 use crate::plan::Plan;
-use crate::search::{list_for, takes};
 use chr_bind::{Match, guard_holds};
 use chr_map::Part;
 use chr_rules::Rule;
@@ -29,7 +29,7 @@ use std::cmp::Ordering;
 pub(crate) struct Search<'a, P, A: Allocator> {
     pub(crate) alloc: A,
     pub(crate) plan: &'a Plan<A>,
-    pub(crate) rows: &'a Rows<A>,
+    pub(crate) rows: &'a Index<A>,
     pub(crate) past: &'a P,
     pub(crate) rule: &'a Rule<A>,
     /// The number of the rule, from 0.
@@ -50,7 +50,7 @@ pub(crate) struct Search<'a, P, A: Allocator> {
 #[derive(Clone, Copy, Drop)]
 pub(crate) struct Prefix {
     pub(crate) partners: HeadIds,
-    pub(crate) mode: Mode,
+    pub(crate) mode: CursorState,
 }
 
 /// What a search has come to.
@@ -62,7 +62,7 @@ pub(crate) struct Reached {
     pub(crate) tries: u64,
 }
 
-impl<'a, P: Past, A: Allocator + Copy> Search<'a, P, A> {
+impl<'a, P: FiringHistory, A: Allocator + Copy> Search<'a, P, A> {
     /// With one more partner.
     fn longer(&self, prefix: &Prefix, id: Id) -> Prefix
         requires { length prefix.now.partners < MAX_HEADS }
@@ -116,18 +116,18 @@ impl<'a, P: Past, A: Allocator + Copy> Search<'a, P, A> {
             return self.join(&self.longer(prefix, self.own), matching, reached);
         }
         let (sym, args) = &self.rule.heads[level];
-        let list = list_for(self.plan, self.rows, *sym, args.as_slice(), matching);
+        let bucket = bucket_for(self.plan, self.rows, *sym, args.as_slice(), matching);
         let least = self.least(prefix);
-        let part = narrowed(self.rows.entries(), &list);
-        self.visit(&part, &list, least, prefix, matching, reached)
+        let part = narrowed(self.rows.entries(), &bucket);
+        self.visit(&part, &bucket, least, prefix, matching, reached)
     }
 
-    /// As `join`, where the next partner is a row of a part that is in a list, and its identity is not below `least`.
+    /// As `join`, where the next partner is a row of a part that is in a bucket, and its identity is not below `least`.
     #[cycle(join)]
     fn visit(
         &self,
-        part: &Part<'a, Place, Row<A>, A>,
-        list: &List,
+        part: &Part<'a, IndexKey, Row<A>, A>,
+        bucket: &Bucket,
         least: u64,
         prefix: &Prefix,
         matching: &mut Match<'a, A>,
@@ -140,7 +140,7 @@ impl<'a, P: Past, A: Allocator + Copy> Search<'a, P, A> {
             (gate_at (P.history self.now.past.now) self.now prefix.now) }
         requires quiet { 0 < least → self.now.quiet < length prefix.now.partners + 2 }
         ensures { IfOk result (WalkLeads (P.history self.now.past.now) self.now prefix.now
-            (walk list.now part.now) matching.old matching.new reached.old reached.new) }
+            (walk bucket.now part.now) matching.old matching.new reached.old reached.new) }
     {
         // For the proof: that the count has 64 bits is known once it is read.
         let _so_far = reached.tries;
@@ -149,20 +149,27 @@ impl<'a, P: Past, A: Allocator + Copy> Search<'a, P, A> {
             Some(middle) => middle,
         };
         let id = middle.key.id;
-        match list.cmp(&middle.key.list) {
-            Ordering::Less => self.visit(&middle.before, list, least, prefix, matching, reached),
-            Ordering::Greater => self.visit(&middle.after, list, least, prefix, matching, reached),
+        match bucket.cmp(&middle.key.bucket) {
+            Ordering::Less => self.visit(&middle.before, bucket, least, prefix, matching, reached),
+            Ordering::Greater => self.visit(
+                &middle.after,
+                bucket,
+                least,
+                prefix,
+                matching,
+                reached,
+            ),
             Ordering::Equal => {
                 if id.0 < least {
-                    return self.visit(&middle.after, list, least, prefix, matching, reached);
+                    return self.visit(&middle.after, bucket, least, prefix, matching, reached);
                 }
-                if self.visit(&middle.before, list, least, prefix, matching, reached)? {
+                if self.visit(&middle.before, bucket, least, prefix, matching, reached)? {
                     return Ok(true);
                 }
                 if self.try_row(id, middle.value, prefix, matching, reached)? {
                     return Ok(true);
                 }
-                self.visit(&middle.after, list, least, prefix, matching, reached)
+                self.visit(&middle.after, bucket, least, prefix, matching, reached)
             }
         }
     }

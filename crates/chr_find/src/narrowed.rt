@@ -1,19 +1,19 @@
-//! The way to a list.
+//! The way to a bucket.
 ghost use Rattle.std.specs.Prelude.{◌≡◌, ◌≤◌, length};
 ghost use Rattle.chr_find.specs.Shown.{walk};
 
-use crate::list::{List, Place};
+use crate::bucket::{Bucket, IndexKey};
 use chr_map::{Middle, Part};
 use chr_store::Row;
 use std::alloc::Allocator;
 use std::cmp::Ordering;
 
-/// The least part, on the way down, that has all rows of a list: the middle of that is one of them, or it is empty.
+/// The least part, on the way down, that has all rows of a bucket: the middle of that is one of them, or it is empty.
 pub(crate) fn narrowed<'a, A: Allocator + Copy>(
-    part: Part<'a, Place, Row<A>, A>,
-    list: &List,
-) -> Part<'a, Place, Row<A>, A>
-    ensures rows { walk list.now result ≡ walk list.now part.entry }
+    part: Part<'a, IndexKey, Row<A>, A>,
+    bucket: &Bucket,
+) -> Part<'a, IndexKey, Row<A>, A>
+    ensures rows { walk bucket.now result ≡ walk bucket.now part.entry }
     ensures short { length result ≤ length part.entry }
 {
     let mut left = part;
@@ -26,7 +26,7 @@ pub(crate) fn narrowed<'a, A: Allocator + Copy>(
         },
     ) = left.middle()
     {
-        match list.cmp(&key.list) {
+        match bucket.cmp(&key.bucket) {
             Ordering::Less => left = before,
             Ordering::Greater => left = after,
             Ordering::Equal => return left,

@@ -6,11 +6,11 @@ ghost use Rattle.chr_store.specs.Numbers.{numbers};
 ghost use Rattle.chr_store.specs.Rows.{row_atom};
 
 use crate::Memory;
-use crate::list::List as Listing;
-use crate::lists::Change;
-use crate::note::Note;
-use crate::resolving::resolved;
-use crate::standing::{Standing, collect};
+use crate::bucket::Bucket;
+use crate::constraint::{Constraint, collect};
+use crate::index::Change;
+use crate::index_change::IndexChange;
+use crate::resolved_row::resolved;
 use crate::table::{Table, is_open};
 use chr_bind::Bindings;
 use chr_map::Share;
@@ -53,7 +53,7 @@ impl<A: Allocator + Copy> Rebound<A> {
         &mut self,
         alloc: A,
         bindings: &Bindings<A>,
-        standing: &Standing<A>,
+        standing: &Constraint<A>,
     ) -> Result<(), Memory>
         ensures { OnOk result (Adds bindings.now.subst standing.now self.old.replaced.items
             self.old.woken.items self.new.replaced.items self.new.woken.items) }
@@ -90,7 +90,7 @@ impl<A: Allocator + Copy> Table<A> {
         ensures ok { IfOk result (IsRebound bindings.now.subst self.new) }
     {
         let mut rows = Vec::new(self.alloc);
-        collect(&self.noted.rows.entries(), Listing::Open, &mut rows)?;
+        collect(&self.index.rows.entries(), Bucket::Open, &mut rows)?;
         self.may_open = !rows.is_empty();
         let mut rebound = Rebound::none(self.alloc);
         for standing in &rows {
@@ -123,7 +123,7 @@ impl<A: Allocator + Copy> Table<A> {
             row: new,
             is_there: true,
         };
-        self.noted.note(Note::Replaced(out, into));
+        self.index.note(IndexChange::Replaced(out, into));
     }
 
     /// Notes rows in the place of others, for which there is room.

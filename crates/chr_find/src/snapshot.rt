@@ -13,9 +13,9 @@ ghost use Rattle.chr_find.specs.TableView.{IsKeyed, IsWhole, atom_at};
 use crate::Memory;
 use crate::answer::Found;
 use crate::firings::Firings;
-use crate::noted_firings::NotedFirings;
-use crate::searched::search;
+use crate::pending_firings::PendingFirings;
 use crate::table::Table;
+use crate::task_search::search;
 use chr_map::Share;
 use chr_rules::Program;
 use chr_store::{HeadIds, Id, Key, Row};
@@ -77,14 +77,14 @@ impl<A: Allocator> Snapshot<A> {
 }
 
 impl<A: Allocator + Copy> Snapshot<A> {
-    ghost use Rattle.chr_find.specs.NotedFiringsView.{IsSettled, noted_in};
+    ghost use Rattle.chr_find.specs.PendingFiringsView.{IsSettled, noted_in};
     ghost use Rattle.chr_find.specs.AnswerView.{IsAnswer};
     ghost use Rattle.chr_find.specs.SnapshotView.{IsSnapshot, IsTaken, tasks_view};
 
     /// A table that keeps keys as it stands now, at the price of some pointers. The guest's arguments have the bindings applied.
     pub fn of(
         table: &Table<A>,
-        firings: &NotedFirings<A>,
+        firings: &PendingFirings<A>,
         next: Id,
         tasks: Vec<Task, A>,
         guest: Option<Row<A>>,

@@ -3,20 +3,20 @@ ghost use Rattle.std.specs.Prelude.{◌≡◌, ◌+◌, ◌≤◌, ◌&&◌, ◌
 ghost use Rattle.chr_semantics.specs.Tree.{is_ground_trees};
 ghost use Rattle.chr_store.specs.Rows.{row_atom};
 ghost use Rattle.chr_find.specs.AtomCode.{atoms};
-ghost use Rattle.chr_find.specs.KeyedView.{AreListed};
+ghost use Rattle.chr_find.specs.LentKeysView.{AreListed};
 ghost use Rattle.chr_find.specs.Newest.{IsApart, IsNot, IsThe, with_newest};
-ghost use Rattle.chr_find.specs.NotedView as listing;
-ghost use Rattle.chr_find.specs.NotedView.{AreShown, noted_atom};
+ghost use Rattle.chr_find.specs.PendingIndexView as listing;
+ghost use Rattle.chr_find.specs.PendingIndexView.{AreShown, indexed_atom};
 ghost use Rattle.chr_find.specs.Shown.{AreGround};
 
 use crate::Memory;
-use crate::keyed::Keyed;
-use crate::list::{List as Listing, Place};
-use crate::lists::Change;
-use crate::note::Note;
-use crate::noted::Noted;
+use crate::bucket::{Bucket, IndexKey};
+use crate::constraint::{Constraint, collect};
+use crate::index::Change;
+use crate::index_change::IndexChange;
+use crate::lent_keys::LentKeys;
+use crate::pending_index::PendingIndex;
 use crate::plan::Plan;
-use crate::standing::{Standing, collect};
 use chr_map::{Map, Pointer, Share};
 use chr_store::{Id, Row};
 use std::alloc::{Allocator, Global};
@@ -26,20 +26,20 @@ use std::mem;
 /// makes room, which may be refused, and the other notes it, which takes no memory. Before the next search `settle` makes what was noted.
 /// Contracts see the constraint of each identity, as when all is made.
 ///
-/// The constraint that was added last stands beside the lists until another is added, or searched for: it is no partner of itself, and
+/// The constraint that was added last stands beside the index until another is added, or searched for: it is no partner of itself, and
 /// many constraints live no longer than that.
 #[derive(Drop)]
 pub struct Table<A: Allocator = Global> {
-    pub(crate) noted: Noted<A>,
-    pub(crate) newest: Option<Standing<A>>,
-    pub(crate) keyed: Keyed<A>,
+    pub(crate) index: PendingIndex<A>,
+    pub(crate) newest: Option<Constraint<A>>,
+    pub(crate) keyed: LentKeys<A>,
     /// Whether a constraint may have variables: where none has, bindings change nothing.
     pub(crate) may_open: bool,
     pub(crate) alloc: A,
-    ghost shown: { AreShown noted } by { Prim.hlevel atoms },
-    ghost apart: { IsApart newest (noted_atom noted) } by { Prim.hlevel atoms },
-    ghost listed: { AreListed (with_newest newest (noted_atom noted)) keyed },
-    ghost ground: { may_open ≡ false → AreGround (with_newest newest (noted_atom noted)) },
+    ghost shown: { AreShown index } by { Prim.hlevel atoms },
+    ghost apart: { IsApart newest (indexed_atom index) } by { Prim.hlevel atoms },
+    ghost listed: { AreListed (with_newest newest (indexed_atom index)) keyed },
+    ghost ground: { may_open ≡ false → AreGround (with_newest newest (indexed_atom index)) },
 }
 
 /// Whether a row has variables.
@@ -50,7 +50,7 @@ pub(crate) fn is_open<A: Allocator>(row: &Row<A>) -> bool
 }
 
 /// Whether the newest constraint is the one with the identity.
-fn is_newest<A: Allocator>(newest: &Option<Standing<A>>, id: Id) -> bool
+fn is_newest<A: Allocator>(newest: &Option<Constraint<A>>, id: Id) -> bool
     ensures yes { result ≡ true → IsThe newest.now id.0 }
     ensures no { result ≡ false → IsNot newest.now id.0 }
 {
@@ -69,9 +69,9 @@ impl<A: Allocator + Copy> Table<A> {
         ensures whole { IsWhole result }
     {
         Table {
-            noted: Noted::new(alloc, plan, Map::new(alloc)),
+            index: PendingIndex::new(alloc, plan, Map::new(alloc)),
             newest: None,
-            keyed: Keyed::off(),
+            keyed: LentKeys::off(),
             may_open: false,
             alloc,
         }
@@ -84,20 +84,20 @@ impl<A: Allocator + Copy> Table<A> {
         ensures ok { OnOk result (HasRoom more self.new) }
     {
         self.keyed.room(more)?;
-        self.noted.room(more)
+        self.index.room(more)
     }
 
-    /// Notes that the newest constraint has to be put into the lists, for which there is room.
-    fn list_newest(&mut self)
-        requires { listing.HasRoom 1 self.old.noted }
+    /// Notes that the newest constraint has to be put into the index, for which there is room.
+    fn enter_newest(&mut self)
+        requires { listing.HasRoom 1 self.old.index }
         ensures same { (i : ℕ) → atom_at self.new i ≡ atom_at self.old i }
         ensures newest { self.new.newest ≡ None }
         ensures keyed { self.new.keyed ≡ self.old.keyed }
         ensures open { self.new.may_open ≡ self.old.may_open }
-        ensures room { (n : ℕ) → listing.HasRoom (n + 1) self.old.noted → listing.HasRoom n self.new.noted }
+        ensures room { (n : ℕ) → listing.HasRoom (n + 1) self.old.index → listing.HasRoom n self.new.index }
     {
-        if let Some(Standing { id, row }) = mem::replace(&mut self.newest, None) {
-            self.noted.note(Note::Changed(Change {
+        if let Some(Constraint { id, row }) = mem::replace(&mut self.newest, None) {
+            self.index.note(IndexChange::Changed(Change {
                 id,
                 row,
                 is_there: true,
@@ -113,10 +113,10 @@ impl<A: Allocator + Copy> Table<A> {
             ≡ atoms_with (atom_at self.old) id.0 (Some (row_atom row)) i }
         ensures room { (n : ℕ) → HasRoom (n + 1) self.old → HasRoom n self.new }
     {
-        self.list_newest();
+        self.enter_newest();
         self.keyed.enter(id, &row);
         self.may_open = self.may_open | is_open(&row);
-        self.newest = Some(Standing { id, row });
+        self.newest = Some(Constraint { id, row });
     }
 
     /// Notes that a constraint lives no more. Its row is the one that stands there.
@@ -130,7 +130,7 @@ impl<A: Allocator + Copy> Table<A> {
         if is_newest(&self.newest, id) {
             self.newest = None;
         } else {
-            self.noted.note(Note::Changed(Change {
+            self.index.note(IndexChange::Changed(Change {
                 id,
                 row,
                 is_there: false,
@@ -138,7 +138,7 @@ impl<A: Allocator + Copy> Table<A> {
         }
     }
 
-    /// Makes all changes that are noted; the newest constraint stays beside the lists. Contracts see the same constraints, after a refusal
+    /// Makes all changes that are noted; the newest constraint stays beside the index. Contracts see the same constraints, after a refusal
     /// too.
     pub fn settle(&mut self) -> Result<(), Memory>
         ensures same { (i : ℕ) → atom_at self.new i ≡ atom_at self.old i }
@@ -146,22 +146,22 @@ impl<A: Allocator + Copy> Table<A> {
         ensures ok { OnOk result (IsSettled self.new) }
     {
         self.keyed.settle()?;
-        self.noted.settle()
+        self.index.settle()
     }
 
-    /// Makes room for the newest constraint, if there is one, and notes that it has to be put into the lists.
+    /// Makes room for the newest constraint, if there is one, and notes that it has to be put into the index.
     fn enlist(&mut self) -> Result<(), Memory>
         ensures same { (i : ℕ) → atom_at self.new i ≡ atom_at self.old i }
         ensures ok { OnOk result (IsForAll self.new) }
     {
         if self.newest.is_some() {
-            self.noted.room(1)?;
-            self.list_newest();
+            self.index.room(1)?;
+            self.enter_newest();
         }
         Ok(())
     }
 
-    /// Whether no other constraint than this stands beside the lists.
+    /// Whether no other constraint than this stands beside the index.
     fn is_for(&self, id: Id) -> bool
         ensures { result ≡ true → IsFor id.0 self.now }
     {
@@ -171,7 +171,7 @@ impl<A: Allocator + Copy> Table<A> {
         }
     }
 
-    /// Makes the lists whole, for any search. Contracts see the same constraints, after a refusal too.
+    /// Makes the index whole, for any search. Contracts see the same constraints, after a refusal too.
     pub fn settle_all(&mut self) -> Result<(), Memory>
         ensures same { (i : ℕ) → atom_at self.new i ≡ atom_at self.old i }
         ensures ok { OnOk result (IsWhole self.new) }
@@ -204,21 +204,21 @@ impl<A: Allocator + Copy> Table<A> {
             return Ok(());
         }
         let mut rows = Vec::new(self.alloc);
-        collect(&self.noted.rows.entries(), Listing::All, &mut rows)?;
-        self.keyed = Keyed::of_rows(self.alloc, rows.as_slice())?;
+        collect(&self.index.rows.entries(), Bucket::All, &mut rows)?;
+        self.keyed = LentKeys::of_rows(self.alloc, rows.as_slice())?;
         Ok(())
     }
 
-    /// The row of a constraint that stands in the lists.
+    /// The row of a constraint that stands in the index.
     fn listed_row(&self, id: Id) -> Option<&Row<A>>
         requires { IsSettled self.now }
-        ensures { option_map (λ row. row_atom row.now) result ≡ noted_atom self.now.noted id.0 }
+        ensures { option_map (λ row. row_atom row.now) result ≡ indexed_atom self.now.index id.0 }
     {
-        let place = Place {
-            list: Listing::All,
+        let key = IndexKey {
+            bucket: Bucket::All,
             id,
         };
-        self.noted.rows.get(&place)
+        self.index.rows.get(&key)
     }
 
     /// The row of a constraint that lives.
@@ -245,10 +245,10 @@ impl<A: Allocator + Copy> Table<A> {
         ensures whole { IfOk result (λ shared. IsWhole shared) }
         ensures keyed { IfOk result (λ shared. IsKeyed self.now → IsKeyed shared) }
     {
-        let plan = self.noted.plan.share()?;
-        let rows = self.noted.rows.share()?;
+        let plan = self.index.plan.share()?;
+        let rows = self.index.rows.share()?;
         Ok(Table {
-            noted: Noted::new(self.alloc, plan, rows),
+            index: PendingIndex::new(self.alloc, plan, rows),
             newest: None,
             keyed: self.keyed.share()?,
             may_open: self.may_open,

@@ -1,4 +1,4 @@
 pub mod IdLists
 pub mod KeyedLists
-pub mod Notes
-pub mod NoteSteps
+pub mod Changes
+pub mod KeyChanges

@@ -1,7 +1,8 @@
-pub mod Places
+pub mod SymbolKeys
 pub mod IdSets
 pub mod Keyed
 pub mod Lists
-pub mod Notes
-pub mod NoteView
-pub mod NotedKeysView
+pub mod Changes
+pub mod KeyChangeView
+pub mod PendingKeysView
+pub mod PendingValue

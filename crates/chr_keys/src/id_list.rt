@@ -69,15 +69,15 @@ impl<A: Allocator + Copy> IdList<A> {
         })
     }
 
-    /// Puts an identity in its place, if it is not there. A refused call leaves the list as it was.
+    /// Puts an identity where it belongs, if it is not there. A refused call leaves the list as it was.
     fn put(&mut self, id: Id) -> Result<(), Memory>
         ensures ok { OnOk result (self.new ≡ insert_key nat_cmp self.old id.0) }
         ensures err { OnErr result (self.new ≡ self.old) }
     {
         match self.as_slice().binary_search(&id) {
             Ok(_) => Ok(()),
-            Err(place) => {
-                Arc::make_mut(&mut self.items)?.ids.insert(place, id)?;
+            Err(position) => {
+                Arc::make_mut(&mut self.items)?.ids.insert(position, id)?;
                 Ok(())
             }
         }
@@ -89,8 +89,8 @@ impl<A: Allocator + Copy> IdList<A> {
         ensures err { OnErr result (self.new ≡ self.old) }
     {
         match self.as_slice().binary_search(&id) {
-            Ok(place) => {
-                let _ = Arc::make_mut(&mut self.items)?.ids.remove(place);
+            Ok(position) => {
+                let _ = Arc::make_mut(&mut self.items)?.ids.remove(position);
                 Ok(())
             }
             Err(_) => Ok(()),

@@ -3,10 +3,12 @@
 #![tactic(auto)]
 
 mod id_list;
+mod key_change;
 mod key_lists;
-mod note;
-mod noted_keys;
-mod place;
+mod pending;
+mod pending_keys;
+mod symbol_key;
 
 pub use chr_map::Memory;
-pub use noted_keys::NotedKeys;
+pub use pending::Pending;
+pub use pending_keys::PendingKeys;

@@ -1,6 +1,6 @@
 -- The tasks of a state are of constraints that live, or of the guest.
 use Rattle.std.proofs.Common.{Bool, List, None, Option, Some, [], cond, false, refl, true, zero, suc, ℕ, ◌++◌, ◌==◌, ◌||◌, ◌∷◌, ◌≡◌, map}
-use Rattle.std.proofs.lemmas.Bool.{and_from, and_parts, eq-eqb}
+use Rattle.std.proofs.lemmas.Bool.{and_from, and_parts, eq-eqb, or_left, or_right}
 use Rattle.std.specs.List.{cons_option, list_all, list_any, filter_map, flat_map}
 use Rattle.std.specs.Prelude.{slice_get, take}
 use Rattle.chr_semantics.specs.Program.{Program, constraint, tell, evaluate, compare, fail}
@@ -44,14 +44,6 @@ all_numbered s i (k ∷ ks) h = and_from (is_of s (i, k)) _ h (all_numbered s i 
 
 all_from : (p : Program) (s : State) (f i j : ℕ) → (lives s i || i == s.next_id) ≡ true → list_all (is_of s) (tasks_from p f i j) ≡ true
 all_from p s f i j h = all_numbered s i _ h
-
-or_left : (b c : Bool) → b ≡ true → (b || c) ≡ true
-or_left true c h = refl
-or_left false c h = cc
-
-or_right : (b c : Bool) → c ≡ true → (b || c) ≡ true
-or_right true c h = refl
-or_right false c h = h
 
 -- what is searched for below the top lives
 abbrev searches : State → List (ℕ × ℕ × ℕ) → Bool

@@ -1,6 +1,6 @@
 -- Which kept answers have to be looked at to know whether one serves.
 use Rattle.std.proofs.Common.{Bool, List, None, Option, Some, [], ap, arith, false, refl, subst, sym, true, true≢false, zero, suc, ℕ, ◌&&◌, ◌≤◌, ◌-◌, ◌+◌, ◌==◌, ◌∙◌, ◌∷◌, ◌≡◌, map}
-use Rattle.std.proofs.lemmas.Bool.{and_from, and_parts, eqb-true, leb-true}
+use Rattle.std.proofs.lemmas.Bool.{and_from, and_parts, eqb-true, leb-true, not-true}
 use Rattle.std.specs.List.{list_any}
 use Rattle.std.specs.Prelude.{nat_le, not, slice_get}
 use Rattle.chr_semantics.specs.Program.{Program}
@@ -45,10 +45,6 @@ past_at n [] i a h e = cc
 past_at n (b ∷ bs) zero a h e = let same : b ≡ a = cc in ap (λ (x : ℕ). nat_le x n) (sym same) ∙ (and_parts (nat_le b n) _ h).0
 past_at n (b ∷ bs) (suc i) a h e = past_at n bs i a (and_parts (nat_le b n) _ h).1 e
 
-not_true : (b : Bool) → not b ≡ true → b ≡ false
-not_true true h = cc
-not_true false h = refl
-
 denied : (b : Bool) → (b ≡ true → false ≡ true) → b ≡ false
 denied true h = absurd (true≢false (sym (h refl)))
 denied false h = refl
@@ -68,7 +64,7 @@ module _ (p : Program) (q : State) (g : Progress) (kept : List Answered) (row : 
       let parts = and_parts (same_task t v.0.task) _ v.2 in
       let its = same_task_true t v.0.task parts.0 in
       let kind_then : (t.0 == (after p q (at_of g.rounds l)).next_id) ≡ false =
-      ap (λ (u : Task). u.0 == (after p q (at_of g.rounds l)).next_id) its ∙ ap (λ (z : Answered). v.0.task.0 == (after p q (at_of g.rounds z)).next_id) (sym one) ∙ not_true _ parts.1 in
+      ap (λ (u : Task). u.0 == (after p q (at_of g.rounds l)).next_id) its ∙ ap (λ (z : Answered). v.0.task.0 == (after p q (at_of g.rounds z)).next_id) (sym one) ∙ not-true _ parts.1 in
       let at_l = placed_at p q g.rounds kept d l placed w.1 in
       let before = leb-true (at_of g.rounds k) (at_of g.rounds l) w.2 in
       let then = leb-true (at_of g.rounds l) g.steps (past_at g.steps g.rounds l.round (at_of g.rounds l) past (get_some g.rounds l.round 0 at_l.0)) in

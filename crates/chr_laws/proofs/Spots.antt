@@ -13,7 +13,7 @@ use Rattle.chr_laws.specs.Kept.{Answered, ArePlaced, AreSpots, IsPlaced, SpotsLa
 use Rattle.chr_laws.proofs.Places.{all_one_more, all_weaker, get_before, get_cases, get_last, get_some, has_before, has_last, passes_before, passes_same, passing}
 use Rattle.chr_laws.proofs.Served.{placed_at}
 
-same_itself : (t : Task) → same_task t t ≡ true
+pub same_itself : (t : Task) → same_task t t ≡ true
 same_itself t = and_from (t.0 == t.0) (t.1 == t.1) (eq-eqb t.0 t.0 refl) (eq-eqb t.1 t.1 refl)
 
 passes_last : (test : Answered → Bool) (xs : List Answered) (k : Answered) → test k ≡ true → passes test (slice_get (xs ++ k ∷ []) (length xs)) ≡ true

@@ -25,12 +25,7 @@ use Rattle.chr_laws.proofs.Living.{living_law}
 use Rattle.chr_laws.proofs.Newest.{first, second}
 use Rattle.chr_laws.proofs.Risen.{below_next, none_behind, none_behind_added}
 use Rattle.chr_laws.proofs.Sums.{each_equal, sum_both, sums_equal}
-
-same_truth : (b c : Bool) → (b ≡ true → c ≡ true) → (c ≡ true → b ≡ true) → b ≡ c
-same_truth true true f g = refl
-same_truth true false f g = sym (f refl)
-same_truth false true f g = g refl
-same_truth false false f g = refl
+use Rattle.chr_semantics.proofs.Plain.{bools_agree}
 
 -- a task of a stored constraint
 stored : (p : Program) (s : State) (t : Task) → IsSound s → (lives s t.0 || t.0 == s.next_id) ≡ true → (t.0 == s.next_id) ≡ false → t.0 < s.next_id
@@ -57,7 +52,7 @@ module _ (p : Program) (rise : Rise) (w : IsRise p rise) (r : Query) (k m : ℕ)
 
   -- no stamp of the footprint has risen exactly where the sums are equal
   untouched_sums : list_all (λ x. touched p (start r) k x == touched p (start r) (k + m) x) (footprint_of (Some o)) ≡ (sum_of (stamp p rise (start r) k) (footprint_of (Some o)) == sum_of (stamp p rise (start r) (k + m)) (footprint_of (Some o)))
-  untouched_sums = same_truth _ _
+  untouched_sums = bools_agree _ _
       (λ e. eq-eqb (sum_of (stamp p rise (start r) k) (footprint_of (Some o))) (sum_of (stamp p rise (start r) (k + m)) (footprint_of (Some o)))
       (sums_equal (stamp p rise (start r) k) (stamp p rise (start r) (k + m)) (footprint_of (Some o)) ((stamps_by_call_law.untouched p rise w r k m (footprint_of (Some o))).1 ((stamps_law.untouched p (start r) k m (footprint_of (Some o))).0 e))))
       (λ e. (stamps_law.untouched p (start r) k m (footprint_of (Some o))).1 ((stamps_by_call_law.untouched p rise w r k m (footprint_of (Some o))).0
@@ -95,7 +90,7 @@ module _ (p : Program) (rise : Rise) (w : IsRise p rise) (r : Query) (k m : ℕ)
       let parts : behind ≡ before + touched_any p (after p (start r) k) m (footprint_of (Some o)) = count-add p (λ u. list_any (touches p u) (footprint_of (Some o))) (start r) k m in
       let both = sum_both f (marks_added a.sym) (footprint_of (Some o)) in
       let there = subst (λ (i : ℕ). atom_of (after p (after p (start r) k) m).store i ≡ Some a) e lives_after in
-      same_truth _ _
+      bools_agree _ _
       (λ c. let one = eqb-true (before + 1) behind c in
       eq-eqb (sum_of f (footprint_of (Some o)) + sum_of (marks_added a.sym) (footprint_of (Some o))) (sum_of g (footprint_of (Some o)))
       (sym both ∙ sums_equal (λ x. f x + marks_added a.sym x) g (footprint_of (Some o)) (law.1 (omega (arith, one, parts)))))

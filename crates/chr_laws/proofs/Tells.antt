@@ -1,6 +1,6 @@
 -- What a core that stands at a schedule tells of its answers.
 use Rattle.std.proofs.Common.{Bool, List, None, Option, Some, [], ap, arith, cond, false, refl, subst, sym, true, zero, suc, ℕ, ◌&&◌, ◌||◌, ◌+◌, ◌-◌, ◌<◌, ◌≤◌, ◌==◌, ◌∙◌, ◌∷◌, ◌≡◌, length, map}
-use Rattle.std.proofs.lemmas.Bool.{and_parts, eqb-true, leb-true}
+use Rattle.std.proofs.lemmas.Bool.{and_parts, eqb-true, leb-true, not-true}
 use Rattle.std.proofs.lemmas.Option.{slice_get-map}
 use Rattle.std.specs.List.{list_all}
 use Rattle.std.specs.Prelude.{is_some, not, option_map, slice_get, unwrap_or}
@@ -61,10 +61,6 @@ all_of f (x ∷ xs) n h k = let r = and_parts (f x) (list_all f xs) h in at (n =
     at : (b : Bool) → (n == x) ≡ b → (b || has_number xs n) ≡ true → (has_number xs n ≡ true → f n ≡ true) → f n ≡ true
     at true is k go = ap f (eqb-true n x is) ∙ (and_parts (f x) (list_all f xs) h).0
     at false is k go = go k
-
-untrue : (b : Bool) → not b ≡ true → b ≡ false
-untrue true h = cc
-untrue false h = refl
 
 module _ (p : Program) (rise : Rise) (r : Query) (es : List Event) (c : Core) (t : Task) (n : ℕ) (k : Answered)
     (h : Stands p rise (start r) es c) (there : slice_get c.answers n ≡ Some k) (its : same_task t k.task ≡ true) where
@@ -168,7 +164,7 @@ tells_law = record {
       let parts = and_parts (same_task t k.task) (not (is_guests p (start r) (ats c.rounds) k)) (row_at p rise r es c t n k h is there) in
       let same = same_task_true t k.task parts.0 in
       row_tells p rise r es c t n k h there parts.0 w occ
-      (ap (λ (u : Task). u.0 == (after p (start r) (at_of (ats c.rounds) k)).next_id) same ∙ untrue (is_guests p (start r) (ats c.rounds) k) parts.1);
+      (ap (λ (u : Task). u.0 == (after p (start r) (at_of (ats c.rounds) k)).next_id) same ∙ not-true (is_guests p (start r) (ats c.rounds) k) parts.1);
   of_guests = λ p rise w r es c t n k h is there occ.
       let parts = and_parts (same_task t k.task) (is_guests p (start r) (ats c.rounds) k) (guest_at p rise r es c t n k h is there) in
       let same = same_task_true t k.task parts.0 in

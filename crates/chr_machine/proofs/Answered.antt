@@ -17,7 +17,7 @@ use Rattle.chr_laws.proofs.Steps.{find_so}
 use Rattle.chr_machine.specs.Answering.{AnswersStep}
 use Rattle.chr_machine.specs.Model.{Model, state_in}
 use Rattle.chr_machine.specs.NeedView.{Answers, need_by, search_of}
-use Rattle.chr_machine.specs.declared.answer.Answer.TheVariants.{Found}
+use Rattle.chr_machine.specs.declared.search_answer.SearchAnswer.TheVariants.{Found}
 
 -- the first firing of the constraint that is active, which lives and has the occurrence
 first_at : (p : Program) (s : State) (i j : ℕ) (a : Atom) (es : List Element) (t : Task) (x : Option Atom) (o : Option Occurrence) → ((b : Atom) → atom_of s.store i ≡ Some b → b ≡ a) → atom_of s.store i ≡ x

@@ -18,6 +18,7 @@ use Rattle.chr_machine.specs.NeedView.{need, search_of}
 use Rattle.chr_machine.proofs.Answered.{task_needed}
 use Rattle.chr_machine.proofs.Gathered.{tasks_next, waiting_first, waiting_passed}
 use Rattle.chr_machine.proofs.Tops.{stack_from, tasks_are}
+use Rattle.chr_laws.proofs.Spots.{same_itself}
 
 -- none is lost where more are gathered
 gathered_more : (n : ℕ) (ts us : List Task) → length ts ≤ length (gathered n ts us)
@@ -37,12 +38,9 @@ two_on_one t (u ∷ us) = by (same_task u t) (two_on_one t us)
     by true rest = rest
     by false rest = le-leb 2 (length (gathered MAX_TASKS (t ∷ u ∷ []) us)) (gathered_more MAX_TASKS (t ∷ u ∷ []) us)
 
-same_as_itself : (t : Task) → same_task t t ≡ true
-same_as_itself t = and_from _ _ (eq-eqb t.0 t.0 refl) (eq-eqb t.1 t.1 refl)
-
 -- where the first is t, there are two or more where there is another
 pub two_tasks : (t : Task) (us : List Task) → nat_le 2 (length (gathered MAX_TASKS [] (t ∷ us))) ≡ list_any (is_other t) (t ∷ us)
-two_tasks t us = two_on_one t us ∙ sym (ap (λ b. not b || list_any (is_other t) us) (same_as_itself t))
+two_tasks t us = two_on_one t us ∙ sym (ap (λ b. not b || list_any (is_other t) us) (same_itself t))
 
 -- of three parts, one has another
 module _ (t : Task) (xs ys zs : List Task) where

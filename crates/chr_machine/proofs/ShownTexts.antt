@@ -14,7 +14,7 @@ use Rattle.chr_semantics.specs.Search.{atom_of}
 use Rattle.chr_semantics.specs.State.{resolved_atom}
 use Rattle.chr_semantics.specs.Text.{known_text}
 use Rattle.chr_base.specs.Model.{BaseModel}
-use Rattle.chr_machine.specs.Shown.{IsOf, IsShownIn}
+use Rattle.chr_machine.specs.Shown.{IsOf, IsResolvedOf, IsShownIn}
 
 some_of : (o : Option Atom) → is_some o ≡ true → (x : Atom) × (o ≡ Some x)
 some_of None e = absurd (let no : false ≡ true = e in cc)
@@ -26,6 +26,10 @@ shown_of names vars b k i a text shows same lives of =
     let at = some_of (atom_of b.store.rows i) lives in
     shows at.0 (ap (atom_of b.store.rows) same ∙ at.1)
     ∙ (ap (λ (x : Atom). known_text names vars (resolved_atom b.subst x) k) (of at.0 at.1) ∙ ap (known_text names vars (resolved_atom b.subst a)) same)
+
+-- its row with the bindings applied
+pub resolved_of : (b : BaseModel) (i : ℕ) (a r : Atom) → IsOf b.store.rows i a → r ≡ resolved_atom b.subst a → IsResolvedOf b i r
+resolved_of b i a r of is c at = ap (resolved_atom b.subst) (of c at) ∙ sym is
 
 -- made anew
 pub shown_new : (names : Names) (vars : VarNames) (b : BaseModel) (i : ℕ) (a : Atom) (text : List ℕ) → IsOf b.store.rows i a → text ≡ known_text names vars (resolved_atom b.subst a) i → IsShownIn names vars b i text

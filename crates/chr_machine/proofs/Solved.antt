@@ -24,6 +24,7 @@ use Rattle.chr_machine.specs.Stack.{IsBuiltIn}
 use Rattle.chr_machine.specs.Step.{Makes}
 use Rattle.chr_machine.specs.declared.solving.Solved.{Solved}
 use Rattle.chr_machine.specs.declared.solving.Solved.TheVariants.{Ends, Holds}
+use Rattle.std.proofs.lemmas.Bool.{lt-ltb}
 
 -- a run that goes on, or is done, was no failure
 goes_on : (g : Goal) (es : List Element) → solve_line g (status_at es) ≡ solves g
@@ -40,9 +41,6 @@ not_less n = by (nat_lt n n) refl
     by : (b : Bool) → nat_lt n n ≡ b → b ≡ false
     by true e = absurd (grind (arith, e))
     by false e = refl
-
-less_tested : (m n : ℕ) → m < n → nat_lt m n ≡ true
-less_tested m n lt = grind (arith, lt)
 
 module _ (g : Goal) (c : CourseModel) where
   -- a Solve that holds with these bindings, and with a store of the same constraints
@@ -94,7 +92,7 @@ module _ (g : Goal) (c : CourseModel) where
         let base : b ≡ record c.base { store = st; subst = b.subst } = at.2 ∙ ap (λ (is : List ℕ). record c.base { store = rebound c.base.store is; subst = b.subst }) woke in
         subst (λ (o : Option Subst). Reaches g (bind_step (with_goal g rest c) rest o) rest c (model_with (woken_in c ++ rest) (status_at (woken_in c ++ rest)) (logged b (solves (shown c g)) c))) (sym at.0)
         (subst (λ (d : BaseModel). Reaches g (bind_step (with_goal g rest c) rest (Some b.subst)) rest c (model_with (woken_in c ++ rest) (status_at (woken_in c ++ rest)) (logged d (solves (shown c g)) c))) (sym base)
-        (reached rest b.subst st (sym (ap (λ (b : Bool). cond b st c.base.store) (less_tested (length c.base.subst) (length b.subst) at.1))) parts.0 parts.1 parts.2))
+        (reached rest b.subst st (sym (ap (λ (b : Bool). cond b st c.base.store) (lt-ltb (length c.base.subst) (length b.subst) at.1))) parts.0 parts.1 parts.2))
     told ids Clash b woke is at rest = absurd (elim is [ inl e ↦ cc | inr e ↦ cc ])
 
 -- the run ends so, which is what a Solve is to lead to

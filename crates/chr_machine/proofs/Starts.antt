@@ -15,24 +15,28 @@ use Rattle.chr_machine.specs.MachineView.{Starts}
 use Rattle.chr_machine.specs.Model.{CourseModel, Model, first_course, model_with, state_in}
 use Rattle.chr_machine.specs.Step.{IsCounted, IsProper}
 
+-- a query's goals in their order, and nothing else
+pub first_start : (names : Names) (rules : Program) (q : Query) → Starts names rules q (model_with (start q).stack (start q).status (first_course names rules q.var_names))
+first_start names rules q = record {
+  names_are = refl;
+  rules_are = refl;
+  var_names_are = refl;
+  state_is = refl;
+  store_is = refl;
+  entries_are = refl;
+  steps_are = refl;
+  lines_are = refl;
+}
+
 -- what the parts make
 pub started : {A : Type 0} (names : Names) (rules : Program) (goals : List (Goal A)) (vars : VarNames) (es : List Element) (w : Status) (c : CourseModel) → es ≡ map (λ (g : Goal A). goal (goal_view g)) goals ++ [] → w ≡ status_at es → c ≡ first_course names rules vars
     → Starts names rules (record { goals = map goal_view goals; var_names = vars }) (model_with es w c)
 started {A} names rules goals vars es w c stack status course =
-    let all : es ≡ map (λ (g : semantics.Goal). goal g) (map goal_view goals) = stack ∙ (append-nil _ ∙ sym (map-map (λ (g : semantics.Goal). goal g) goal_view goals)) in
-    let at : w ≡ status_at (map (λ (g : semantics.Goal). goal g) (map goal_view goals)) = status ∙ ap status_at all in
-    let is : model_with es w c ≡ model_with (map (λ (g : semantics.Goal). goal g) (map goal_view goals)) (status_at (map (λ (g : semantics.Goal). goal g) (map goal_view goals))) (first_course names rules vars) = λ k. model_with (all k) (at k) (course k) in
-    subst (Starts names rules (record { goals = map goal_view goals; var_names = vars })) (sym is)
-    (record {
-      names_are = refl;
-      rules_are = refl;
-      var_names_are = refl;
-      state_is = refl;
-      store_is = refl;
-      entries_are = refl;
-      steps_are = refl;
-      lines_are = refl;
-    })
+    let q : Query = record { goals = map goal_view goals; var_names = vars } in
+    let all : es ≡ (start q).stack = stack ∙ (append-nil _ ∙ sym (map-map (λ (g : semantics.Goal). goal g) goal_view goals)) in
+    let at : w ≡ (start q).status = status ∙ ap status_at all in
+    let is : model_with es w c ≡ model_with (start q).stack (start q).status (first_course names rules vars) = λ k. model_with (all k) (at k) (course k) in
+    subst (Starts names rules q) (sym is) (first_start names rules q)
 
 -- nothing is counted yet
 pub counted_start : (names : Names) (rules : Program) (q : Query) (m : Model) → Starts names rules q m → IsCounted m

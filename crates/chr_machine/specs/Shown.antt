@@ -12,6 +12,10 @@ use Rattle.chr_base.specs.Model.{BaseModel}
 abbrev pub IsOf : List Row → ℕ → Atom → Type 0
 IsOf rows i a = (b : Atom) → atom_of rows i ≡ Some b → b ≡ a
 
+-- the constraint with the bindings applied, if it lives
+abbrev pub IsResolvedOf : BaseModel → ℕ → Atom → Type 0
+IsResolvedOf base i a = (b : Atom) → atom_of base.store.rows i ≡ Some b → resolved_atom base.subst b ≡ a
+
 -- it is that of the constraint with the identity, if that lives
 abbrev pub IsShownIn : Names → VarNames → BaseModel → ℕ → List ℕ → Type 0
 IsShownIn names vars base i text = (a : Atom) → atom_of base.store.rows i ≡ Some a → text ≡ known_text names vars (resolved_atom base.subst a) i

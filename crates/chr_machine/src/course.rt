@@ -2,20 +2,21 @@
 ghost use Rattle.std.specs.Prelude.{◌≡◌, ℕ, ◌<◌, IfOk, List, OnErr, OnOk, Some, is_some, true};
 ghost use Rattle.chr_rules.specs.ProgramView.{names_of, rules_of};
 ghost use Rattle.chr_semantics.specs.Changes.{added};
-ghost use Rattle.chr_semantics.specs.Program.{constraint};
+ghost use Rattle.chr_semantics.specs.Program.{Atom, constraint};
 ghost use Rattle.chr_semantics.specs.Search.{atom_of};
 ghost use Rattle.chr_semantics.specs.State.{goal, resolved_atom};
 ghost use Rattle.chr_semantics.specs.Text.{known_text};
 ghost use Rattle.chr_semantics.specs.Trace.{Line, activates};
 ghost use Rattle.chr_semantics.specs.declared.limits.TheConstants.{MAX_TRANSITIONS};
+ghost use Rattle.chr_store.specs.Rows.{row_atom};
 ghost use Rattle.chr_term.specs.TermView.{atom_over};
 ghost use Rattle.chr_trace.specs.About.{line_about};
 ghost use Rattle.chr_base.specs.BaseView.{base_view, program_of};
-ghost use Rattle.chr_machine.specs.Shown.{IsOf, IsShownIn};
+ghost use Rattle.chr_machine.specs.Shown.{IsOf, IsResolvedOf, IsShownIn};
 
 use chr_base::Base;
 use chr_rules::Program;
-use chr_store::Id;
+use chr_store::{Id, Row};
 use chr_term::{Args, Memory, Sym, VarNames};
 use chr_trace::{About, Lines, Scribe};
 use std::alloc::Allocator;
@@ -96,20 +97,20 @@ impl<'p, A: Allocator + Copy> Course<'p, A> {
         self.shown.is_right && self.shown.id == id && self.base.store().alive(id)
     }
 
-    /// Makes the text of a constraint with its identity, in place of the one that is kept.
-    fn write_shown(&mut self, id: Id, sym: Sym, args: &Args<A>) -> Result<(), Memory>
-        requires { IsOf (base_view self.old.base).store.rows id.0 (atom_over sym args.now) }
+    /// Makes the text of a constraint with its identity, in place of the one that is kept, by its row to which the bindings are applied.
+    fn write_shown(&mut self, id: Id, row: &Row<A>) -> Result<(), Memory>
+        requires { IsResolvedOf (base_view self.old.base) id.0 (row_atom row.now) }
         ensures same { course_of self.new ≡ course_of self.old }
         ensures base { self.new.base ≡ self.old.base }
         ensures lines { self.new.lines ≡ self.old.lines }
         ensures id { OnOk result (self.new.shown.id.0 ≡ id.0) }
-        ensures text { OnOk result (self.new.shown.text.items ≡ known_text (names_of (program_of self.old.base))
-            self.old.var_names (resolved_atom (base_view self.old.base).subst (atom_over sym args.now)) id.0) }
+        ensures text { OnOk result (self.new.shown.text.items
+            ≡ known_text (names_of (program_of self.old.base)) self.old.var_names (row_atom row.now) id.0) }
     {
         self.shown.is_right = false;
         self.shown.text.clear();
         let scribe = scribe_of(&self.base, &self.var_names);
-        scribe.write_known(sym, args, id, &mut self.shown.text)?;
+        scribe.write_row(row, id, &mut self.shown.text)?;
         self.shown.id = id;
         self.shown.is_right = true;
         Ok(())
@@ -128,7 +129,22 @@ impl<'p, A: Allocator + Copy> Course<'p, A> {
         if self.is_shown(id) {
             return Ok(());
         }
-        self.write_shown(id, sym, args)
+        let row = self.base.resolved_row(sym, args)?;
+        self.write_shown(id, &row)
+    }
+
+    /// Drafts the line of the next transition about the constraint whose text is kept.
+    fn draft_shown(&mut self, about: About<'_>) -> Result<(), Memory>
+        requires few { self.old.steps < MAX_TRANSITIONS }
+        ensures same { course_of self.new ≡ course_of self.old }
+        ensures base { self.new.base ≡ self.old.base }
+        ensures shown { self.new.shown ≡ self.old.shown }
+        ensures line { (a : Atom) (i : ℕ) →
+            self.old.shown.text.items ≡ known_text (names_of (program_of self.old.base)) self.old.var_names a i →
+            OnOk result (self.new.lines.draft ≡ Some (line_in (course_of self.old) (line_about about.entry a i))) }
+    {
+        let known = self.shown.text.as_slice();
+        self.lines.draft(self.steps + 1, known, about)
     }
 
     /// Drafts the line of the next transition about a constraint.
@@ -150,8 +166,7 @@ impl<'p, A: Allocator + Copy> Course<'p, A> {
             (line_about about.entry (resolved_atom (base_view self.old.base).subst (atom_over sym args.now)) id.0))) }
     {
         self.show(id, sym, args)?;
-        let known = self.shown.text.as_slice();
-        self.lines.draft(self.steps + 1, known, about)
+        self.draft_shown(about)
     }
 
     /// Keeps the line that was drafted for the transition.
@@ -195,8 +210,10 @@ impl<'p, A: Allocator + Copy> Course<'p, A> {
         ensures err { OnErr result (course_of self.new ≡ course_of self.old) }
     {
         let next = self.base.store().next();
-        self.draft(next, sym, args, About::Activates)?;
-        let id = self.base.add(sym, args)?;
+        let row = self.base.resolved_row(sym, args)?;
+        self.write_shown(next, &row)?;
+        self.draft_shown(About::Activates)?;
+        let id = self.base.add(sym, args, row)?;
         self.log();
         Ok(id)
     }

@@ -8,8 +8,8 @@ ghost use Rattle.chr_machine.specs.Model.{model_of};
 ghost use Rattle.chr_machine.specs.Stack.{HasActive, HasBuiltIn};
 ghost use Rattle.chr_machine.specs.Step.{CanStep, IsReady, Made};
 
-use crate::answer::Answer;
 use crate::course::Course;
+use crate::search_answer::SearchAnswer;
 use crate::solving::Solved;
 use crate::stack::{drop_top, drop_unless, move_to, put_elems, put_goals, replace_top, top_of};
 use crate::turning::{ActiveConstraint, Firing, Turn};
@@ -95,7 +95,7 @@ impl<'p, A: Allocator + Copy> Execution<'p, A> {
     }
 
     /// The transition of a constraint that is active on top. Where it needs a search, it makes one, unless the answer is known.
-    fn step_active(&mut self, answer: &Answer) -> Result<(), Memory>
+    fn step_active(&mut self, answer: &SearchAnswer) -> Result<(), Memory>
         requires can { CanStep (model_of self.old) }
         requires top { HasActive (stack_view self.old.stack.items) }
         requires answer { AnswersStep (model_of self.old) answer.now }
@@ -132,7 +132,7 @@ impl<'p, A: Allocator + Copy> Execution<'p, A> {
     }
 
     /// The transition of the top. Where it needs a search, it makes one, unless the answer is known.
-    pub fn step_top(&mut self, answer: &Answer) -> Result<(), Memory>
+    pub fn step_top(&mut self, answer: &SearchAnswer) -> Result<(), Memory>
         requires can { CanStep (model_of self.old) }
         requires some { 0 < vec_len self.old.stack }
         requires answer { AnswersStep (model_of self.old) answer.now }

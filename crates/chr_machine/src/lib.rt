@@ -1,7 +1,6 @@
 //! The machine: the transitions of the refined operational semantics on one thread, and their trace.
 #![tactic(auto)]
 
-mod answer;
 mod course;
 mod execution;
 mod machine;
@@ -9,6 +8,7 @@ mod need;
 mod others;
 mod outcome;
 mod run;
+mod search_answer;
 mod sharing;
 mod solving;
 mod stack;

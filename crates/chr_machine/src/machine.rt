@@ -18,10 +18,10 @@ ghost use Rattle.chr_machine.specs.OutcomeView.{outcome_view};
 ghost use Rattle.chr_machine.specs.Proper.{propers};
 ghost use Rattle.chr_machine.specs.Step.{IsSteady};
 
-use crate::answer::Answer;
 use crate::execution::Execution;
 use crate::need::Need;
 use crate::outcome::Outcome;
+use crate::search_answer::SearchAnswer;
 use crate::stepped::Stepped;
 use chr_bind::Bindings;
 use chr_find::{Found, Snapshot, Task};
@@ -64,7 +64,7 @@ impl<'p, A: Allocator + Copy> Machine<'p, A> {
             (λ stepped. Steps stepped (machine_view self.old) (machine_view self.new)) }
         ensures err { OnErr result (IsRefused (machine_view self.old) (machine_view self.new)) }
     {
-        self.execution.step(&Answer::Missing)
+        self.execution.step(&SearchAnswer::Missing)
     }
 
     /// Makes one transition that asks for no search. It answers Spent where 1,000,000 transitions were made; this and Memory leave the
@@ -100,7 +100,7 @@ impl<'p, A: Allocator + Copy> Machine<'p, A> {
             (λ stepped. Steps stepped (machine_view self.old) (machine_view self.new)) }
         ensures err { OnErr result (IsRefused (machine_view self.old) (machine_view self.new)) }
     {
-        self.execution.step(&Answer::Found(ids))
+        self.execution.step(&SearchAnswer::Found(ids))
     }
 
     /// Makes transitions until it has made n, the run has ended or 1,000,000 stand. It answers Ended where the run has ended then, Spent

@@ -8,9 +8,9 @@ ghost use Rattle.chr_machine.specs.MachineView.{IsRefused, Runs, Starts, Steps};
 ghost use Rattle.chr_machine.specs.Model.{model_of};
 ghost use Rattle.chr_machine.specs.Step.{IsSteady};
 
-use crate::answer::Answer;
 use crate::course::Course;
 use crate::execution::Execution;
+use crate::search_answer::SearchAnswer;
 use crate::stack::put_goals;
 use crate::stepped::Stepped;
 use chr_rules::{Program, Query};
@@ -47,7 +47,7 @@ impl<'p, A: Allocator + Copy> Execution<'p, A> {
 
     /// Makes one transition, or answers that the run has ended or that the limit stands. Where it needs a search, it makes one, unless the
     /// answer is known. Memory, which only a transition that is due can want, leaves everything as before.
-    pub fn step(&mut self, answer: &Answer) -> Result<Stepped, Memory>
+    pub fn step(&mut self, answer: &SearchAnswer) -> Result<Stepped, Memory>
         requires steady { IsSteady self.old }
         requires answer { AnswersStep (model_of self.old) answer.now }
         ensures ok { IfOk result (λ stepped. Steps stepped (model_of self.old) (model_of self.new)) }
@@ -76,7 +76,7 @@ impl<'p, A: Allocator + Copy> Execution<'p, A> {
     {
         let mut made = 0;
         while made < n {
-            match self.step(&Answer::Missing) {
+            match self.step(&SearchAnswer::Missing) {
                 Err(error) => return Err(error),
                 Ok(Stepped::Moved) => made += 1,
                 Ok(Stepped::Ended) => return Ok(Stepped::Ended),

@@ -12,8 +12,8 @@ ghost use Rattle.chr_machine.specs.Firing.{AreFired, IsAt, IsFiring, IsPrepared,
 ghost use Rattle.chr_machine.specs.Model.{course_of};
 ghost use Rattle.chr_machine.specs.Step.{CanMove};
 
-use crate::answer::Answer;
 use crate::course::Course;
+use crate::search_answer::SearchAnswer;
 use chr_find::Active;
 use chr_rules::Goal;
 use chr_store::{HeadIds, Id};
@@ -69,7 +69,7 @@ impl<'p, A: Allocator + Copy> Course<'p, A> {
         &mut self,
         at: &Active<'p, A>,
         active: &ActiveConstraint<'_, A>,
-        answer: &Answer,
+        answer: &SearchAnswer,
     ) -> Result<Option<HeadIds>, Memory>
         requires searchable { IsSearchable at.now.rule.now at.now.place }
         requires at { IsAt (course_of self.old) at.now active.now }
@@ -83,8 +83,8 @@ impl<'p, A: Allocator + Copy> Course<'p, A> {
             return Ok(None);
         }
         match answer {
-            Answer::Missing => self.search(at),
-            Answer::Found(found) => Ok(*found),
+            SearchAnswer::Missing => self.search(at),
+            SearchAnswer::Found(found) => Ok(*found),
         }
     }
 
@@ -124,7 +124,7 @@ impl<'p, A: Allocator + Copy> Course<'p, A> {
     pub fn turn(
         &mut self,
         active: &ActiveConstraint<'_, A>,
-        answer: &Answer,
+        answer: &SearchAnswer,
     ) -> Result<Turn<'p, A>, Memory>
         requires can { CanMove (course_of self.old) (top_at active.now) }
         requires answer { AnswersSearch (course_of self.old) active.now answer.now }

@@ -1,103 +1,230 @@
--- A node whose left or right tree was changed, or whose value was.
-use Rattle.std.proofs.Common.{◌≡◌, ◌∙◌, List, ◌∷◌, ◌++◌, refl, sym, subst}
-use Rattle.std.specs.Prelude.{Option, Some}
+-- Nodes that were changed at a place.
+use Rattle.std.proofs.Common.{◌≡◌, ◌∙◌, ℕ, suc, ◌<◌, ◌≤◌, List, [], ◌∷◌, ◌++◌, length, take, drop, get_or, ap, refl, sym, subst, arith, append_assoc}
+use Rattle.std.specs.Prelude.{Option, Some, None, Vec}
+use Rattle.std.proofs.lemmas.List.{append-nil, take-append-drop}
+use Rattle.std.specs.List.{remove}
+use Rattle.std.specs.Vec.{with_item}
+use Rattle.chr_map.specs.Entries.{link_entries, link_seen, node_entries, run}
 use Rattle.std.specs.Cmp.{IsTotalOrder}
 use Rattle.std.specs.declared.cmp.Ordering.{Ordering}
-use Rattle.std.specs.declared.cmp.Ordering.TheVariants.{Less, Equal, Greater}
-use Rattle.chr_map.specs.Entries.{link_entries, node_entries}
-use Rattle.chr_map.specs.Order.{Ascends, entry_edited, entry_put, entry_removed, value_of}
-use Rattle.chr_map.specs.Taking.{HasFirst, entries_below}
-use Rattle.chr_map.specs.declared.node.Node.{Node}
-use Rattle.chr_map.specs.declared.node.Taken.{Taken}
-use Rattle.chr_map.proofs.Ordered.{ascends_before, ascends_from, edited_after, edited_before, edited_here, put_after, put_before, put_here, removed_after, removed_before, removed_here, value_after, value_before, value_here}
-use Rattle.chr_map.proofs.Parts.{node_is, parts}
+use Rattle.chr_map.specs.Order.{Ascends, IsAbove, IsAtFirst, IsBelow, on_first, value_of}
+use Rattle.chr_map.proofs.Between.{ascends_between, value_between, value_first}
+use Rattle.chr_map.specs.Places.{Swaps, at_place, before_place, behind_place, entries_at, entries_before, entries_behind, with_tree}
+use Rattle.chr_map.specs.Taking.{HasLast, with_up}
+use Rattle.chr_map.specs.declared.node.Node.{Node, roll-Node}
+use Rattle.chr_map.specs.declared.node.Entry.{Entry}
+use Rattle.chr_map.proofs.Parts.{node_is, node_split, nodes_are, parts, rolled, rolled_at, rolled_before, rolled_behind, rolled_count}
+use Rattle.chr_map.proofs.Runs.{One, Tree, at_new, at_slot, before_new, before_removed, behind_end, behind_new, behind_removed, entry_of, at_end, nodes_first, nodes_slot, run_append, run_cut, run_insert, run_none, run_set, some_behind}
 
--- what was taken out first
-pub has_first : {K V : Type 0} (es others : List (K × V)) (o : Option (Taken K V)) (t : Taken K V) → o ≡ Some t → HasFirst es o others → es ≡ (t.key, t.value) ∷ others
-has_first {K = K} {V = V} es others o t e h = subst (λ (x : Option (Taken K V)). HasFirst es x others) e h
+-- the first of these changed: to another, and not at all
+first_instead : {X : Type 0} (e : X) (xs : List X) → 0 < length xs → on_first (λ (_ : X). e) xs ≡ e ∷ drop 1 xs
+first_instead e [] some = absurd (omega arith)
+first_instead e (x ∷ xs) some = refl
 
-module _ {K V A : Type 0} (n : Node K V A) where
-  -- its entries
-  abbrev pub left : List (K × V)
-  left = link_entries (parts n).left
+on_first_same : {X : Type 0} (xs : List X) → on_first (λ (x : X). x) xs ≡ xs
+on_first_same [] = refl
+on_first_same (x ∷ xs) = refl
 
-  abbrev pub right : List (K × V)
-  right = link_entries (parts n).right
+module _ {K V : Type 0} where
+  -- what is found in equal entries
+  pub found_through : (cmp : K → K → Ordering) (k : K) (found : Option V) (es fs : List (K × V)) → es ≡ fs → (Ascends cmp fs → found ≡ value_of cmp fs k) → Ascends cmp es → found ≡ value_of cmp es k
+  found_through cmp k found es fs e h up = h (subst (Ascends cmp) e up) ∙ sym (ap (λ (x : List (K × V)). value_of cmp x k) e)
 
-  abbrev pub top : K × V
-  top = ((parts n).key, (parts n).value)
+  -- what was taken out last
+  pub has_last : (es others : List (K × V)) (o : Option (Entry K V)) (t : Entry K V) → o ≡ Some t → HasLast es o others → es ≡ others ++ (t.key, t.value) ∷ []
+  has_last es others o t e h = subst (λ (x : Option (Entry K V)). HasLast es x others) e h
 
-  -- a tree below is as it was
-  pub left_same : (new es : List (K × V)) → es ≡ new ++ top ∷ right → new ≡ left → es ≡ node_entries n
-  left_same new es is e = is ∙ (rw e (sym (node_is n)))
+  pub has_none : (es others : List (K × V)) (o : Option (Entry K V)) → o ≡ None → HasLast es o others → (es ≡ []) × (others ≡ [])
+  has_none es others o e h = subst (λ (x : Option (Entry K V)). HasLast es x others) e h
 
-  pub right_same : (new es : List (K × V)) → es ≡ left ++ top ∷ new → new ≡ right → es ≡ node_entries n
-  right_same new es is e = is ∙ (rw e (sym (node_is n)))
+  -- the parts of nothing
+  nothing_around : (xs ys zs : List (K × V)) → xs ++ (ys ++ zs) ≡ [] → (xs ≡ []) × (zs ≡ [])
+  nothing_around [] [] zs e = (refl, e)
+  nothing_around [] (y ∷ ys) zs e = let h : [] ≡ y ∷ (ys ++ zs) = sym e in (refl, (cc))
+  nothing_around (x ∷ xs) ys zs e = ((cc), (cc))
 
-  -- the first of the left tree, or, where that is empty, its own entry
-  pub first_of_left : (first : K × V) (new es : List (K × V)) → es ≡ new ++ top ∷ right → left ≡ first ∷ new → node_entries n ≡ first ∷ es
-  first_of_left first new es is e = node_is n ∙ rw (e, is) refl
+module _ {K V A : Type 0} where
+  -- another size
+  pub resized : (n : Node K V A) (size : ℕ) → node_entries (roll-Node K V A (record { first = (parts n).first; slots = (parts n).slots; size = size })) ≡ node_entries n
+  resized n size = rolled _ ∙ sym (node_is n)
 
-  -- the first of the right tree in the place of its own
-  pub first_of_right : (first : K × V) (new es : List (K × V)) → es ≡ left ++ first ∷ new → right ≡ first ∷ new → es ≡ entries_below n
-  first_of_right first new es is e = is ∙ rw e refl
+  pub resized_swaps : (old n : Node K V A) (size i : ℕ) (given got : Tree K V A) → Swaps old n i given got → Swaps old (roll-Node K V A (record { first = (parts n).first; slots = (parts n).slots; size = size })) i given got
+  resized_swaps old n size i given got s = record {
+    before = rolled_before _ i ∙ s.before;
+    here = rolled_at _ i ∙ s.here;
+    behind = rolled_behind _ i ∙ s.behind;
+    taken = s.taken;
+    fewer = s.fewer;
+    count = rolled_count _ ∙ s.count;
+  }
 
-  -- where the entries ascend
-  module _ (cmp : K → K → Ordering) where
-    whole : Ascends cmp (node_entries n) → Ascends cmp (left ++ top ∷ right)
-    whole up = subst (Ascends cmp) (node_is n) up
+  -- a tree was swapped, and another put in its place
+  pub put_back : (n m new : Node K V A) (i : ℕ) (given got back rest : Tree K V A) → Swaps n m i given got → Swaps m new i back rest → node_entries new ≡ with_tree n i (link_entries back)
+  put_back n m new i given got back rest s t =
+      let b : entries_before new i ≡ entries_before n i = t.before ∙ s.before in
+      let h : entries_behind new i ≡ entries_behind n i = t.behind ∙ s.behind in
+      node_split new i ∙ rw (b, t.here, h) refl
 
-    left_ascends : Ascends cmp (node_entries n) → Ascends cmp left
-    left_ascends up = ascends_before cmp left top right (whole up)
+  -- as it was, since that has the same entries
+  pub put_back_same : (n m new : Node K V A) (i : ℕ) (given got back rest : Tree K V A) → Swaps n m i given got → Swaps m new i back rest → link_entries back ≡ link_entries got → node_entries new ≡ node_entries n
+  put_back_same n m new i given got back rest s t e = put_back n m new i given got back rest s t ∙ (ap (λ (es : List (K × V)). with_tree n i es) (e ∙ s.taken) ∙ sym (node_split n i))
 
-    right_ascends : Ascends cmp (node_entries n) → Ascends cmp right
-    right_ascends up = (ascends_from cmp left top right (whole up)).1
+  -- no slot was handed up
+  pub none_up : (n : Node K V A) (i : ℕ) (up : Option (One K V A)) → up ≡ None → node_entries n ≡ with_tree n i (with_up (entries_at n i) up)
+  none_up n i up e = node_split n i ∙ ap (λ (u : Option (One K V A)). with_tree n i (with_up (entries_at n i) u)) (sym e)
 
-    pub put_in_left : (k : K) (v : V) (new es : List (K × V)) (o : Ordering) → o ≡ cmp k (parts n).key → o ≡ Less → es ≡ new ++ top ∷ right → (Ascends cmp left → new ≡ entry_put cmp left k v)
-        → Ascends cmp (node_entries n) → es ≡ entry_put cmp (node_entries n) k v
-    put_in_left k v new es o c e is l up = is ∙ (rw (l (left_ascends up), node_is n) (sym (put_before cmp k v left top right (sym c ∙ e))))
+  -- a tree and a slot were put in a node that had no entry
+  pub raised : (m new last : Node K V A) (i : ℕ) (given got : Tree K V A) (es : List (K × V)) → node_entries m ≡ [] → Swaps m new i given got → node_entries last ≡ with_tree new i (entries_at new i ++ es) → node_entries last ≡ link_entries given ++ es
+  raised m new last i given got es nothing s is =
+      let around = nothing_around (entries_before m i) (entries_at m i) (entries_behind m i) (sym (node_split m i) ∙ nothing) in
+      let b : entries_before new i ≡ [] = s.before ∙ around.0 in
+      let h : entries_behind new i ≡ [] = s.behind ∙ around.1 in
+      is ∙ rw (b, s.here, h) (append-nil (link_entries given ++ es))
 
-    pub put_at_top : IsTotalOrder cmp → (k : K) (v : V) (es : List (K × V)) (o : Ordering) → o ≡ cmp k (parts n).key → o ≡ Equal → es ≡ left ++ ((parts n).key, v) ∷ right
-        → Ascends cmp (node_entries n) → es ≡ entry_put cmp (node_entries n) k v
-    put_at_top total k v es o c e is up = is ∙ (rw (node_is n) (sym (put_here cmp total k v left top right (whole up) (sym c ∙ e))))
+  -- the last entry of a tree was taken out, where that is the last tree
+  pub last_taken : (n m new : Node K V A) (i : ℕ) (given got back rest : Tree K V A) (e : K × V) → i ≡ length (parts n).slots.items → Swaps n m i given got → Swaps m new i back rest
+      → link_entries got ≡ link_entries back ++ e ∷ [] → node_entries n ≡ node_entries new ++ e ∷ []
+  last_taken n m new i given got back rest e at_last s t is =
+      let h : entries_behind n i ≡ [] = ap (λ (j : ℕ). entries_behind n j) at_last ∙ behind_end (parts n).slots.items in
+      let here : entries_at n i ≡ link_entries back ++ e ∷ [] = sym s.taken ∙ is in
+      let other : node_entries new ≡ with_tree n i (link_entries back) = put_back n m new i given got back rest s t in
+      node_split n i ∙ (rw (other, h, here, append-nil (link_entries back ++ e ∷ []), append-nil (link_entries back)) (sym (append_assoc (entries_before n i) (link_entries back) (e ∷ []))))
 
-    pub put_in_right : IsTotalOrder cmp → (k : K) (v : V) (new es : List (K × V)) (o : Ordering) → o ≡ cmp k (parts n).key → o ≡ Greater → es ≡ left ++ top ∷ new → (Ascends cmp right → new ≡ entry_put cmp right k v)
-        → Ascends cmp (node_entries n) → es ≡ entry_put cmp (node_entries n) k v
-    put_in_right total k v new es o c e is r up = is ∙ (rw (r (right_ascends up), node_is n) (sym (put_after cmp total k v left top right (whole up) (sym c ∙ e))))
+  -- and where it was put in the slot behind the tree
+  pub last_set : (n m new last : Node K V A) (i : ℕ) (given got back rest : Tree K V A) (e : K × V) → i < length (parts n).slots.items → Swaps n m i given got → Swaps m new i back rest → link_entries got ≡ link_entries back ++ e ∷ []
+      → node_entries last ≡ entries_before new i ++ (entries_at new i ++ on_first (λ (_ : K × V). e) (entries_behind new i)) → node_entries last ≡ entries_before n i ++ (entries_at n i ++ drop 1 (entries_behind n i))
+  last_set n m new last i given got back rest e lt s t is set =
+      let b : entries_before new i ≡ entries_before n i = t.before ∙ s.before in
+      let h : entries_behind new i ≡ entries_behind n i = t.behind ∙ s.behind in
+      let here : entries_at n i ≡ link_entries back ++ e ∷ [] = sym s.taken ∙ is in
+      set ∙ (rw (b, t.here, h, here) (ap (λ (es : List (K × V)). entries_before n i ++ es)
+      (ap (λ (es : List (K × V)). link_entries back ++ es) (first_instead e (entries_behind n i) (some_behind i (parts n).slots.items lt)) ∙ sym (append_assoc (link_entries back) (e ∷ []) (drop 1 (entries_behind n i))))))
 
-    pub edited_in_left : (f : V → V) (k : K) (new es : List (K × V)) (o : Ordering) → o ≡ cmp k (parts n).key → o ≡ Less → es ≡ new ++ top ∷ right → (Ascends cmp left → new ≡ entry_edited cmp f left k)
-        → Ascends cmp (node_entries n) → es ≡ entry_edited cmp f (node_entries n) k
-    edited_in_left f k new es o c e is l up = is ∙ (rw (l (left_ascends up), node_is n) (sym (edited_before cmp f k left top right (sym c ∙ e))))
+  -- a slot was taken out behind an empty tree
+  pub slot_gone : (n m new last : Node K V A) (i : ℕ) (given got back rest : Tree K V A) → Swaps n m i given got → Swaps m new i back rest → link_entries got ≡ []
+      → node_entries last ≡ entries_before new i ++ drop 1 (entries_behind new i) → node_entries last ≡ entries_before n i ++ (entries_at n i ++ drop 1 (entries_behind n i))
+  slot_gone n m new last i given got back rest s t nothing is =
+      let b : entries_before new i ≡ entries_before n i = t.before ∙ s.before in
+      let h : entries_behind new i ≡ entries_behind n i = t.behind ∙ s.behind in
+      let here : entries_at n i ≡ [] = sym s.taken ∙ nothing in
+      is ∙ rw (b, h, here) refl
 
-    pub edited_at_top : IsTotalOrder cmp → (f : V → V) (k : K) (v : V) (es : List (K × V)) (o : Ordering) → o ≡ cmp k (parts n).key → o ≡ Equal → es ≡ left ++ ((parts n).key, v) ∷ right → v ≡ f (parts n).value
-        → Ascends cmp (node_entries n) → es ≡ entry_edited cmp f (node_entries n) k
-    edited_at_top total f k v es o c e is v_is up = is ∙ (rw (v_is, node_is n) (sym (edited_here cmp f total k left top right (whole up) (sym c ∙ e))))
+  -- what is done to entries, done to those of one tree, or from one slot on
+  pub done_between : (cmp : K → K → Ordering) (n : Node K V A) (i : ℕ) (op : List (K × V) → List (K × V)) (new : List (K × V))
+      → (Ascends cmp (with_tree n i (entries_at n i)) → op (with_tree n i (entries_at n i)) ≡ with_tree n i (op (entries_at n i)))
+      → (Ascends cmp (entries_at n i) → new ≡ with_tree n i (op (entries_at n i))) → Ascends cmp (node_entries n) → new ≡ op (node_entries n)
+  done_between cmp n i op new law done up =
+      let all = subst (Ascends cmp) (node_split n i) up in
+      done (ascends_between cmp (entries_before n i) (entries_at n i) (entries_behind n i) all) ∙ (sym (law all) ∙ ap op (sym (node_split n i)))
 
-    pub edited_in_right : IsTotalOrder cmp → (f : V → V) (k : K) (new es : List (K × V)) (o : Ordering) → o ≡ cmp k (parts n).key → o ≡ Greater → es ≡ left ++ top ∷ new → (Ascends cmp right → new ≡ entry_edited cmp f right k)
-        → Ascends cmp (node_entries n) → es ≡ entry_edited cmp f (node_entries n) k
-    edited_in_right total f k new es o c e is r up = is ∙ (rw (r (right_ascends up), node_is n) (sym (edited_after cmp f total k left top right (whole up) (sym c ∙ e))))
+  pub done_first : (cmp : K → K → Ordering) (n : Node K V A) (i : ℕ) (op : List (K × V) → List (K × V)) (rest new : List (K × V))
+      → (Ascends cmp ((entries_before n i ++ entries_at n i) ++ entries_behind n i) → op ((entries_before n i ++ entries_at n i) ++ entries_behind n i) ≡ (entries_before n i ++ entries_at n i) ++ rest)
+      → new ≡ entries_before n i ++ (entries_at n i ++ rest) → Ascends cmp (node_entries n) → new ≡ op (node_entries n)
+  done_first cmp n i op rest new law done up =
+      let flat : node_entries n ≡ (entries_before n i ++ entries_at n i) ++ entries_behind n i = node_split n i ∙ sym (append_assoc (entries_before n i) (entries_at n i) (entries_behind n i)) in
+      done ∙ (sym (append_assoc (entries_before n i) (entries_at n i) rest) ∙ (sym (law (subst (Ascends cmp) flat up)) ∙ ap op (sym flat)))
 
-    pub removed_in_left : IsTotalOrder cmp → (k : K) (new es : List (K × V)) (o : Ordering) → o ≡ cmp k (parts n).key → o ≡ Less → es ≡ new ++ top ∷ right → (Ascends cmp left → new ≡ entry_removed cmp left k)
-        → Ascends cmp (node_entries n) → es ≡ entry_removed cmp (node_entries n) k
-    removed_in_left total k new es o c e is l up = is ∙ (rw (l (left_ascends up), node_is n) (sym (removed_before cmp total k left top right (whole up) (sym c ∙ e))))
+  pub changed_in_tree : (cmp : K → K → Ordering) (op : List (K × V) → List (K × V)) (n m new : Node K V A) (i : ℕ) (given got back rest : Tree K V A) → Swaps n m i given got → Swaps m new i back rest
+      → (Ascends cmp (link_entries got) → link_entries back ≡ op (link_entries got)) → Ascends cmp (entries_at n i) → node_entries new ≡ with_tree n i (op (entries_at n i))
+  changed_in_tree cmp op n m new i given got back rest s t h up =
+      put_back n m new i given got back rest s t ∙ ap (λ (es : List (K × V)). with_tree n i es) (h (subst (Ascends cmp) (sym s.taken) up) ∙ ap op s.taken)
 
-    pub removed_at_top : IsTotalOrder cmp → (k : K) (es : List (K × V)) (o : Ordering) → o ≡ cmp k (parts n).key → o ≡ Equal → es ≡ left ++ right → Ascends cmp (node_entries n) → es ≡ entry_removed cmp (node_entries n) k
-    removed_at_top total k es o c e is up = is ∙ (rw (node_is n) (sym (removed_here cmp total k left top right (whole up) (sym c ∙ e))))
+  -- and a slot was handed up from it
+  pub changed_up : (cmp : K → K → Ordering) (op : List (K × V) → List (K × V)) (n m new last : Node K V A) (i : ℕ) (given got back rest : Tree K V A) (up : Option (One K V A)) → Swaps n m i given got → Swaps m new i back rest
+      → (Ascends cmp (link_entries got) → with_up (link_entries back) up ≡ op (link_entries got)) → node_entries last ≡ with_tree new i (with_up (entries_at new i) up)
+      → Ascends cmp (entries_at n i) → node_entries last ≡ with_tree n i (op (entries_at n i))
+  changed_up cmp op n m new last i given got back rest up s t h is asc =
+      let b : entries_before new i ≡ entries_before n i = t.before ∙ s.before in
+      let d : entries_behind new i ≡ entries_behind n i = t.behind ∙ s.behind in
+      is ∙ (rw (b, t.here, d) (ap (λ (es : List (K × V)). with_tree n i es) (h (subst (Ascends cmp) (sym s.taken) asc) ∙ ap op s.taken)))
 
-    pub removed_in_right : IsTotalOrder cmp → (k : K) (new es : List (K × V)) (o : Ordering) → o ≡ cmp k (parts n).key → o ≡ Greater → es ≡ left ++ top ∷ new → (Ascends cmp right → new ≡ entry_removed cmp right k)
-        → Ascends cmp (node_entries n) → es ≡ entry_removed cmp (node_entries n) k
-    removed_in_right total k new es o c e is r up = is ∙ (rw (r (right_ascends up), node_is n) (sym (removed_after cmp total k left top right (whole up) (sym c ∙ e))))
+  -- a node was cut in two
+  pub cut_in_two : (n : Node K V A) (i : ℕ) (xs ys zs : List (One K V A)) (x : One K V A) (es fs : List (K × V)) → xs ≡ take i (parts n).slots.items → ys ≡ drop i (parts n).slots.items → 0 < length ys → x ≡ get_or ys 0 x → zs ≡ remove ys 0
+      → es ≡ run (parts n).first xs → fs ≡ run x.after zs → node_entries n ≡ es ++ entry_of x ∷ fs
+  cut_in_two n i xs ys zs x es fs front back some e less left right =
+      let all : xs ++ ys ≡ (parts n).slots.items = rw (front, back) (take-append-drop i (parts n).slots.items) in
+      node_is n
+      ∙ (ap (λ (ss : List (One K V A)). run (parts n).first ss) (sym all)
+      ∙ (run_cut (parts n).first xs ys x some e
+      ∙ rw (left, right, less) refl))
 
-    -- es are the entries of a link to it
-    module _ (es : List (K × V)) (all : es ≡ node_entries n) (k : K) (found : Option V) (o : Ordering) (c : o ≡ cmp k (parts n).key) where
-      parted : Ascends cmp es → Ascends cmp (node_entries n)
-      parted up = subst (Ascends cmp) all up
+  -- a node without slots
+  pub no_slots : (n : Node K V A) → length (parts n).slots.items ≡ 0 → node_entries n ≡ link_entries (parts n).first
+  no_slots n none = node_is n ∙ run_none (parts n).first (parts n).slots.items none
 
-      pub found_in_left : o ≡ Less → (Ascends cmp left → found ≡ value_of cmp left k) → Ascends cmp es → found ≡ value_of cmp es k
-      found_in_left e l up = l (left_ascends (parted up)) ∙ rw (all, node_is n) (sym (value_before cmp k left top right (sym c ∙ e)))
+  -- the last slot was taken out
+  pub popped : (n : Node K V A) (size i : ℕ) (v : Vec (One K V A) A) (x : One K V A) → (parts n).slots.items ≡ v.items ++ x ∷ [] → i ≡ length (parts n).slots.items → entries_at n i ≡ []
+      → node_entries n ≡ node_entries (roll-Node K V A (record { first = (parts n).first; slots = v; size = size })) ++ entry_of x ∷ []
+  popped n size i v x is at_last nothing =
+      let last : link_entries x.after ≡ [] = sym (at_end (parts n).first v.items x) ∙ (ap (λ (ss : List (One K V A)). at_place (length ss) (parts n).first ss) (sym is) ∙ (ap (λ (j : ℕ). entries_at n j) (sym at_last) ∙ nothing)) in
+      node_is n
+      ∙ (ap (λ (ss : List (One K V A)). run (parts n).first ss) is
+      ∙ (run_append (parts n).first v.items x []
+      ∙ rw (last, rolled (record { first = (parts n).first; slots = v; size = size })) refl))
 
-      pub found_at_top : IsTotalOrder cmp → o ≡ Equal → found ≡ Some (parts n).value → Ascends cmp es → found ≡ value_of cmp es k
-      found_at_top total e f up = f ∙ rw (all, node_is n) (sym (value_here cmp total k left top right (whole (parted up)) (sym c ∙ e)))
+  module _ (n : Node K V A) where
+    abbrev pub items : List (One K V A)
+    items = (parts n).slots.items
 
-      pub found_in_right : IsTotalOrder cmp → o ≡ Greater → (Ascends cmp right → found ≡ value_of cmp right k) → Ascends cmp es → found ≡ value_of cmp es k
-      found_in_right total e r up = r (right_ascends (parted up)) ∙ rw (all, node_is n) (sym (value_after cmp total k left top right (whole (parted up)) (sym c ∙ e)))
+    -- the first tree was swapped, or one behind a slot
+    pub swapped_first : (size i : ℕ) (given got new : Tree K V A) → i ≡ 0 → new ≡ given → got ≡ (parts n).first → Swaps n (roll-Node K V A (record { first = new; slots = (parts n).slots; size = size })) i given got
+    swapped_first size i given got new zeroth e f = subst (λ (j : ℕ). Swaps n (roll-Node K V A (record { first = new; slots = (parts n).slots; size = size })) j given got) (sym zeroth) (record {
+      before = refl;
+      here = rolled_at _ 0 ∙ ap link_entries e;
+      behind = rolled_behind _ 0;
+      taken = ap link_entries f;
+      fewer = let h = nodes_are n in let m = nodes_first (parts n).first items in let o = ap (λ (l : Tree K V A). (link_seen l).nodes) f in omega arith;
+      count = rolled_count _;
+    })
+
+    pub swapped_slot : (size i j : ℕ) (given got : Tree K V A) (x y : One K V A) → suc j ≡ i → j < length items → x ≡ get_or items j x → entry_of y ≡ entry_of x → y.after ≡ given → got ≡ x.after
+        → Swaps n (roll-Node K V A (record { first = (parts n).first; slots = with_item (parts n).slots j y; size = size })) i given got
+    swapped_slot size i j given got x y place lt e same new f = subst (λ (k : ℕ). Swaps n (roll-Node K V A (record { first = (parts n).first; slots = with_item (parts n).slots j y; size = size })) k given got) place (record {
+      before = rolled_before _ (suc j) ∙ before_new j (parts n).first items x y lt e same;
+      here = rolled_at _ (suc j) ∙ (at_new j (parts n).first items y lt ∙ ap link_entries new);
+      behind = rolled_behind _ (suc j) ∙ behind_new j items y;
+      taken = ap link_entries f ∙ at_slot j (parts n).first items x lt e;
+      fewer = let h = nodes_are n in let m = nodes_slot j (parts n).first items x lt e in let o = ap (λ (l : Tree K V A). (link_seen l).nodes) f in omega arith;
+      count = rolled_count _;
+    })
+
+    -- another entry was put in a slot
+    pub slot_set : (f : K × V → K × V) (size i : ℕ) (x y : One K V A) → i < length items → x ≡ get_or items i x → entry_of y ≡ f (entry_of x) → y.after ≡ x.after
+        → node_entries (roll-Node K V A (record { first = (parts n).first; slots = with_item (parts n).slots i y; size = size })) ≡ entries_before n i ++ (entries_at n i ++ on_first f (entries_behind n i))
+    slot_set f size i x y lt e new same = rolled _ ∙ run_set f i (parts n).first items x y lt e new same
+
+    pub slot_same : (size i : ℕ) (x y : One K V A) → i < length items → x ≡ get_or items i x → entry_of y ≡ entry_of x → y.after ≡ x.after
+        → node_entries (roll-Node K V A (record { first = (parts n).first; slots = with_item (parts n).slots i y; size = size })) ≡ node_entries n
+    slot_same size i x y lt e new same =
+        slot_set (λ (z : K × V). z) size i x y lt e new same
+        ∙ (ap (λ (es : List (K × V)). entries_before n i ++ (entries_at n i ++ es)) (on_first_same (entries_behind n i)) ∙ sym (node_split n i))
+
+    -- a slot was put in
+    pub slot_added : (size i : ℕ) (v : Vec (One K V A) A) (s : One K V A) → i ≤ length items → v.items ≡ take i items ++ s ∷ drop i items
+        → node_entries (roll-Node K V A (record { first = (parts n).first; slots = v; size = size })) ≡ with_tree n i (entries_at n i ++ entry_of s ∷ link_entries s.after)
+    slot_added size i v s le e = rolled _ ∙ (ap (λ (ss : List (One K V A)). run (parts n).first ss) e ∙ run_insert i (parts n).first items s le)
+
+    -- a slot was taken out, and the tree behind it put in its place
+    pub slot_taken : (size i : ℕ) (v : Vec (One K V A) A) (x : One K V A) (new : Node K V A) (got : Tree K V A) → i < length items → x ≡ get_or items i x → v.items ≡ remove items i
+        → Swaps (roll-Node K V A (record { first = (parts n).first; slots = v; size = size })) new i x.after got → node_entries new ≡ entries_before n i ++ drop 1 (entries_behind n i)
+    slot_taken size i v x new got lt e is s =
+        let b : entries_before new i ≡ entries_before n i = s.before ∙ (rolled_before _ i ∙ (ap (λ (ss : List (One K V A)). before_place i (parts n).first ss) is ∙ before_removed i (parts n).first items)) in
+        let h : entries_behind new i ≡ behind_place i (remove items i) = s.behind ∙ (rolled_behind _ i ∙ ap (λ (ss : List (One K V A)). behind_place i ss) is) in
+        let d : entries_behind n i ≡ entry_of x ∷ (link_entries x.after ++ behind_place i (remove items i)) = behind_removed i items x lt e in
+        node_split new i ∙ rw (b, s.here, h, d) refl
+
+    -- what is found at a slot, or in a tree
+    pub found_at_slot : (cmp : K → K → Ordering) → IsTotalOrder cmp → (k : K) (i : ℕ) (x : One K V A) → i < length items → x ≡ get_or items i x → IsAtFirst cmp k (entries_behind n i) → Ascends cmp (node_entries n) → Some x.value ≡ value_of cmp (node_entries n) k
+    found_at_slot cmp total k i x lt e h up =
+        let rest : List (K × V) = link_entries x.after ++ behind_place i (remove items i) in
+        let is : entries_behind n i ≡ entry_of x ∷ rest = behind_removed i items x lt e in
+        let flat : node_entries n ≡ (entries_before n i ++ entries_at n i) ++ entry_of x ∷ rest =
+        node_split n i ∙ (sym (append_assoc (entries_before n i) (entries_at n i) (entries_behind n i)) ∙ ap (λ (es : List (K × V)). (entries_before n i ++ entries_at n i) ++ es) is) in
+        sym (ap (λ (es : List (K × V)). value_of cmp es k) flat ∙ value_first cmp total k (entries_before n i ++ entries_at n i) (entry_of x) rest (subst (Ascends cmp) flat up) (subst (IsAtFirst cmp k) is h))
+
+    pub found_in_tree : (cmp : K → K → Ordering) → IsTotalOrder cmp → (k : K) (i : ℕ) (tree : List (K × V)) (found : Option V) → tree ≡ entries_at n i → IsAbove cmp k (entries_before n i) → IsBelow cmp k (entries_behind n i)
+        → (Ascends cmp tree → found ≡ value_of cmp tree k) → Ascends cmp (node_entries n) → found ≡ value_of cmp (node_entries n) k
+    found_in_tree cmp total k i tree found e a b h up =
+        let all = subst (Ascends cmp) (node_split n i) up in
+        h (subst (Ascends cmp) (sym e) (ascends_between cmp (entries_before n i) (entries_at n i) (entries_behind n i) all))
+        ∙ (ap (λ (es : List (K × V)). value_of cmp es k) e ∙ sym (ap (λ (es : List (K × V)). value_of cmp es k) (node_split n i) ∙ value_between cmp total k (entries_before n i) (entries_at n i) (entries_behind n i) all a b))

@@ -1,6 +1,6 @@
 -- Clauses of answers.
-use Rattle.std.proofs.Common.{◌≡◌, sym, subst}
-use Rattle.std.specs.Prelude.{Result, Ok, Err, IfOk, OnErr, OnOk}
+use Rattle.std.proofs.Common.{◌≡◌, refl, sym, subst, true}
+use Rattle.std.specs.Prelude.{Option, Some, None, IfNone, IfSome, Result, Ok, Err, IfErr, IfOk, OnErr, OnOk, is_ok}
 
 -- a clause of an answer leads to another, also of an equal answer
 pub ok_leads : {X E : Type 0} (P Q : Type 0) (r : Result X E) → OnOk r P → (P → Q) → OnOk r Q
@@ -22,6 +22,10 @@ pub if_more : {X E : Type 0} (P Q : X → Type 0) (r : Result X E) → IfOk r P 
 if_more P Q (Ok x) h f = f x h
 if_more P Q (Err e) h f = tt
 
+pub if_err_more : {X E : Type 0} (P Q : E → Type 0) (r : Result X E) → IfErr r P → ((x : E) → P x → Q x) → IfErr r Q
+if_err_more P Q (Ok x) h f = tt
+if_err_more P Q (Err e) h f = f e h
+
 -- what holds at every answer
 pub err_holds : {X E : Type 0} (P : Type 0) (r : Result X E) → P → OnErr r P
 err_holds P (Ok x) h = tt
@@ -38,3 +42,17 @@ err_known {X = X} {E = E} P r x e h = subst (λ (a : Result X E). OnErr a P) e h
 pub either : {X E : Type 0} (P Q R : Type 0) (r : Result X E) → OnOk r P → OnErr r Q → (P → R) → (Q → R) → R
 either P Q R (Ok x) p q f e = f p
 either P Q R (Err x) p q f e = e q
+
+-- where it can not have failed
+pub ok_since : {X E : Type 0} (P : Type 0) (r : Result X E) → OnErr r P → (P → ⊥) → is_ok r ≡ true
+ok_since P (Ok x) h never = refl
+ok_since P (Err e) h never = absurd (never h)
+
+-- a clause of an option leads to another
+pub some_more : {X : Type 0} (P Q : X → Type 0) (o : Option X) → IfSome o P → ((x : X) → P x → Q x) → IfSome o Q
+some_more P Q None h f = tt
+some_more P Q (Some x) h f = f x h
+
+pub none_leads : {X : Type 0} (P Q : Type 0) (o : Option X) → IfNone o P → (P → Q) → IfNone o Q
+none_leads P Q None h f = f h
+none_leads P Q (Some x) h f = tt

@@ -9,7 +9,7 @@ use Rattle.std.proofs.lemmas.List.Elements.{filter-append}
 use Rattle.chr_map.specs.Order.{AllAbove, Ascends, entry_edited, entry_put, entry_removed, is_at, value_of}
 
 module _ {K : Type 0} (cmp : K → K → Ordering) (total : IsTotalOrder cmp) where
-  turned : (j k : K) → cmp j k ≡ Less → cmp k j ≡ Greater
+  pub turned : (j k : K) → cmp j k ≡ Less → cmp k j ≡ Greater
   turned j k e = total.antisymm k j ∙ ap ordering_reverse e
 
   pub back : (j k : K) → cmp j k ≡ Greater → cmp k j ≡ Less
@@ -21,7 +21,7 @@ module _ {K : Type 0} (cmp : K → K → Ordering) (total : IsTotalOrder cmp) wh
 
 module _ {K V : Type 0} (cmp : K → K → Ordering) where
   -- all keys compare to k so
-  abbrev AllCompare : Ordering → K → List (K × V) → Type 0
+  abbrev pub AllCompare : Ordering → K → List (K × V) → Type 0
   AllCompare o k [] = Unit {0}
   AllCompare o k (e ∷ es) = (cmp k e.0 ≡ o) × AllCompare o k es
 
@@ -53,7 +53,7 @@ module _ {K V : Type 0} (cmp : K → K → Ordering) where
     all_greater_at k (x ∷ xs) m ys h e = (total.congr k m.0 x.0 e ∙ turned cmp total x.0 m.0 (above_parts x.0 xs m ys h.0), all_greater_at k xs m ys h.1 e)
 
     -- and one that is not greater is less than all after it
-    all_less : (k m : K) (ys : List (K × V)) → AllAbove cmp m ys → cmp k m ≡ Less → AllCompare Less k ys
+    pub all_less : (k m : K) (ys : List (K × V)) → AllAbove cmp m ys → cmp k m ≡ Less → AllCompare Less k ys
     all_less k m [] h e = tt
     all_less k m (y ∷ ys) h e = (total.trans k m y.0 e h.0, all_less k m ys h.1 e)
 
@@ -72,7 +72,7 @@ module _ {K V : Type 0} (cmp : K → K → Ordering) where
   put_before k v [] m ys e = rw e refl
   put_before k v (x ∷ xs) m ys e = put_at (cmp k x.0) k v x xs (m ∷ ys) (put_before k v xs m ys e)
 
-  put_past : (k : K) (v : V) (xs zs : List (K × V)) → AllCompare Greater k xs → entry_put cmp (xs ++ zs) k v ≡ xs ++ entry_put cmp zs k v
+  pub put_past : (k : K) (v : V) (xs zs : List (K × V)) → AllCompare Greater k xs → entry_put cmp (xs ++ zs) k v ≡ xs ++ entry_put cmp zs k v
   put_past k v [] zs h = refl
   put_past k v (x ∷ xs) zs h = rw h.0 (ap (λ (l : List (K × V)). x ∷ l) (put_past k v xs zs h.1))
 
@@ -94,7 +94,7 @@ module _ {K V : Type 0} (cmp : K → K → Ordering) where
     edited_before k [] m ys e = rw e refl
     edited_before k (x ∷ xs) m ys e = edited_at (cmp k x.0) k x xs (m ∷ ys) (edited_before k xs m ys e)
 
-    edited_past : (k : K) (xs zs : List (K × V)) → AllCompare Greater k xs → entry_edited cmp f (xs ++ zs) k ≡ xs ++ entry_edited cmp f zs k
+    pub edited_past : (k : K) (xs zs : List (K × V)) → AllCompare Greater k xs → entry_edited cmp f (xs ++ zs) k ≡ xs ++ entry_edited cmp f zs k
     edited_past k [] zs h = refl
     edited_past k (x ∷ xs) zs h = rw h.0 (ap (λ (l : List (K × V)). x ∷ l) (edited_past k xs zs h.1))
 
@@ -114,7 +114,7 @@ module _ {K V : Type 0} (cmp : K → K → Ordering) where
   value_before k [] m ys e = rw e refl
   value_before k (x ∷ xs) m ys e = value_at_test (cmp k x.0) k x xs (m ∷ ys) (value_before k xs m ys e)
 
-  value_past : (k : K) (xs zs : List (K × V)) → AllCompare Greater k xs → value_of cmp (xs ++ zs) k ≡ value_of cmp zs k
+  pub value_past : (k : K) (xs zs : List (K × V)) → AllCompare Greater k xs → value_of cmp (xs ++ zs) k ≡ value_of cmp zs k
   value_past k [] zs h = refl
   value_past k (x ∷ xs) zs h = rw h.0 (value_past k xs zs h.1)
 
@@ -125,11 +125,11 @@ module _ {K V : Type 0} (cmp : K → K → Ordering) where
   value_after total k xs m ys up e = value_past k xs (m ∷ ys) (all_greater total k xs m ys up e) ∙ rw e refl
 
   -- taking out
-  kept_apart : (o : Ordering) → is_eq o ≡ false → (k : K) (xs : List (K × V)) → AllCompare o k xs → entry_removed cmp xs k ≡ xs
+  pub kept_apart : (o : Ordering) → is_eq o ≡ false → (k : K) (xs : List (K × V)) → AllCompare o k xs → entry_removed cmp xs k ≡ xs
   kept_apart o not_eq k [] h = refl
   kept_apart o not_eq k (x ∷ xs) h = rw (h.0, not_eq) (ap (λ (l : List (K × V)). x ∷ l) (kept_apart o not_eq k xs h.1))
 
-  parted : (k : K) (xs zs : List (K × V)) → entry_removed cmp (xs ++ zs) k ≡ entry_removed cmp xs k ++ entry_removed cmp zs k
+  pub parted : (k : K) (xs zs : List (K × V)) → entry_removed cmp (xs ++ zs) k ≡ entry_removed cmp xs k ++ entry_removed cmp zs k
   parted k xs zs = filter-append (λ e. not (is_at cmp k e)) xs zs
 
   pub removed_before : IsTotalOrder cmp → (k : K) (xs : List (K × V)) (m : K × V) (ys : List (K × V)) → Ascends cmp (xs ++ m ∷ ys) → cmp k m.0 ≡ Less → entry_removed cmp (xs ++ m ∷ ys) k ≡ entry_removed cmp xs k ++ m ∷ ys

@@ -1,3 +1,4 @@
 pub mod Entries
 pub mod Order
+pub mod Places
 pub mod Taking

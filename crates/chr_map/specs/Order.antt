@@ -1,7 +1,7 @@
 -- Entries in the order of their keys, one more of them, one less, one changed, and the one at a key.
 use Rattle.std.specs.Prelude.{◌≡◌, Bool, not, List, [], ◌∷◌, Option, Some, None, filter}
 use Rattle.std.specs.declared.cmp.Ordering.{Ordering}
-use Rattle.std.specs.declared.cmp.Ordering.TheVariants.{Less}
+use Rattle.std.specs.declared.cmp.Ordering.TheVariants.{Less, Equal, Greater}
 use Rattle.std.specs.Ordering.{is_eq, match_ordering}
 
 module _ {K V : Type 0} (cmp : K → K → Ordering) where
@@ -36,3 +36,22 @@ module _ {K V : Type 0} (cmp : K → K → Ordering) where
   abbrev pub value_of : List (K × V) → K → Option V
   value_of [] k = None
   value_of (e ∷ es) k = match_ordering (cmp k e.0) None (Some e.1) (value_of es k)
+
+  -- the key k is less than the first key, is it, or is greater than the last
+  abbrev pub IsBelow : K → List (K × V) → Type 0
+  IsBelow k [] = Unit {0}
+  IsBelow k (e ∷ es) = cmp k e.0 ≡ Less
+
+  abbrev pub IsAtFirst : K → List (K × V) → Type 0
+  IsAtFirst k [] = ⊥
+  IsAtFirst k (e ∷ es) = cmp k e.0 ≡ Equal
+
+  abbrev pub IsAbove : K → List (K × V) → Type 0
+  IsAbove k [] = Unit {0}
+  IsAbove k (e ∷ []) = cmp k e.0 ≡ Greater
+  IsAbove k (e ∷ f ∷ es) = IsAbove k (f ∷ es)
+
+-- the first of these changed
+abbrev pub on_first : {X : Type 0} → (X → X) → List X → List X
+on_first f [] = []
+on_first f (x ∷ xs) = f x ∷ xs

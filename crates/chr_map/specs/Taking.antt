@@ -1,15 +1,17 @@
--- Taking entries out of a tree.
+-- Taking entries out of a tree, and handing them up.
 use Rattle.std.specs.Prelude.{◌≡◌, List, [], ◌∷◌, ◌++◌, Option, Some, None}
+use Rattle.std.specs.declared.sync.Arc.{Arc}
 use Rattle.chr_map.specs.Entries.{link_entries, node_entries}
-use Rattle.chr_map.specs.declared.node.Left.{Left}
-use Rattle.chr_map.specs.declared.node.Left.TheVariants.{Node as Same, Tree}
-use Rattle.chr_map.specs.declared.node.Node.{Node, out-Node}
-use Rattle.chr_map.specs.declared.node.Taken.{Taken}
+use Rattle.chr_map.specs.declared.node.Entry.{Entry}
+use Rattle.chr_map.specs.declared.node.Node.{Node}
+use Rattle.chr_map.specs.declared.node.Slot.{Slot}
+use Rattle.chr_map.specs.declared.taking.Left.{Left}
+use Rattle.chr_map.specs.declared.taking.Left.TheVariants.{Node as Same, Tree}
 
--- of these entries the first is taken and those others stay, or there is none
-abbrev pub HasFirst : {K V : Type 0} → List (K × V) → Option (Taken K V) → List (K × V) → Type 0
-HasFirst es None others = (es ≡ []) × (others ≡ [])
-HasFirst es (Some t) others = es ≡ (t.key, t.value) ∷ others
+-- of these entries the last is taken and those others stay, or there is none
+abbrev pub HasLast : {K V : Type 0} → List (K × V) → Option (Entry K V) → List (K × V) → Type 0
+HasLast es None others = (es ≡ []) × (others ≡ [])
+HasLast es (Some t) others = es ≡ others ++ (t.key, t.value) ∷ []
 
 module _ {K V A : Type 0} where
   -- what stands in the place of a node
@@ -17,10 +19,12 @@ module _ {K V A : Type 0} where
   left_entries Same n = node_entries n
   left_entries (Tree l) n = link_entries l
 
-  -- the entries of a node but its own
-  abbrev pub entries_below : Node K V A → List (K × V)
-  entries_below n = link_entries (out-Node K V A n).left ++ link_entries (out-Node K V A n).right
+  -- entries, and a slot that is handed up from them
+  abbrev pub with_up : List (K × V) → Option (Slot K V (Option (Arc (Node K V A) A))) → List (K × V)
+  with_up es None = es
+  with_up es (Some s) = es ++ (s.key, s.value) ∷ link_entries s.after
 
-  -- the entries of a node, with another one in the place of its own
-  abbrev pub entries_around : Node K V A → K × V → List (K × V)
-  entries_around n e = link_entries (out-Node K V A n).left ++ e ∷ link_entries (out-Node K V A n).right
+  -- a node is cut in two at an entry, or is as it was
+  abbrev pub IsCut : Node K V A → Node K V A → Node K V A → Option (Entry K V) → Type 0
+  IsCut old new right None = node_entries new ≡ node_entries old
+  IsCut old new right (Some e) = node_entries old ≡ node_entries new ++ (e.key, e.value) ∷ node_entries right

@@ -2,11 +2,16 @@
 #![tactic(auto)]
 
 mod edit;
+mod editing;
 mod map;
 mod node;
 mod part;
+mod places;
 mod pointer;
+mod putting;
+mod search;
 mod share;
+mod taking;
 
 pub use edit::Edit;
 pub use map::Map;

@@ -3,14 +3,18 @@ ghost use Rattle.std.specs.Prelude.{◌≡◌, [], OnErr, OnOk};
 ghost use Rattle.std.specs.Option.{option_copied};
 ghost use Rattle.chr_map.specs.Order.{Ascends, entry_edited, entry_put, entry_removed, value_of};
 
-use crate::node::{Link, edit_at, found, put, share_link, take_out};
+use crate::editing::edit_at;
+use crate::node::{Link, share_link};
 use crate::part::Part;
+use crate::putting::put;
+use crate::search::found;
+use crate::taking::take_out;
 use crate::{Edit, Memory, Share};
 use std::alloc::{Allocator, Global};
 use std::marker::Model;
 
 /// A map in the order of its keys. A change makes a new map, which shares with the old one all but some nodes: as many as the logarithm of
-/// the number of entries. Contracts see the list of its entries, ascending.
+/// the greatest number of entries that it had. Contracts see the list of its entries, ascending.
 #[derive(Drop)]
 pub struct Map<K: Ord + Copy, V: Share, A: Allocator = Global> {
     root: Link<K, V, A>,

@@ -7,7 +7,7 @@ use Rattle.chr_semantics.specs.Schedule.{Event, Progress, is_served, move, progr
 use Rattle.chr_semantics.specs.State.{State, Status, done, failed, faulted, running, start}
 use Rattle.chr_semantics.specs.Step.{after}
 use Rattle.chr_semantics.specs.Tasks.{Task, needed_task, tasks}
-use Rattle.chr_shelf.specs.declared.run.Run.{Ghosts}
+use Rattle.chr_shelf.specs.declared.run.RunName.{Ghosts}
 use Rattle.chr_semantics.specs.declared.limits.TheConstants.{MAX_TRANSITIONS}
 use Rattle.chr_machine.specs.MachineView.{Moves, Steps}
 use Rattle.chr_machine.specs.Model.{Model, state_in}
@@ -48,14 +48,6 @@ moves_of : (stepped : Stepped) (m n : Model) → m.status ≡ running → m.step
 moves_of Moved m n goes few h = (h, refl)
 moves_of Ended m n goes few h = absurd (h.0 goes)
 moves_of Spent m n goes few h = absurd (let full = h.1 in omega (arith, full, few))
-
--- a run that has ended does not go on
-pub ended_stops : (o : Option Task) (w : Status) → need_by o w ≡ ended → w ≢ running
-ended_stops None running e = cc
-ended_stops (Some t) running e = cc
-ended_stops o done e = λ k. cc
-ended_stops o failed e = λ k. cc
-ended_stops o (faulted f) e = λ k. cc
 
 module _ {J A : Type 0} {G : Ghosts J} (c d : Core J A G) (workers skipped : ℕ) (few : (machine_in c).steps < MAX_TRANSITIONS) (stepped : Stepped)
     (made : Steps stepped (machine_in c) (machine_in d)) (events : events_of d ≡ stepped_events stepped (events_of c)) (same : query_of d ≡ query_of c) where

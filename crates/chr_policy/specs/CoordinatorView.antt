@@ -6,7 +6,7 @@ use Rattle.chr_semantics.specs.Schedule.{Event, Progress, counts, progress}
 use Rattle.chr_semantics.specs.State.{State, start}
 use Rattle.chr_semantics.specs.declared.limits.TheConstants.{MAX_ROUNDS}
 use Rattle.chr_schedule.specs.EventView.{events_view}
-use Rattle.chr_shelf.specs.declared.run.Run.{Ghosts}
+use Rattle.chr_shelf.specs.declared.run.RunName.{Ghosts}
 use Rattle.chr_machine.specs.Model.{Model}
 use Rattle.chr_core.specs.CoreView.{counts_view, events_of, machine_in, names_in, progress_of, query_of, start_of}
 use Rattle.chr_core.specs.Outcomes.{IsOutcomeOf}

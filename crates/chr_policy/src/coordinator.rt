@@ -18,7 +18,7 @@ use chr_board::{Board, Gate, Point};
 use chr_core::{Core, CoreError, Counts, Event, Machine, Need, Outcome, Stepped};
 use chr_find::Task;
 use chr_rules::{Program, Query};
-use chr_shelf::{Run, Shelf};
+use chr_shelf::{RunName, Shelf};
 use std::alloc::{Allocator, Global};
 use std::sync::Wait;
 
@@ -35,7 +35,7 @@ pub struct Made<A: Allocator = Global> {
 /// there are two tasks or more, it publishes a round and offers it, once between two steps; before each step that needs a search it takes
 /// the answers that were posted, calls the gate, and takes them again.
 #[derive(Drop)]
-pub struct Coordinator<'p, J: Run, A: Allocator = Global> {
+pub struct Coordinator<'p, J: RunName, A: Allocator = Global> {
     core: Core<'p, J, A>,
     workers: u32,
     /// How many calls for a round were refused.
@@ -45,7 +45,7 @@ pub struct Coordinator<'p, J: Run, A: Allocator = Global> {
     alloc: A,
 }
 
-impl<'p, J: Run, A: Allocator + Copy> Coordinator<'p, J, A> {
+impl<'p, J: RunName, A: Allocator + Copy> Coordinator<'p, J, A> {
     ghost use Rattle.chr_policy.specs.CoordinatorView.{IsAtRest, IsFullAt, IsMade, IsSame, events_by, machine_by, names_by, query_by, skipped_by, workers_by};
     ghost use Rattle.chr_policy.specs.Standing.{IsReady};
 

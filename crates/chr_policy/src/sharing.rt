@@ -13,13 +13,13 @@ use crate::Memory;
 use chr_board::Board;
 use chr_core::{Core, CoreError};
 use chr_find::Task;
-use chr_shelf::{Run, Shelf};
+use chr_shelf::{RunName, Shelf};
 use std::alloc::Allocator;
 use std::sync::Wait;
 
 /// Whether there is a place to publish where the next step needs the search of a task: no kept answer serves it, and there are two tasks or
 /// more.
-pub(crate) fn has_place<J: Run, A: Allocator + Copy>(core: &Core<'_, J, A>, task: Task) -> bool
+pub(crate) fn has_place<J: RunName, A: Allocator + Copy>(core: &Core<'_, J, A>, task: Task) -> bool
     requires { need (machine_in core.now) ≡ search_of (task_view task) }
     ensures { result ≡ is_place J.rules (start_of core.now) (progress_of core.now) }
 {
@@ -31,7 +31,7 @@ pub(crate) fn has_place<J: Run, A: Allocator + Copy>(core: &Core<'_, J, A>, task
 
 /// Publishes a round and offers its tasks. Where the board refuses them, they are never offered. After a refusal all is as before, but that
 /// room may have been made.
-pub(crate) fn show<J: Run, A: Allocator + Copy>(
+pub(crate) fn show<J: RunName, A: Allocator + Copy>(
     rt: &impl Wait,
     core: &mut Core<'_, J, A>,
     shelf: &Shelf<A>,
@@ -50,7 +50,7 @@ pub(crate) fn show<J: Run, A: Allocator + Copy>(
 }
 
 /// Takes the answers that were posted. Where their list finds no memory, they stay on the board.
-pub(crate) fn absorb<J: Run, A: Allocator + Copy>(
+pub(crate) fn absorb<J: RunName, A: Allocator + Copy>(
     rt: &impl Wait,
     alloc: A,
     core: &mut Core<'_, J, A>,

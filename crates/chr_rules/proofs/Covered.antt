@@ -1,6 +1,6 @@
 -- Each variable that is met with heads occurs in them.
 use Rattle.std.proofs.Common.{◌≡◌, ◌∙◌, ◌<◌, ◌≤◌, ◌+◌, ◌++◌, ◌||◌, ◌==◌, ℕ, List, [], ◌∷◌, Bool, true, false, Option, Some, None, length, nat_lt, refl, arith, unwrap_or}
-use Rattle.std.proofs.lemmas.Bool.{eq-eqb}
+use Rattle.std.proofs.lemmas.Bool.{eq-eqb, or_left, or_right}
 use Rattle.std.proofs.lemmas.List.{length-append}
 use Rattle.std.proofs.lemmas.List.Folds.{list_any-append}
 use Rattle.chr_semantics.specs.Match.{has_variable}
@@ -16,13 +16,6 @@ use Rattle.chr_rules.proofs.Counted.{width, with_met}
 abbrev Covers : ℕ → ℕ → (ℕ → Bool) → Type 0
 Covers n m f = (x : ℕ) → n ≤ x → x < m → f x ≡ true
 
-or_first : (b c : Bool) → b ≡ true → (b || c) ≡ true
-or_first b c e = rw e
-
-or_second : (b c : Bool) → c ≡ true → (b || c) ≡ true
-or_second true c e = refl
-or_second false c e = e
-
 empty_covers : (n : ℕ) (f : ℕ → Bool) → Covers n n f
 empty_covers n f x le lt = absurd (omega (arith, le, lt))
 
@@ -33,11 +26,11 @@ joined_covers : (n k m : ℕ) (f g : ℕ → Bool) → Covers n k f → Covers k
 joined_covers n k m f g h i x le lt = by (nat_lt x k) refl
   where
     by : (b : Bool) → nat_lt x k ≡ b → (f x || g x) ≡ true
-    by true e = or_first (f x) (g x) (h x le (grind (arith, e)))
-    by false e = or_second (f x) (g x) (i x (grind (arith, e)) lt)
+    by true e = or_left (f x) (g x) (h x le (grind (arith, e)))
+    by false e = or_right (f x) (g x) (i x (grind (arith, e)) lt)
 
 ended_covers : (n m : ℕ) (f : ℕ → Bool) → Covers n m f → Covers n m (λ x. f x || false)
-ended_covers n m f h x le lt = or_first (f x) false (h x le lt)
+ended_covers n m f h x le lt = or_left (f x) false (h x le lt)
 
 two_cover : (n k m : ℕ) (f g : ℕ → Bool) → Covers n k f → Covers k m g → Covers n m (λ x. f x || (g x || false))
 two_cover n k m f g h i = joined_covers n k m f (λ x. g x || false) h (ended_covers k m g i)

@@ -5,7 +5,6 @@ use Rattle.std.proofs.lemmas.Simd.{map-map}
 use Rattle.std.specs.Prelude.{slice_get, reverse}
 use Rattle.chr_semantics.specs.Program as semantics
 use Rattle.chr_semantics.specs.Program.{Head, places_from, occurrences_in, occurrences_from}
-use Rattle.chr_semantics.proofs.Lists.{eqb_other}
 use Rattle.chr_term.specs.declared.term.Sym.{Sym}
 use Rattle.chr_term.specs.declared.term.Term.{Term}
 use Rattle.chr_rules.specs.RuleView.{flag_at, heads_from, rule_view, rules_view}
@@ -13,6 +12,7 @@ use Rattle.chr_rules.specs.declared.rule.Rule.{Rule}
 use Rattle.std.proofs.lemmas.Grind.{common_steps}
 use Rattle.chr_rules.specs.Index.{pairs_in, pair_view, pairs_of}
 use Rattle.chr_rules.specs.declared.index.Occurrence.{Occurrence}
+use Rattle.std.proofs.lemmas.Bool.{ne_eqb}
 
 -- an empty place at the end shows nothing more
 pub pairs_in-empty_more : {A : Type 0} (ps : List (Vec Occurrence A)) (v : Vec Occurrence A) → v.items ≡ [] → (f : ℕ) → pairs_in (slice_get (ps ++ v ∷ []) f) ≡ pairs_in (slice_get ps f)
@@ -28,8 +28,8 @@ test-suc f g = grind arith
 pub pairs_in-put : {A : Type 0} (ps : List (Vec Occurrence A)) (f g : ℕ) (v d : Vec Occurrence A) (o : Occurrence) → f < length ps → v.items ≡ (get_or ps f d).items ++ o ∷ [] → pairs_in (slice_get (slice_set ps f v) g) ≡ pairs_in (slice_get ps g) ++ cond (f == g) (pair_view o ∷ []) []
 pairs_in-put [] f g v d o h e = absurd (omega (arith, h))
 pairs_in-put (p ∷ ps) zero zero v d o h e = rw (e, map-append)
-pairs_in-put (p ∷ ps) zero (suc g) v d o h e = rw (eqb_other 0 (suc g) (omega arith), append-nil)
-pairs_in-put (p ∷ ps) (suc f) zero v d o h e = rw (eqb_other (suc f) 0 (omega arith), append-nil)
+pairs_in-put (p ∷ ps) zero (suc g) v d o h e = rw (ne_eqb 0 (suc g) (omega arith), append-nil)
+pairs_in-put (p ∷ ps) (suc f) zero v d o h e = rw (ne_eqb (suc f) 0 (omega arith), append-nil)
 pairs_in-put (p ∷ ps) (suc f) (suc g) v d o h e = rw (test-suc f g) (pairs_in-put ps f g v d o (omega (arith, h)) e)
 
 -- the occurrences of the symbol f at the heads from the k-th on

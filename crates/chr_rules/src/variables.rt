@@ -4,13 +4,10 @@ ghost use Rattle.chr_term.specs.Texts.{texts_of};
 ghost use Rattle.chr_rules.specs.Words.{words_of};
 ghost use Rattle.chr_semantics.specs.Meaning.{is_anonymous, variable_in, variable_of, with_variable};
 
-use chr_term::{Memory, VarNames};
+use chr_term::{FoldState, Memory, VarNames};
 use indexmap::IndexMap;
 use std::alloc::Allocator;
-use std::hash::{BuildHasherDefault, FoldHasher};
 use std::marker::Model;
-
-type FoldState = BuildHasherDefault<FoldHasher>;
 
 /// The words of the variables that were met, each at the place that is its number. `_` is a new variable each time.
 #[derive(Drop)]

@@ -10,8 +10,8 @@ use Rattle.chr_semantics.specs.Stamps.{stamp}
 use Rattle.chr_semantics.specs.State.{State, Status, done, failed, faulted, running, start}
 use Rattle.chr_semantics.specs.Step.{after, is_running, steps}
 use Rattle.chr_semantics.proofs.Counts.{count-add}
-use Rattle.chr_shelf.specs.declared.run.Run.{Ghosts}
-use Rattle.chr_machine.specs.MachineView.{Starts}
+use Rattle.chr_shelf.specs.declared.run.RunName.{Ghosts}
+use Rattle.chr_machine.proofs.Starts.{first_start}
 use Rattle.chr_core.specs.CoreView.{counts_view}
 use Rattle.chr_core.specs.IsAt.{begun}
 use Rattle.chr_core.specs.Outcomes.{IsOutcomeOf}
@@ -51,22 +51,10 @@ covers : (p : Program) (s : State) (k n : ℕ) → k ≤ n → (k ≡ n) ⊎ ((a
 covers p s k n within (inl e) = covers_same p s k n e
 covers p s k n within (inr ended) = covers_ended p s k n within ended
 
-started : (names : Names) (p : Program) (q : Query) → Starts names p q (begun names p q)
-started names p q = record {
-  names_are = refl;
-  rules_are = refl;
-  var_names_are = refl;
-  state_is = refl;
-  store_is = refl;
-  entries_are = refl;
-  steps_are = refl;
-  lines_are = refl;
-}
-
 module _ {J A : Type 0} {G : Ghosts J} (c : Coordinator J A G) where
   -- its machine stands where its transitions lead
   pub has_come : HasRun (names_by c) G.rules (query_by c) (machine_by c).steps (machine_by c)
-  has_come = has_run (names_by c) G.rules (query_by c) (machine_by c).steps (begun (names_by c) G.rules (query_by c)) (machine_by c) (started (names_by c) G.rules (query_by c)) c.core.at.run
+  has_come = has_run (names_by c) G.rules (query_by c) (machine_by c).steps (begun (names_by c) G.rules (query_by c)) (machine_by c) (first_start (names_by c) G.rules (query_by c)) c.core.at.run
 
   -- and each of them was made
   steps_are_made : (let s = start (query_by c) in let k = (progress G.rules s (events_by c)).steps in k ≡ steps G.rules s k)

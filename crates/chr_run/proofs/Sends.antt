@@ -5,7 +5,7 @@ use Rattle.chr_semantics.specs.Names.{Names}
 use Rattle.chr_semantics.specs.Outcome.{run_refusal}
 use Rattle.chr_semantics.specs.Program.{Program, Query}
 use Rattle.chr_semantics.specs.Text.{lines_text, text}
-use Rattle.chr_shelf.specs.declared.run.Run.{Ghosts}
+use Rattle.chr_shelf.specs.declared.run.RunName.{Ghosts}
 use Rattle.chr_policy.specs.CoordinatorView.{machine_by, names_by, query_by}
 use Rattle.chr_policy.specs.declared.coordinator.Coordinator.{Coordinator}
 use Rattle.chr_run.specs.Output.{AppendsLess}

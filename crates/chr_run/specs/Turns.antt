@@ -3,7 +3,7 @@ use Rattle.std.specs.Prelude.{◌≡◌, ◌≢◌, ◌⊎◌, ℕ, ◌≤◌, L
 use Rattle.std.specs.Io.KnownBytes.{Appends}
 use Rattle.chr_semantics.specs.State.{running}
 use Rattle.chr_semantics.specs.Text.{lines_text}
-use Rattle.chr_shelf.specs.declared.run.Run.{Ghosts}
+use Rattle.chr_shelf.specs.declared.run.RunName.{Ghosts}
 use Rattle.chr_machine.specs.Model.{Model}
 use Rattle.chr_policy.specs.CoordinatorView.{IsAtRest, machine_by, names_by, query_by, workers_by}
 use Rattle.chr_policy.specs.declared.coordinator.Coordinator.{Coordinator}

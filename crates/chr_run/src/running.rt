@@ -23,7 +23,7 @@ use chr_board::{Board, Gate, Tally};
 use chr_machine::{Machine, Stepped};
 use chr_policy::Coordinator;
 use chr_rules::{Program, Query};
-use chr_shelf::{Run as RunName, Shelf};
+use chr_shelf::{RunName, Shelf};
 use chr_workers::beside;
 use std::alloc::Allocator;
 use std::marker::Brand;

@@ -24,7 +24,6 @@ mod numbers;
 mod printing;
 mod reading;
 mod splitting;
-mod writing;
 
 pub use chr_term::Memory;
 pub use error::{ScheduleError, ScheduleErrorKind};

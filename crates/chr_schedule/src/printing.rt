@@ -8,8 +8,8 @@ ghost use Rattle.chr_schedule.specs.EventView.{events_view};
 ghost use Rattle.chr_schedule.specs.LineView.{line_view, run_of};
 
 use crate::line::Line;
-use crate::writing::{all_or_nothing, write_bytes, write_number};
 use crate::{Event, Memory};
+use chr_term::{all_or_nothing, write_bytes, write_number};
 use std::alloc::Allocator;
 
 /// Appends the text of a schedule, where each longest run of Steps is one line. Where memory is refused, the output is as

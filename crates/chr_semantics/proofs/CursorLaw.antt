@@ -7,7 +7,7 @@ use Rattle.std.specs.Cmp.Lexicographic.{slice_cmp}
 use Rattle.std.specs.Ordering.{nat_cmp, ordering_then}
 use Rattle.std.specs.Cmp.{nat_cmp_is}
 use Rattle.std.specs.declared.cmp.Ordering.TheVariants.{Less, Equal, Greater}
-use Rattle.std.proofs.lemmas.Bool.{or_left, or_right, or_parts, and_parts, and_from, eq-eqb}
+use Rattle.std.proofs.lemmas.Bool.{and_from, and_parts, eq-eqb, lt-ltb, or_left, or_parts, or_right}
 use Rattle.std.proofs.lemmas.Bool.Decides.{nat_tests}
 use Rattle.std.proofs.lemmas.List.Elements.{All-head, All-tail, All-weaker, All-contains, All-contains_itself}
 use Rattle.chr_semantics.specs.Subst.{Subst}
@@ -23,16 +23,14 @@ use Rattle.chr_semantics.specs.Cursor.{lex_lt, is_new, lies_ahead, IsSpent, IsGr
 use Rattle.chr_semantics.specs.Join.{SameMatch, fit_own_first, Joined, enters, rows_in}
 use Rattle.chr_semantics.proofs.MatchOrder.{same_match, same_guard}
 use Rattle.chr_semantics.proofs.JoinLaw.{tagged, paired_behind}
+use Rattle.std.proofs.Math.Bool.{and-false}
 
 -- the order of lists
 order : (x y : ℕ) → (x < y) ⊎ ((x ≡ y) ⊎ (y < x))
 order x y = grind arith
 
-less_true : (x y : ℕ) → x < y → nat_lt x y ≡ true
-less_true x y h = grind (arith, nat_tests)
-
 lex_at : (x y : ℕ) (xs ys : List ℕ) → (slice_cmp nat_cmp xs ys ≡ Less → lex_lt xs ys ≡ true) → (x < y) ⊎ ((x ≡ y) ⊎ (y < x)) → ordering_then (nat_cmp x y) (slice_cmp nat_cmp xs ys) ≡ Less → (nat_lt x y || (x == y && lex_lt xs ys)) ≡ true
-lex_at x y xs ys ih (inl lt) e = or_left (nat_lt x y) (x == y && lex_lt xs ys) (less_true x y lt)
+lex_at x y xs ys ih (inl lt) e = or_left (nat_lt x y) (x == y && lex_lt xs ys) (lt-ltb x y lt)
 lex_at x y xs ys ih (inr (inl same)) e =
     let rest : slice_cmp nat_cmp xs ys ≡ Less = ap (λ o. ordering_then o (slice_cmp nat_cmp xs ys)) (nat_cmp_is x y Equal same) ∙ e in
     or_right (nat_lt x y) (x == y && lex_lt xs ys) (and_from (x == y) (lex_lt xs ys) (eq-eqb x y same) (ih rest))
@@ -116,11 +114,6 @@ cursor_law = record {
       (All-weaker (Contains (tuples rows rule place a)) (λ t. can_fire h r rule t ≡ true → lies_ahead l from (ids_of t) ≡ true) (λ t c. s t c) (tuples rows rule place a) (All-contains_itself (tuples rows rule place a)));
 }
 
--- a test of the identities
-and_no : (b : Bool) → (b && false) ≡ false
-and_no true = refl
-and_no false = refl
-
 gated_one : (b d : Bool) (h : History) (r : ℕ) (rule : Rule) (t : List Row) (n : Subst) (x : Option (List Row)) (ps : List Joined) → enters h r rule (t, n) ≡ d → x ≡ option_map rows_in (find (enters h r rule) ps)
     → cond (b && d) (Some t) x ≡ option_map rows_in (find (enters h r rule) (cond b ((t, n) ∷ ps) ps))
 gated_one true true h r rule t n x ps is e = rw is refl
@@ -129,7 +122,7 @@ gated_one false d h r rule t n x ps is e = e
 
 gated_at : (test : List ℕ → Bool) (h : History) (r : ℕ) (rule : Rule) (t : List Row) (o p : Option Subst) (x : Option (List Row)) (ps : List Joined) → SameMatch o p → x ≡ option_map rows_in (find (enters h r rule) (filter (admitted test) ps))
     → cond (test (ids_of t) && (passes_guard rule o && not (fired_before h r (ids_of t)))) (Some t) x ≡ option_map rows_in (find (enters h r rule) (filter (admitted test) (cons_option (tagged t p) ps)))
-gated_at test h r rule t None None x ps s e = rw (and_no (test (ids_of t))) e
+gated_at test h r rule t None None x ps s e = rw (and-false (test (ids_of t))) e
 gated_at test h r rule t None (Some n) x ps s e = absurd s
 gated_at test h r rule t (Some m) None x ps s e = absurd s
 gated_at test h r rule t (Some m) (Some n) x ps s e =
@@ -149,7 +142,7 @@ counted_one false d h r rule t n k ps is e = e
 
 counted_at : (test : List ℕ → Bool) (h : History) (r : ℕ) (rule : Rule) (t : List Row) (o p : Option Subst) (k : ℕ) (ps : List Joined) → SameMatch o p → tried (enters h r rule) (filter (admitted test) ps) ≡ k
     → tried (enters h r rule) (filter (admitted test) (cons_option (tagged t p) ps)) ≡ cond (test (ids_of t) && is_some o) (cond (passes_guard rule o && not (fired_before h r (ids_of t))) 1 (k + 1)) k
-counted_at test h r rule t None None k ps s e = rw (and_no (test (ids_of t))) e
+counted_at test h r rule t None None k ps s e = rw (and-false (test (ids_of t))) e
 counted_at test h r rule t None (Some n) k ps s e = absurd s
 counted_at test h r rule t (Some m) None k ps s e = absurd s
 counted_at test h r rule t (Some m) (Some n) k ps s e =

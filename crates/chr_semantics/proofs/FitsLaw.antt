@@ -7,10 +7,11 @@ use Rattle.chr_semantics.specs.Tree.{Tree, var, int, node, Trees, none, more, sa
 use Rattle.chr_semantics.specs.Subst.{Subst, binds_var, instance, instances, occurs, occurs_any, value_at}
 use Rattle.chr_semantics.specs.Program.{Atom, Head}
 use Rattle.chr_semantics.specs.Match.{AreMade, FitsLaw, Row, fit, fit_all, fit_atom, fit_rows, fit_var, fits, has_variable, made_atom, match_at}
-use Rattle.chr_semantics.proofs.Makes.{Makes, MakesAll, MakesAtom, none_some, some_same, tested}
+use Rattle.chr_semantics.proofs.Makes.{Makes, MakesAll, MakesAtom, some_same, tested}
 use Rattle.chr_semantics.proofs.MatchOrder.{MakesRows, fit_rows_makes, value_is}
 use Rattle.chr_semantics.proofs.SameLaw.{same_law}
 use Rattle.chr_semantics.proofs.Tests.{eqb_sym, or_assoc, or_false, or_turned}
+use Rattle.std.proofs.lemmas.Option.{none-some}
 
 -- the heads become the rows
 
@@ -42,7 +43,7 @@ made_rows m (x ∷ hs) (c ∷ cs) h = cc (made_row m x c.1 h.0, made_rows m hs c
 -- the variables of a match
 
 bound_of : (m : Subst) (x : ℕ) (u : Tree) → match_at m x ≡ Some u → binds_var m x ≡ true
-bound_of [] x u e = absurd (none_some u e)
+bound_of [] x u e = absurd (none-some u e)
 bound_of (p ∷ m) x u e = at_pair (p.0 == x) (bound_of m x u) e
   where
     at_pair : (b : Bool) → (match_at m x ≡ Some u → binds_var m x ≡ true) → cond b (Some p.1) (match_at m x) ≡ Some u → (b || binds_var m x) ≡ true
@@ -62,34 +63,34 @@ var_binds m n x t (Some u) y is h =
 
 terms_next : (t u : Tree) (ts us : Trees) (m n : Subst) (y : ℕ) (o : Option Subst) → ((k : Subst) → o ≡ Some k → binds_var k y ≡ (binds_var m y || occurs y t)) → ((k : Subst) → fit_all ts us k ≡ Some n → binds_var n y ≡ (binds_var k y || occurs_any y ts))
     → option_and_then (fit_all ts us) o ≡ Some n → binds_var n y ≡ (binds_var m y || (occurs y t || occurs_any y ts))
-terms_next t u ts us m n y None f g h = absurd (none_some n h)
+terms_next t u ts us m n y None f g h = absurd (none-some n h)
 terms_next t u ts us m n y (Some k) f g h = g k h ∙ ap (λ (b : Bool). b || occurs_any y ts) (f k refl) ∙ sym (or_assoc (binds_var m y) (occurs y t) (occurs_any y ts))
 
 mutual
   term_binds : (p t : Tree) (m n : Subst) (y : ℕ) → fit p t m ≡ Some n → binds_var n y ≡ (binds_var m y || occurs y p)
   term_binds (var x) t m n y h = var_binds m n x t (match_at m x) y refl h
-  term_binds (int z) (var w) m n y h = absurd (none_some n h)
+  term_binds (int z) (var w) m n y h = absurd (none-some n h)
   term_binds (int z) (int w) m n y h = let r = tested (int_eq z w) (Some m) n h in ap (λ (k : Subst). binds_var k y) (sym (some_same m n r.1)) ∙ or_false (binds_var m y)
-  term_binds (int z) (node g us) m n y h = absurd (none_some n h)
-  term_binds (node f ts) (var w) m n y h = absurd (none_some n h)
-  term_binds (node f ts) (int w) m n y h = absurd (none_some n h)
+  term_binds (int z) (node g us) m n y h = absurd (none-some n h)
+  term_binds (node f ts) (var w) m n y h = absurd (none-some n h)
+  term_binds (node f ts) (int w) m n y h = absurd (none-some n h)
   term_binds (node f ts) (node g us) m n y h = terms_bind ts us m n y (tested (f == g) (fit_all ts us m) n h).1
 
   terms_bind : (ps ts : Trees) (m n : Subst) (y : ℕ) → fit_all ps ts m ≡ Some n → binds_var n y ≡ (binds_var m y || occurs_any y ps)
   terms_bind none none m n y h = ap (λ (k : Subst). binds_var k y) (sym (some_same m n h)) ∙ or_false (binds_var m y)
-  terms_bind none (more u us) m n y h = absurd (none_some n h)
-  terms_bind (more t ts) none m n y h = absurd (none_some n h)
+  terms_bind none (more u us) m n y h = absurd (none-some n h)
+  terms_bind (more t ts) none m n y h = absurd (none-some n h)
   terms_bind (more t ts) (more u us) m n y h = terms_next t u ts us m n y (fit t u m) (λ k is. term_binds t u m k y is) (λ k is. terms_bind ts us k n y is) h
 
 rows_next : (x : Head) (hs : List Head) (cs : List Row) (m n : Subst) (y : ℕ) (o : Option Subst) → ((k : Subst) → o ≡ Some k → binds_var k y ≡ (binds_var m y || occurs_any y x.atom.args)) → ((k : Subst) → fit_rows hs cs k ≡ Some n → binds_var n y ≡ (binds_var k y || has_variable hs y))
     → option_and_then (fit_rows hs cs) o ≡ Some n → binds_var n y ≡ (binds_var m y || (occurs_any y x.atom.args || has_variable hs y))
-rows_next x hs cs m n y None f g h = absurd (none_some n h)
+rows_next x hs cs m n y None f g h = absurd (none-some n h)
 rows_next x hs cs m n y (Some k) f g h = g k h ∙ ap (λ (b : Bool). b || has_variable hs y) (f k refl) ∙ sym (or_assoc (binds_var m y) (occurs_any y x.atom.args) (has_variable hs y))
 
 rows_bind : (hs : List Head) (cs : List Row) (m n : Subst) (y : ℕ) → fit_rows hs cs m ≡ Some n → binds_var n y ≡ (binds_var m y || has_variable hs y)
 rows_bind [] [] m n y h = ap (λ (k : Subst). binds_var k y) (sym (some_same m n h)) ∙ or_false (binds_var m y)
-rows_bind [] (c ∷ cs) m n y h = absurd (none_some n h)
-rows_bind (x ∷ hs) [] m n y h = absurd (none_some n h)
+rows_bind [] (c ∷ cs) m n y h = absurd (none-some n h)
+rows_bind (x ∷ hs) [] m n y h = absurd (none-some n h)
 rows_bind (x ∷ hs) (c ∷ cs) m n y h =
     rows_next x hs cs m n y (fit_atom x.atom c.1 m) (λ k is. terms_bind x.atom.args c.1.args m k y (tested (x.atom.sym == c.1.sym) (fit_all x.atom.args c.1.args m) k is).1) (λ k is. rows_bind hs cs k n y is) h
 
@@ -136,7 +137,7 @@ rows_found f (x ∷ hs) (c ∷ cs) m e a =
     (v.0, ap (option_and_then (fit_rows hs cs)) w.1 ∙ v.1)
 
 not_none : (f : ℕ → Tree) (hs : List Head) (cs : List Row) → fits hs cs ≡ None → AreMade f hs cs → ⊥
-not_none f hs cs h e = let w = rows_found f hs cs [] e (λ x u g. absurd (none_some u g)) in none_some w.0 (sym h ∙ w.1)
+not_none f hs cs h e = let w = rows_found f hs cs [] e (λ x u g. absurd (none-some u g)) in none-some w.0 (sym h ∙ w.1)
 
 pub fits_law : FitsLaw
 fits_law = record {

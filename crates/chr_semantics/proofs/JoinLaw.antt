@@ -205,7 +205,7 @@ branch_none further c true e h = refl
 branch_none further c false None h = refl
 branch_none further c false (Some n) h = cc
 
-branch_same : (f g : Subst → List Joined) (c : Row) (b : Bool) (e : Option Subst) → ((n : Subst) → f n ≡ g n) → branch f c b e ≡ branch g c b e
+pub branch_same : (f g : Subst → List Joined) (c : Row) (b : Bool) (e : Option Subst) → ((n : Subst) → f n ≡ g n) → branch f c b e ≡ branch g c b e
 branch_same f g c true e h = refl
 branch_same f g c false None h = refl
 branch_same f g c false (Some n) h = ap (map (after_row c)) (h n)

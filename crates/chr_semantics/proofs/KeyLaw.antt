@@ -10,7 +10,8 @@ use Rattle.chr_semantics.specs.Subst.{Subst}
 use Rattle.chr_semantics.specs.Program.{Atom, Head}
 use Rattle.chr_semantics.specs.Match.{Row, match_at, fit_atom}
 use Rattle.chr_semantics.specs.Keys.{ClashLaw, Key, Root, RootLaw, arg_at, clashes_with, first_key, has_root, head_root, is_of, is_root, key, key_of, name, number, pattern_root, root_of, same_key, same_keys, same_root, unbound}
-use Rattle.chr_semantics.proofs.Makes.{Extends, Makes, MakesAll, fit_atom_makes, none_some}
+use Rattle.chr_semantics.proofs.Makes.{Extends, Makes, MakesAll, fit_atom_makes}
+use Rattle.std.proofs.lemmas.Option.{none-some}
 
 same_key_itself : (k : Key) → same_key k k ≡ true
 same_key_itself (number z) = (Decides-int_eq z z).1 refl
@@ -25,7 +26,7 @@ root_made : (m n : Subst) (p u : Tree) (k : Root) → Extends m n → Makes n p 
 root_made m n (var x) u k f h e = of_var (match_at m x) refl e
   where
     of_var : (o : Option Tree) → match_at m x ≡ o → option_map root_of o ≡ Some k → root_of u ≡ k
-    of_var None is d = absurd (none_some k d)
+    of_var None is d = absurd (none-some k d)
     of_var (Some t) is d = let same : Some t ≡ Some u = sym (f x t is) ∙ h in let q : t ≡ u = cc in let r : root_of t ≡ k = cc in ap root_of (sym q) ∙ r
 root_made m n (int z) (var y) k f h e = absurd h
 root_made m n (int z) (int w) k f h e = let r : key (number z) ≡ k = cc in ap (λ (v : ℤ). key (number v)) (sym h) ∙ r
@@ -35,7 +36,7 @@ root_made m n (node g ts) (int w) k f h e = absurd h
 root_made m n (node g ts) (node l us) k f h e = let r : key (name g) ≡ k = cc in ap (λ (v : ℕ). key (name v)) (sym h.0) ∙ r
 
 args_root : (m n : Subst) (ps us : Trees) (p : ℕ) (k : Root) → Extends m n → MakesAll n ps us → option_and_then (pattern_root m) (arg_at ps p) ≡ Some k → option_map root_of (arg_at us p) ≡ Some k
-args_root m n none none p k f h e = absurd (none_some k e)
+args_root m n none none p k f h e = absurd (none-some k e)
 args_root m n none (more u us) p k f h e = absurd h
 args_root m n (more t ts) none p k f h e = absurd h
 args_root m n (more t ts) (more u us) zero k f h e = ap (λ (r : Root). Some r) (root_made m n t u k f h.0 e)
@@ -59,7 +60,7 @@ root_law = record { roots = λ h m p k c e out. roots_at (fit_atom h.atom c.1 m)
 
 -- the key of a pattern is the key of what it is made
 key_made : (n : Subst) (p u : Tree) (k : Key) → Makes n p u → key_of p ≡ Some k → key_of u ≡ Some k
-key_made n (var x) u k h e = absurd (none_some k e)
+key_made n (var x) u k h e = absurd (none-some k e)
 key_made n (int z) (var y) k h e = absurd h
 key_made n (int z) (int w) k h e = ap (λ (v : ℤ). Some (number v)) (sym h) ∙ e
 key_made n (int z) (node g us) k h e = absurd h

@@ -1,5 +1,6 @@
 -- A lemma whose name ends in `_at` goes by cases on a test of the lemma after it, with the equation of the test as an argument.
 pub mod Lists
+pub mod Plain
 pub mod Tests
 pub mod Instances
 pub mod Apart

@@ -66,7 +66,3 @@ contains_cases x z xs (suc k, lt, e) = inr (k, omega (arith, lt), e)
 pub no_items : {X : Type 0} (xs : List X) → length xs ≡ 0 → xs ≡ []
 no_items [] e = refl
 no_items (x ∷ xs) e = absurd (omega (arith, e))
-
--- two numbers that differ
-pub eqb_other : (n m : ℕ) → n ≢ m → (n == m) ≡ false
-eqb_other n m h = grind (arith, h)

@@ -8,6 +8,7 @@ use Rattle.chr_semantics.specs.Subst.{Subst}
 use Rattle.chr_semantics.specs.Program.{Atom}
 use Rattle.chr_semantics.specs.Match.{match_at, fit, fit_all, fit_var, fit_atom}
 use Rattle.chr_semantics.proofs.SameLaw.{same_law}
+use Rattle.std.proofs.lemmas.Option.{none-some}
 
 -- n has what m has
 abbrev pub Extends : Subst → Subst → Type 0
@@ -61,16 +62,13 @@ new_found : (b : Bool) (x : ℕ) (t : Tree) (m : Subst) → b ≡ true → cond 
 new_found true x t m e = refl
 new_found false x t m e = absurd (true≢false (sym e))
 
-pub none_some : {X : Type 0} (x : X) → ◌≡◌ {A = Option X} None (Some x) → ⊥
-none_some x e = cc
-
 pub some_same : (m n : Subst) → Some m ≡ Some n → m ≡ n
 some_same m n e = cc
 
 -- a test in front of a match
 pub tested : (b : Bool) (o : Option Subst) (n : Subst) → cond b o None ≡ Some n → (b ≡ true) × (o ≡ Some n)
 tested true o n e = (refl, e)
-tested false o n e = absurd (none_some n e)
+tested false o n e = absurd (none-some n e)
 
 pub from_same : (m n : Subst) → m ≡ n → Extends m n
 from_same m n e x u h = ap (λ (k : Subst). match_at k x) (sym e) ∙ h
@@ -88,7 +86,7 @@ fit_var_makes m n x t (Some u) is h =
 
 fit_all_next : (t u : Tree) (ts us : Trees) (m n : Subst) (o : Option Subst) → ((k : Subst) → fit t u m ≡ Some k → Extends m k × Makes k t u) → ((k : Subst) → fit_all ts us k ≡ Some n → Extends k n × MakesAll n ts us)
     → fit t u m ≡ o → option_and_then (fit_all ts us) o ≡ Some n → Extends m n × MakesAll n (more t ts) (more u us)
-fit_all_next t u ts us m n None f g is h = absurd (none_some n h)
+fit_all_next t u ts us m n None f g is h = absurd (none-some n h)
 fit_all_next t u ts us m n (Some k) f g is h =
     let a = f k is in
     let b = g k h in
@@ -98,11 +96,11 @@ fit_all_next t u ts us m n (Some k) f g is h =
 mutual
   pub fit_makes : (p t : Tree) (m n : Subst) → fit p t m ≡ Some n → Extends m n × Makes n p t
   fit_makes (var x) t m n h = fit_var_makes m n x t (match_at m x) refl h
-  fit_makes (int z) (var y) m n h = absurd (none_some n h)
+  fit_makes (int z) (var y) m n h = absurd (none-some n h)
   fit_makes (int z) (int w) m n h = let r = tested (int_eq z w) (Some m) n h in (from_same m n (some_same m n r.1), (Decides-int_eq z w).0 r.0)
-  fit_makes (int z) (node g us) m n h = absurd (none_some n h)
-  fit_makes (node f ts) (var y) m n h = absurd (none_some n h)
-  fit_makes (node f ts) (int w) m n h = absurd (none_some n h)
+  fit_makes (int z) (node g us) m n h = absurd (none-some n h)
+  fit_makes (node f ts) (var y) m n h = absurd (none-some n h)
+  fit_makes (node f ts) (int w) m n h = absurd (none-some n h)
   fit_makes (node f ts) (node g us) m n h =
       let r = tested (f == g) (fit_all ts us m) n h in
       let a = fit_all_makes ts us m n r.1 in
@@ -110,8 +108,8 @@ mutual
 
   pub fit_all_makes : (ps ts : Trees) (m n : Subst) → fit_all ps ts m ≡ Some n → Extends m n × MakesAll n ps ts
   fit_all_makes none none m n h = (from_same m n (some_same m n h), tt)
-  fit_all_makes none (more u us) m n h = absurd (none_some n h)
-  fit_all_makes (more t ts) none m n h = absurd (none_some n h)
+  fit_all_makes none (more u us) m n h = absurd (none-some n h)
+  fit_all_makes (more t ts) none m n h = absurd (none-some n h)
   fit_all_makes (more t ts) (more u us) m n h = fit_all_next t u ts us m n (fit t u m) (λ k is. fit_makes t u m k is) (λ k is. fit_all_makes ts us k n is) refl h
 
 -- whatever has what was there and makes the pattern the term has what is found

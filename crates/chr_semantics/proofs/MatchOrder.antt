@@ -9,7 +9,8 @@ use Rattle.chr_semantics.specs.Program.{Head, Test, identical, not_unifiable, co
 use Rattle.chr_semantics.specs.Match.{Row, match_at, fit_atom, fit_rows, fits}
 use Rattle.chr_semantics.specs.Guard.{entailed, all_entailed}
 use Rattle.chr_semantics.specs.Join.{SameLookups, SameMatch, fit_others, fit_own_first, OrderLaw}
-use Rattle.chr_semantics.proofs.Makes.{from_same, none_some, some_same, Extends, Extends-through, MakesAtom, MakesAtom-more, fit_atom_makes, fit_atom_least}
+use Rattle.chr_semantics.proofs.Makes.{from_same, some_same, Extends, Extends-through, MakesAtom, MakesAtom-more, fit_atom_makes, fit_atom_least}
+use Rattle.std.proofs.lemmas.Option.{none-some}
 
 abbrev pub MakesRows : Subst → List Head → List Row → Type 0
 MakesRows m [] [] = Unit {0}
@@ -26,7 +27,7 @@ MakesOthers m place k (h ∷ hs) (c ∷ t) = ((k == place) ≡ false → MakesAt
 -- in head order
 fit_rows_next : (x : Head) (hs : List Head) (c : Row) (t : List Row) (m n : Subst) (o : Option Subst) → ((k : Subst) → fit_rows hs t k ≡ Some n → Extends k n × MakesRows n hs t)
     → fit_atom x.atom c.1 m ≡ o → option_and_then (fit_rows hs t) o ≡ Some n → Extends m n × MakesRows n (x ∷ hs) (c ∷ t)
-fit_rows_next x hs c t m n None f is h = absurd (none_some n h)
+fit_rows_next x hs c t m n None f is h = absurd (none-some n h)
 fit_rows_next x hs c t m n (Some k) f is h =
     let a = fit_atom_makes x.atom c.1 m k is in
     let b = f k h in
@@ -34,8 +35,8 @@ fit_rows_next x hs c t m n (Some k) f is h =
 
 pub fit_rows_makes : (hs : List Head) (t : List Row) (m n : Subst) → fit_rows hs t m ≡ Some n → Extends m n × MakesRows n hs t
 fit_rows_makes [] [] m n h = (from_same m n (some_same m n h), tt)
-fit_rows_makes [] (c ∷ t) m n h = absurd (none_some n h)
-fit_rows_makes (x ∷ hs) [] m n h = absurd (none_some n h)
+fit_rows_makes [] (c ∷ t) m n h = absurd (none-some n h)
+fit_rows_makes (x ∷ hs) [] m n h = absurd (none-some n h)
 fit_rows_makes (x ∷ hs) (c ∷ t) m n h = fit_rows_next x hs c t m n (fit_atom x.atom c.1 m) (λ k is. fit_rows_makes hs t k n is) refl h
 
 pub fit_rows_least : (hs : List Head) (t : List Row) (m k : Subst) → Extends m k → MakesRows k hs t → (n : Subst) × (fit_rows hs t m ≡ Some n) × Extends n k
@@ -53,7 +54,7 @@ fit_others_at : (b : Bool) (place k : ℕ) (x : Head) (hs : List Head) (c : Row)
 fit_others_at true place k x hs c t m n o f here is h =
     let b = f m h in
     (b.0, ((λ e. absurd (true≢false (sym here ∙ e))), b.1))
-fit_others_at false place k x hs c t m n None f here is h = absurd (none_some n h)
+fit_others_at false place k x hs c t m n None f here is h = absurd (none-some n h)
 fit_others_at false place k x hs c t m n (Some l) f here is h =
     let a = fit_atom_makes x.atom c.1 m l is in
     let b = f l h in
@@ -61,8 +62,8 @@ fit_others_at false place k x hs c t m n (Some l) f here is h =
 
 pub fit_others_makes : (place k : ℕ) (hs : List Head) (t : List Row) (m n : Subst) → fit_others place k hs t m ≡ Some n → Extends m n × MakesOthers n place k hs t
 fit_others_makes place k [] [] m n h = (from_same m n (some_same m n h), tt)
-fit_others_makes place k [] (c ∷ t) m n h = absurd (none_some n h)
-fit_others_makes place k (x ∷ hs) [] m n h = absurd (none_some n h)
+fit_others_makes place k [] (c ∷ t) m n h = absurd (none-some n h)
+fit_others_makes place k (x ∷ hs) [] m n h = absurd (none-some n h)
 fit_others_makes place k (x ∷ hs) (c ∷ t) m n h = fit_others_at (k == place) place k x hs c t m n (fit_atom x.atom c.1 m) (λ l is. fit_others_makes place (k + 1) hs t l n is) refl refl h
 
 fit_others_found : (b : Bool) (place k : ℕ) (x : Head) (hs : List Head) (c : Row) (t : List Row) (m l : Subst) → ((j : Subst) → Extends j l → (n : Subst) × (fit_others place (k + 1) hs t j ≡ Some n) × Extends n l)
@@ -88,8 +89,8 @@ others_of m place k (x ∷ hs) [] h = absurd h
 others_of m place k (x ∷ hs) (c ∷ t) h = ((λ e. h.0), others_of m place (k + 1) hs t h.1)
 
 own_of : (m : Subst) (place : ℕ) (hs : List Head) (t : List Row) (own : Head) (a : Row) → slice_get hs place ≡ Some own → slice_get t place ≡ Some a → MakesRows m hs t → MakesAtom m own.atom a.1
-own_of m place [] t own a e f h = absurd (none_some own e)
-own_of m place (x ∷ hs) [] own a e f h = absurd (none_some a f)
+own_of m place [] t own a e f h = absurd (none-some own e)
+own_of m place (x ∷ hs) [] own a e f h = absurd (none-some a f)
 own_of m zero (x ∷ hs) (c ∷ t) own a e f h = let same : x ≡ own = cc in let row : c ≡ a = cc in rw (sym same, sym row) h.0
 own_of m (suc place) (x ∷ hs) (c ∷ t) own a e f h = own_of m place hs t own a e f h.1
 
@@ -113,7 +114,7 @@ lookups : (m n : Subst) → Extends m n → Extends n m → SameLookups m n
 lookups m n f g x = same_at (match_at m x) (match_at n x) (f x) (g x)
 
 nothing : (m : Subst) → Extends [] m
-nothing m x u e = absurd (none_some u e)
+nothing m x u e = absurd (none-some u e)
 
 -- both ways to fit
 whole_first : (heads : List Head) (t : List Row) (place : ℕ) (own : Head) (a : Row) (m : Subst) → slice_get heads place ≡ Some own → slice_get t place ≡ Some a → fits heads t ≡ Some m
@@ -126,7 +127,7 @@ whole_first heads t place own a m e f h =
 
 own_whole_at : (heads : List Head) (t : List Row) (place : ℕ) (own : Head) (a : Row) (n : Subst) (o : Option Subst) → slice_get heads place ≡ Some own → slice_get t place ≡ Some a → fit_atom own.atom a.1 [] ≡ o
     → option_and_then (fit_others place 0 heads t) o ≡ Some n → (m : Subst) × (fits heads t ≡ Some m) × Extends m n
-own_whole_at heads t place own a n None e f is h = absurd (none_some n h)
+own_whole_at heads t place own a n None e f is h = absurd (none-some n h)
 own_whole_at heads t place own a n (Some k) e f is h =
     let first = fit_atom_makes own.atom a.1 [] k is in
     let rest = fit_others_makes place 0 heads t k n h in
@@ -145,8 +146,8 @@ same_match heads t place own a e f = both (fits heads t) (fit_own_first place he
   where
     both : (o p : Option Subst) → fits heads t ≡ o → fit_own_first place heads own a t ≡ p → SameMatch o p
     both None None is its = tt
-    both None (Some n) is its = let r = own_whole_at heads t place own a n (fit_atom own.atom a.1 []) e f refl its in none_some r.0 (sym is ∙ r.1)
-    both (Some m) None is its = let r = whole_first heads t place own a m e f is in none_some r.0 (sym its ∙ r.1)
+    both None (Some n) is its = let r = own_whole_at heads t place own a n (fit_atom own.atom a.1 []) e f refl its in none-some r.0 (sym is ∙ r.1)
+    both (Some m) None is its = let r = whole_first heads t place own a m e f is in none-some r.0 (sym its ∙ r.1)
     both (Some m) (Some n) is its =
         let r = whole_first heads t place own a m e f is in
         let q = own_whole_at heads t place own a n (fit_atom own.atom a.1 []) e f refl its in

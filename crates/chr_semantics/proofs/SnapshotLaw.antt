@@ -22,6 +22,7 @@ use Rattle.chr_semantics.proofs.RowsLaw.{rows_law}
 use Rattle.chr_semantics.proofs.Soundness.{sound_after, sound_start}
 use Rattle.chr_semantics.proofs.TakenLaw.{taken_law}
 use Rattle.chr_semantics.proofs.KeyLaw.{clash_law}
+use Rattle.std.proofs.lemmas.Bool.{not-false}
 
 -- entries of other rules
 can_fire_entries : (h : History) (r : ℕ) (rule : Rule) → can_fire (rule_entries r h) r rule ≡ can_fire h r rule
@@ -83,10 +84,6 @@ absent_resolved : (s : State) (xs : List Row) (i : ℕ) → atom_of xs i ≡ Non
 absent_resolved s [] i e = refl
 absent_resolved s (x ∷ xs) i e = absent_at (x.0 == i) (atom_of xs i) (atom_of (map (resolved_row s.subst) xs) i) x.1 (resolved_atom s.subst x.1) e (absent_resolved s xs i)
 
-not_false : (b : Bool) → not b ≡ false → b ≡ true
-not_false true e = refl
-not_false false e = absurd (true≢false e)
-
 same_symbol : (a c : Atom) → Some a ≡ Some c → c.sym ≡ a.sym
 same_symbol a c e = let same : a ≡ c = cc in ap (λ (x : Atom). x.sym) (sym same)
 
@@ -99,7 +96,7 @@ own_occurrence p s i j a (Some o) h lives is =
     let here = atom_resolved s.subst s.store i a lives in
     let live = live_entries (rows s) s.history in
     rule_entries_law p (filter keep (rows s)) live i j a.sym o (λ c e. same_symbol (resolved_atom s.subst a) c (sym here ∙ atom_of_part keep 0 s.next_id (rows s) i c up e)) is
-    ∙ rows_law p (rows s) keep live i j (resolved_atom s.subst a) o (different_ids 0 s.next_id (rows s) up) here is (λ c out. clash_law o.rule c (not_false (clashes o.rule c) out))
+    ∙ rows_law p (rows s) keep live i j (resolved_atom s.subst a) o (different_ids 0 s.next_id (rows s) up) here is (λ c out. clash_law o.rule c (not-false (clashes o.rule c) out))
     ∙ dead_entries_law p (rows s) s.history i j
 
 own_lives : (p : Program) (s : State) (i j : ℕ) (x : Option Atom) → IsSound s → atom_of s.store i ≡ x

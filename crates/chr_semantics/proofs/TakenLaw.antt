@@ -115,7 +115,7 @@ past_after p zero s sound h = h
 past_after p (suc n) s sound h = past_after p n (step p s) (sound_step p s sound) (past_at p s s.status sound h)
 
 -- a row with a later identity makes no entry of the past live
-ids_of-append : (xs ys : List Row) → ids_of (xs ++ ys) ≡ ids_of xs ++ ids_of ys
+pub ids_of-append : (xs ys : List Row) → ids_of (xs ++ ys) ≡ ids_of xs ++ ids_of ys
 ids_of-append xs ys = map-append (λ (row : Row). row.0) xs ys
 
 has_last : (n i : ℕ) (xs : List Row) (g : Atom) → nat_lt i n ≡ true → has_number (ids_of (xs ++ (n, g) ∷ [])) i ≡ has_number (ids_of xs) i

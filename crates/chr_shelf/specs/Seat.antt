@@ -4,7 +4,7 @@ use Rattle.chr_semantics.specs.Tasks as tasks
 use Rattle.chr_find.specs.SnapshotView.{task_view}
 use Rattle.chr_find.specs.declared.snapshot.Snapshot.{Snapshot}
 use Rattle.chr_shelf.specs.declared.answer.Answer.{Answer}
-use Rattle.chr_shelf.specs.declared.run.Run.{Ghosts}
+use Rattle.chr_shelf.specs.declared.run.RunName.{Ghosts}
 use Rattle.chr_shelf.specs.declared.shelf.Ticket.{Ticket}
 
 module _ {J A : Type 0} {G : Ghosts J} where

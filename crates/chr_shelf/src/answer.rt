@@ -4,7 +4,7 @@ ghost use Rattle.std.specs.Prelude.{◌≡◌};
 ghost use Rattle.chr_find.specs.SnapshotView.{task_view};
 ghost use Rattle.chr_shelf.specs.Answers.{IsTrueIn};
 
-use crate::run::Run;
+use crate::run::RunName;
 use crate::shelf::Ticket;
 use chr_find::{Found, Task};
 use chr_store::HeadIds;
@@ -12,7 +12,7 @@ use std::alloc::{Allocator, Global};
 
 /// The answer to a task: what a search finds in the snapshot where the task stands. `solve` alone makes one.
 #[derive(Drop)]
-pub struct Answer<J: Run, A: Allocator = Global> {
+pub struct Answer<J: RunName, A: Allocator = Global> {
     pub(crate) ticket: Ticket<J, A>,
     pub(crate) index: u32,
     pub(crate) task: Task,
@@ -20,7 +20,7 @@ pub struct Answer<J: Run, A: Allocator = Global> {
     ghost of_run: { IsTrueIn J.rules ticket.pushed.value index (task_view task) found.ids } by { Prim.hlevel props },
 }
 
-impl<J: Run, A: Allocator> Answer<J, A> {
+impl<J: RunName, A: Allocator> Answer<J, A> {
     ghost use Rattle.chr_shelf.specs.Seat.{ids_of, index_of, place_of, shot_of, task_of, ticket_of};
 
     /// The ticket of the snapshot where the task stands.

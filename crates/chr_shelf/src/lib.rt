@@ -8,6 +8,6 @@ mod solving;
 
 pub use answer::Answer;
 pub use chr_term::Memory;
-pub use run::Run;
+pub use run::RunName;
 pub use shelf::{Shelf, Ticket};
 pub use solving::{Unsolved, solve};

@@ -7,14 +7,14 @@ use std::marker::Brand;
 
 /// The name of a run: its shelf and the rules of its program. Tickets and answers have it in their type, so that what comes from another
 /// thread is known to be of this run. No value of a running program shows it.
-pub trait Run {
+pub trait RunName {
     ghost shelf: { Shelves };
 
     ghost rules: { Program };
 }
 
 /// The name that one run has in proofs, and no other one.
-impl Run for Brand {
+impl RunName for Brand {
     ghost shelf = { record { tag = []; buckets = [] } };
 
     ghost rules = { [] };

@@ -2,7 +2,7 @@
 ghost use Rattle.std.specs.Prelude.{◌≡◌, IfErr, IfOk, IfSome};
 ghost use Rattle.boxcar.specs.Table.{Shelves, Shows, shelves_coded};
 
-use crate::run::Run;
+use crate::run::RunName;
 use boxcar::Pushed;
 use chr_find::Snapshot;
 use chr_term::Memory;
@@ -26,13 +26,13 @@ impl<A: Allocator> Model for Shelf<A> {
 
 /// What shows that the shelf of a run has a snapshot at a place. It keeps nothing of the snapshot.
 #[derive(Drop)]
-pub struct Ticket<J: Run, A: Allocator = Global> {
+pub struct Ticket<J: RunName, A: Allocator = Global> {
     pushed: Pushed<Snapshot<A>, A>,
     of: PhantomData<J>,
     ghost shows: { Shows J.shelf pushed },
 }
 
-impl<J: Run, A: Allocator> Ticket<J, A> {
+impl<J: RunName, A: Allocator> Ticket<J, A> {
     ghost use Rattle.chr_shelf.specs.Seat.{place_of, shot_of};
 
     /// The place on the shelf, which no other snapshot has.
@@ -65,7 +65,7 @@ impl<A: Allocator + Copy> Shelf<A> {
     }
 
     /// Puts a snapshot on the shelf, for good. Where memory is refused, the snapshot comes back.
-    pub fn put<J: Run>(
+    pub fn put<J: RunName>(
         &self,
         rt: &impl Wait,
         snapshot: Snapshot<A>,
@@ -84,7 +84,7 @@ impl<A: Allocator + Copy> Shelf<A> {
     }
 
     /// The ticket of what stands at a place.
-    pub fn ticket<J: Run>(&self, place: usize) -> Option<Ticket<J, A>>
+    pub fn ticket<J: RunName>(&self, place: usize) -> Option<Ticket<J, A>>
         requires name { self.now ≡ J.shelf }
         ensures { IfSome result (λ ticket. place_of ticket ≡ place) }
     {
@@ -96,7 +96,7 @@ impl<A: Allocator + Copy> Shelf<A> {
     }
 
     /// The snapshot of a ticket. It waits for nothing.
-    pub fn see<'a, J: Run>(&'a self, ticket: &Ticket<J, A>) -> &'a Snapshot<A>
+    pub fn see<'a, J: RunName>(&'a self, ticket: &Ticket<J, A>) -> &'a Snapshot<A>
         requires name { self.now ≡ J.shelf }
         ensures { result.now ≡ shot_of ticket.now }
     {
@@ -104,7 +104,7 @@ impl<A: Allocator + Copy> Shelf<A> {
     }
 
     /// Shows that two tickets of one place have one snapshot.
-    pub fn agree<J: Run>(&self, one: &Ticket<J, A>, other: &Ticket<J, A>)
+    pub fn agree<J: RunName>(&self, one: &Ticket<J, A>, other: &Ticket<J, A>)
         requires name { self.now ≡ J.shelf }
         requires place { place_of one.now ≡ place_of other.now }
         ensures { shot_of one.now ≡ shot_of other.now }

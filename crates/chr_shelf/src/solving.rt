@@ -7,7 +7,7 @@ ghost use Rattle.chr_shelf.specs.Answers.{IsUnsolvedIn};
 ghost use Rattle.chr_shelf.specs.Seat.{index_of, shot_of, ticket_of};
 
 use crate::answer::Answer;
-use crate::run::Run;
+use crate::run::RunName;
 use crate::shelf::{Shelf, Ticket};
 use chr_find::{Snapshot, Task};
 use chr_rules::Program;
@@ -37,7 +37,7 @@ fn task_at<A: Allocator>(snapshot: &Snapshot<A>, index: u32) -> Option<Task>
 }
 
 /// Solves the task with an index of a ticket's snapshot. Where it has no such task, or memory is refused, the ticket comes back.
-pub fn solve<J: Run, A: Allocator + Copy>(
+pub fn solve<J: RunName, A: Allocator + Copy>(
     program: &Program<A>,
     shelf: &Shelf<A>,
     ticket: Ticket<J, A>,

@@ -5,7 +5,7 @@ use Rattle.std.specs.List.{remove}
 use Rattle.std.specs.List.Sorted.{IsBinarySearchResult, IsSearchInRange, IsStrictlyIncreasing}
 use Rattle.std.specs.Result.{MatchResult}
 use Rattle.std.specs.Ordering.{nat_cmp}
-use Rattle.std.proofs.lemmas.Bool.{cases_eq, cases_lt}
+use Rattle.std.proofs.lemmas.Bool.{cases_eq, cases_lt, eq-eqb, ne_eqb}
 use Rattle.std.proofs.lemmas.List.{drop-append-le, drop-map, get_or-map, length-drop, length-map, map-append}
 use Rattle.std.proofs.lemmas.List.Kept.{AllPairs-from_increasing}
 use Rattle.std.proofs.lemmas.List.Sorted.{searched}
@@ -15,12 +15,6 @@ use Rattle.indexmap.proofs.SetLemmas.{map-remove}
 use Rattle.chr_store.specs.Numbers.{numbers}
 use Rattle.chr_store.specs.declared.id.Id.{Id}
 
-test_other : (x y : ℕ) → x ≢ y → (x == y) ≡ false
-test_other x y h = grind arith
-
-test_same : (x y : ℕ) → x ≡ y → (x == y) ≡ true
-test_same x y h = grind arith
-
 -- without the number x
 abbrev pub without : ℕ → List ℕ → List ℕ
 without x xs = filter (λ y. not (y == x)) xs
@@ -28,18 +22,18 @@ without x xs = filter (λ y. not (y == x)) xs
 -- a number that is not there
 pub without_absent : (x : ℕ) (xs : List ℕ) → ((k : ℕ) → k < length xs → get_or xs k 0 ≢ x) → without x xs ≡ xs
 without_absent x [] h = refl
-without_absent x (y ∷ ys) h = rw (test_other y x (h 0 (omega arith))) (ap (λ l. y ∷ l) (without_absent x ys (λ k inside. h (suc k) (omega arith))))
+without_absent x (y ∷ ys) h = rw (ne_eqb y x (h 0 (omega arith))) (ap (λ l. y ∷ l) (without_absent x ys (λ k inside. h (suc k) (omega arith))))
 
 -- the number at a place
 pub without_at : (i x : ℕ) (xs : List ℕ) → AllPairs (λ y z. y < z) xs → i < length xs → get_or xs i 0 ≡ x → remove xs i ≡ without x xs
 without_at i x [] up inside is = absurd (omega arith)
 without_at zero x (y ∷ ys) up inside is =
-    rw (test_same y x is, without_absent x ys (λ k lt same. let less : y < get_or ys k 0 = up 0 (suc k) 0 (omega arith) (omega arith) in omega arith)) refl
+    rw (eq-eqb y x is, without_absent x ys (λ k lt same. let less : y < get_or ys k 0 = up 0 (suc k) 0 (omega arith) (omega arith) in omega arith)) refl
 without_at (suc i) x (y ∷ ys) up inside is =
     let less : y < get_or ys i 0 = up 0 (suc i) 0 (omega arith) inside in
     let apart : y ≢ x = omega arith in
     let rest : remove ys i ≡ without x ys = without_at i x ys (λ j k d lt within. up (suc j) (suc k) d (omega arith) (omega arith)) (omega arith) is in
-    rw (test_other y x apart, sym rest) refl
+    rw (ne_eqb y x apart, sym rest) refl
 
 -- a binary search over identities is one over their numbers
 pub searched_numbers : (x : Id) (ids : List Id) (r : Result ℕ ℕ) → IsSearchInRange r (length ids) → IsBinarySearchResult (λ (y : Id). nat_cmp y.0 x.0) ids r → IsBinarySearchResult (λ y. nat_cmp y x.0) (numbers ids) r

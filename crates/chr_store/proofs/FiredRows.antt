@@ -1,13 +1,12 @@
 -- Firings that are the same, as numbers.
 use Rattle.std.proofs.Common.{◌≡◌, ◌≢◌, ◌∙◌, ◌+◌, ◌++◌, ℕ, Bool, true, false, cond, not, ◌&&◌, ◌==◌, List, [], ◌∷◌, ap, sym, refl, arith, nat_eq}
 use Rattle.std.proofs.Math.Path.{fun_ext}
-use Rattle.std.proofs.lemmas.Bool.{eq-eqb}
+use Rattle.std.proofs.lemmas.Bool.{eq-eqb, ne_eqb}
 use Rattle.std.proofs.lemmas.List.{map-append}
 use Rattle.std.specs.Cmp.Lexicographic.{pointwise}
 use Rattle.std.specs.List.{list_any}
 use Rattle.chr_semantics.specs.Changes.{Entries, entered}
 use Rattle.chr_semantics.specs.Search.{History, fired_before, same_ids}
-use Rattle.chr_semantics.proofs.Lists.{eqb_other}
 use Rattle.chr_semantics.proofs.Tests.{eqb_sym}
 use Rattle.chr_store.specs.FiredLaws.{same_fired}
 use Rattle.chr_store.specs.HistoryView.{fired_view, firings_view}
@@ -18,7 +17,7 @@ use Rattle.chr_store.specs.declared.id.Id.{Id}
 use Rattle.chr_store.proofs.NumbersAlike.{equal_as}
 
 -- the same numbers either way
-same_ids_sym : (xs ys : List ℕ) → same_ids xs ys ≡ same_ids ys xs
+pub same_ids_sym : (xs ys : List ℕ) → same_ids xs ys ≡ same_ids ys xs
 same_ids_sym [] [] = refl
 same_ids_sym [] (y ∷ ys) = refl
 same_ids_sym (x ∷ xs) [] = refl
@@ -36,7 +35,7 @@ same_rule f g xs ys b rule ids first second =
 
 pub other_rule : (f g : Fired) (r s : ℕ) → r ≡ f.rule → s ≡ g.rule → (r ≢ s) → (r == s) ≡ same_fired f g
 other_rule f g r s first second other =
-    let no : (r == s) ≡ false = eqb_other r s other in
+    let no : (r == s) ≡ false = ne_eqb r s other in
     no ∙ sym (ap (λ (c : Bool). c && pointwise nat_eq f.ids g.ids) ((λ i. sym first i == sym second i) ∙ no))
 
 abbrev pub shown : History → (ℕ → ℕ) → Entries

@@ -14,6 +14,7 @@ use Rattle.chr_store.specs.declared.lists.Look.{Look}
 use Rattle.chr_store.specs.declared.lists.Look.TheVariants.{Symbol, Keyed, Open}
 use Rattle.chr_store.specs.declared.lists.Looks.{Looks}
 use Rattle.chr_store.proofs.Ascending.{without}
+use Rattle.chr_semantics.proofs.TakenLaw.{ids_of-append}
 
 -- the looks of a constraint are those that its row passes
 pub same_at : (n : ℕ) (a : Atom) (at : Looks) → AreLooksOf a at → (look : Look) → is_at at look ≡ is_listed look (n, a)
@@ -24,10 +25,6 @@ same_at n a at h Open = h.variables
 one_more : (r : Row) (b : Bool) → ids_of (cond b (r ∷ []) []) ≡ cond b (r.0 ∷ []) []
 one_more r true = refl
 one_more r false = refl
-
-ids_of-append : (xs ys : List Row) → ids_of (xs ++ ys) ≡ ids_of xs ++ ids_of ys
-ids_of-append [] ys = refl
-ids_of-append (x ∷ xs) ys = ap (λ (l : List ℕ). x.0 ∷ l) (ids_of-append xs ys)
 
 pub listed_ids-put : (rows : List Row) (r : Row) (look : Look) → listed_ids (rows ++ r ∷ []) look ≡ listed_ids rows look ++ cond (is_listed look r) (r.0 ∷ []) []
 listed_ids-put rows r look = ap ids_of (filter-append (is_listed look) rows (r ∷ [])) ∙ (ids_of-append (filter (is_listed look) rows) _ ∙ ap (λ (l : List ℕ). listed_ids rows look ++ l) (one_more r (is_listed look r)))

@@ -7,6 +7,7 @@ use Rattle.chr_semantics.specs.Search.{atom_of}
 use Rattle.chr_semantics.proofs.Lookups.{Ascends-below}
 use Rattle.chr_store.specs.Rows.{row_atom, rows_from, rows_without}
 use Rattle.chr_store.specs.declared.row.Row.{Row}
+use Rattle.std.proofs.lemmas.Bool.{eq-eqb}
 
 -- one more slot
 pub rows_from-put : {A : Type 0} (k : ℕ) (slots : List (Option (Row A))) (r : Row A) → rows_from k (slots ++ Some r ∷ []) ≡ rows_from k slots ++ (k + length slots, row_atom r) ∷ []
@@ -30,9 +31,6 @@ test_below k i h = grind arith
 test_past : (k i : ℕ) → k < i → (k == i) ≡ false
 test_past k i h = grind arith
 
-test_at : (k i : ℕ) → k ≡ i → (k == i) ≡ true
-test_at k i h = grind arith
-
 -- no identity below the first
 pub atom_of-below : {A : Type 0} (k i : ℕ) (slots : List (Option (Row A))) → i < k → atom_of (rows_from k slots) i ≡ None
 atom_of-below k i [] h = refl
@@ -43,7 +41,7 @@ atom_of-below k i (Some r ∷ slots) h = rw (test_below k i h) (atom_of-below (k
 pub atom_of-slot : {A : Type 0} (k j i : ℕ) (slots : List (Option (Row A))) (d : Option (Row A)) → i ≡ k + j → j < length slots → atom_of (rows_from k slots) i ≡ option_map row_atom (get_or slots j d)
 atom_of-slot k j i [] d e h = absurd (omega (arith, h))
 atom_of-slot k zero i (None ∷ slots) d e h = atom_of-below (k + 1) i slots (omega (arith, e))
-atom_of-slot k zero i (Some r ∷ slots) d e h = rw (test_at k i (omega (arith, e)))
+atom_of-slot k zero i (Some r ∷ slots) d e h = rw (eq-eqb k i (omega (arith, e)))
 atom_of-slot k (suc j) i (None ∷ slots) d e h = atom_of-slot (k + 1) j i slots d (omega (arith, e)) (omega (arith, h))
 atom_of-slot k (suc j) i (Some r ∷ slots) d e h =
     rw (test_past k i (omega (arith, e))) (atom_of-slot (k + 1) j i slots d (omega (arith, e)) (omega (arith, h)))
@@ -74,7 +72,7 @@ without-past k i (Some r ∷ slots) h = rw (test_past k i (omega (arith, h))) (a
 pub rows_from-emptied : {A : Type 0} (k j i : ℕ) (slots : List (Option (Row A))) → i ≡ k + j → j < length slots → rows_from k (slice_set slots j None) ≡ rows_without i (rows_from k slots)
 rows_from-emptied k j i [] e h = absurd (omega (arith, h))
 rows_from-emptied k zero i (None ∷ slots) e h = sym (without-below (k + 1) i slots (omega (arith, e)))
-rows_from-emptied k zero i (Some r ∷ slots) e h = rw (test_at k i (omega (arith, e))) (sym (without-below (k + 1) i slots (omega (arith, e))))
+rows_from-emptied k zero i (Some r ∷ slots) e h = rw (eq-eqb k i (omega (arith, e))) (sym (without-below (k + 1) i slots (omega (arith, e))))
 rows_from-emptied k (suc j) i (None ∷ slots) e h = rows_from-emptied (k + 1) j i slots (omega (arith, e)) (omega (arith, h))
 rows_from-emptied k (suc j) i (Some r ∷ slots) e h =
     rw (test_past k i (omega (arith, e))) (ap (λ rows. (k, row_atom r) ∷ rows) (rows_from-emptied (k + 1) j i slots (omega (arith, e)) (omega (arith, h))))

@@ -10,9 +10,8 @@ use Rattle.chr_store.specs.Rows.{rows_without}
 use Rattle.chr_store.specs.Waking.{has_symbol, has_symbol_among}
 use Rattle.chr_store.specs.declared.id.Id.{Id}
 use Rattle.chr_store.specs.declared.stamps.Stamp.{Stamp}
-
-below_call : (last call : ℕ) → last < call → nat_lt last call ≡ true
-below_call last call h = grind arith
+use Rattle.std.proofs.lemmas.Option.{none-some}
+use Rattle.std.proofs.lemmas.Bool.{lt-ltb}
 
 not_below : (call : ℕ) → nat_lt call call ≡ false
 not_below call = grind arith
@@ -21,13 +20,13 @@ not_below call = grind arith
 count_once : (b c : Bool) (count last call : ℕ) → last < call → (count + cond b 1 0) + cond (c && nat_lt (cond b call last) call) 1 0 ≡ count + cond (b || c) 1 0
 count_once true true count last call h = rw (not_below call) (omega arith)
 count_once true false count last call h = omega arith
-count_once false true count last call h = rw (below_call last call h) (omega arith)
+count_once false true count last call h = rw (lt-ltb last call h) (omega arith)
 count_once false false count last call h = omega arith
 
 last_once : (b c : Bool) (last call : ℕ) → last < call → cond (c && nat_lt (cond b call last) call) call (cond b call last) ≡ cond (b || c) call last
 last_once true true last call h = rw (not_below call) refl
 last_once true false last call h = refl
-last_once false true last call h = rw (below_call last call h) refl
+last_once false true last call h = rw (lt-ltb last call h) refl
 last_once false false last call h = refl
 
 -- the stamp of a symbol after one more identity
@@ -47,11 +46,8 @@ stamped_test : (stamps : List Stamp) (rows : List Row) (r : Row) (i : ℕ) (a : 
 stamped_test stamps rows r i a true h rest e = let same : r.1 ≡ a = cc in rw (← same) h
 stamped_test stamps rows r i a false h rest e = rest e
 
-none_some : (a : Atom) → ◌≡◌ {A = Option Atom} None (Some a) → ⊥
-none_some a e = cc
-
 pub stamped_at : (stamps : List Stamp) (rows : List Row) (i : ℕ) (a : Atom) → AreStamped stamps rows → atom_of rows i ≡ Some a → has_stamp stamps a.sym ≡ true
-stamped_at stamps [] i a h e = absurd (none_some a e)
+stamped_at stamps [] i a h e = absurd (none-some a e)
 stamped_at stamps (r ∷ rows) i a h e =
     stamped_test stamps rows r i a (r.0 == i) (All-head (λ (r : Row). has_stamp stamps r.1.sym ≡ true) r rows h) (stamped_at stamps rows i a (All-tail (λ (r : Row). has_stamp stamps r.1.sym ≡ true) r rows h)) e
 
@@ -67,7 +63,7 @@ stamped_put old new rows r h keep has = All-push (λ (q : Row). has_stamp new q.
 
 -- a stamp that is raised for a later call than all before
 pub count_raised : (f n count mid last call new : ℕ) → mid ≡ count → last < call → new ≡ mid + cond (f == n && nat_lt last call) 1 0 → new ≡ count + cond (f == n) 1 0
-count_raised f n count mid last call new same less e = e ∙ rw (same, below_call last call less) (at (f == n))
+count_raised f n count mid last call new same less e = e ∙ rw (same, lt-ltb last call less) (at (f == n))
   where
     at : (b : Bool) → count + cond (b && true) 1 0 ≡ count + cond b 1 0
     at true = refl

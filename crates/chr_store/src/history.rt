@@ -7,12 +7,9 @@ ghost use Rattle.chr_store.specs.Counts.{AreUpTo};
 use crate::entry::Entry;
 use crate::fired::Fired;
 use crate::stamps::Stamps;
-use chr_term::Memory;
+use chr_term::{FoldState, Memory};
 use indexmap::IndexSet;
 use std::alloc::{Allocator, Global};
-use std::hash::{BuildHasherDefault, FoldHasher};
-
-type FoldState = BuildHasherDefault<FoldHasher>;
 
 /// The firings of a run in the order in which they were entered, each once.
 #[derive(Drop)]

@@ -10,12 +10,9 @@ ghost use Rattle.chr_store.specs.Numbers.{numbers};
 use crate::id::Id;
 use crate::ids::Ids;
 use crate::key::Key;
-use chr_term::{Memory, Sym, Term, are_ground};
+use chr_term::{FoldState, Memory, Sym, Term, are_ground};
 use indexmap::IndexMap;
 use std::alloc::Allocator;
-use std::hash::{BuildHasherDefault, FoldHasher};
-
-type FoldState = BuildHasherDefault<FoldHasher>;
 
 /// What a list has the identities of.
 #[derive(Clone, Copy, Drop)]

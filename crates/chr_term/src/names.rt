@@ -8,7 +8,8 @@ use std::alloc::{Allocator, Global};
 use std::hash::{BuildHasherDefault, FoldHasher};
 use std::marker::Model;
 
-type FoldState = BuildHasherDefault<FoldHasher>;
+/// How tables of this repository hash: fast, and the same in every run.
+pub type FoldState = BuildHasherDefault<FoldHasher>;
 
 /// A symbol as it is stored: the place of its name among the texts, and its arity.
 #[derive(Clone, Copy, PartialEq, Eq, Hash, Debug, Drop)]

@@ -9,7 +9,7 @@ ghost use Rattle.chr_term.specs.TermView.{atom_view, view};
 
 use crate::numbered::Numbered;
 use crate::printer::Printer;
-use crate::writing::write_numbers;
+use crate::writing::{all_or_nothing, write_numbers};
 use crate::{Memory, Names, Sym, Term, VarNames};
 use itoa::Buffer;
 use std::alloc::Allocator;
@@ -67,20 +67,4 @@ pub fn print_numbers<I: Numbered, O: Allocator>(
     let len = out.len();
     let written = write_numbers(items, out);
     all_or_nothing(written, len, out)
-}
-
-/// Takes back what stands from `len` on where the writing of it was refused.
-fn all_or_nothing<O: Allocator>(
-    written: Result<(), Memory>,
-    len: usize,
-    out: &mut Vec<u8, O>,
-) -> Result<(), Memory>
-    ensures written { result ≡ written }
-    ensures ok { OnOk result (out.new.items ≡ out.old.items) }
-    ensures err { OnErr result (out.new.items ≡ take len out.old.items) }
-{
-    if written.is_err() {
-        out.truncate(len);
-    }
-    written
 }

@@ -1,6 +1,6 @@
 #![tactic(auto, using(crate::proofs::Extensions::extended_on))]
 //! Writing at the end of a text. Where memory is refused, the text begins with what it was before.
-ghost use Rattle.std.specs.Prelude.{◌≡◌, ◌++◌, ◌∷◌, [], OnOk, map};
+ghost use Rattle.std.specs.Prelude.{◌≡◌, ◌++◌, ◌∷◌, [], OnErr, OnOk, map, take};
 ghost use Rattle.std.specs.Fmt.{decimal, signed_decimal};
 ghost use Rattle.chr_semantics.specs.Text.{ids_text, more_ids_text};
 ghost use Rattle.chr_term.specs.Extension.{IsExtension};
@@ -10,7 +10,8 @@ use crate::numbered::Numbered;
 use itoa::Buffer;
 use std::alloc::Allocator;
 
-pub(crate) fn write_byte<O: Allocator>(byte: u8, out: &mut Vec<u8, O>) -> Result<(), Memory>
+/// Appends a byte. Where memory is refused, the text begins with what it was before; so with the calls below.
+pub fn write_byte<O: Allocator>(byte: u8, out: &mut Vec<u8, O>) -> Result<(), Memory>
     ensures ok { OnOk result (out.new.items ≡ out.old.items ++ byte ∷ []) }
     ensures kept { IsExtension out.old.items out.new.items }
 {
@@ -18,14 +19,24 @@ pub(crate) fn write_byte<O: Allocator>(byte: u8, out: &mut Vec<u8, O>) -> Result
     Ok(())
 }
 
-pub(crate) fn write_bytes<O: Allocator>(bytes: &[u8], out: &mut Vec<u8, O>) -> Result<(), Memory>
+/// Appends bytes.
+pub fn write_bytes<O: Allocator>(bytes: &[u8], out: &mut Vec<u8, O>) -> Result<(), Memory>
     ensures ok { OnOk result (out.new.items ≡ out.old.items ++ bytes.now) }
     ensures kept { IsExtension out.old.items out.new.items }
 {
     out.extend_from_slice(bytes)
 }
 
-pub(crate) fn write_number<O: Allocator>(number: u64, out: &mut Vec<u8, O>) -> Result<(), Memory>
+/// Appends a text.
+pub fn write_text<O: Allocator>(text: &str, out: &mut Vec<u8, O>) -> Result<(), Memory>
+    ensures ok { OnOk result (out.new.items ≡ out.old.items ++ text.now) }
+    ensures kept { IsExtension out.old.items out.new.items }
+{
+    write_bytes(text.as_bytes(), out)
+}
+
+/// Appends a number in decimal.
+pub fn write_number<O: Allocator>(number: u64, out: &mut Vec<u8, O>) -> Result<(), Memory>
     ensures ok { OnOk result (out.new.items ≡ out.old.items ++ decimal number) }
     ensures kept { IsExtension out.old.items out.new.items }
 {
@@ -33,12 +44,18 @@ pub(crate) fn write_number<O: Allocator>(number: u64, out: &mut Vec<u8, O>) -> R
     write_bytes(buffer.format(number).as_bytes(), out)
 }
 
+/// Appends a whole number in decimal.
 pub(crate) fn write_integer<O: Allocator>(value: i128, out: &mut Vec<u8, O>) -> Result<(), Memory>
     ensures ok { OnOk result (out.new.items ≡ out.old.items ++ signed_decimal value) }
     ensures kept { IsExtension out.old.items out.new.items }
 {
     let mut buffer = Buffer::new();
-    write_bytes(buffer.format(value).as_bytes(), out)
+    // Most fit in 64 bits, whose digits take a fraction of the time.
+    let text = match i64::try_from(value) {
+        Ok(short) => buffer.format(short),
+        Err(_) => buffer.format(value),
+    };
+    write_bytes(text.as_bytes(), out)
 }
 
 /// The numbers with commas between them.
@@ -72,4 +89,20 @@ fn write_more_numbers<I: Numbered, O: Allocator>(
         write_number(item.number(), out)?;
     }
     Ok(())
+}
+
+/// Takes back what stands from `len` on where the writing of it was refused.
+pub fn all_or_nothing<O: Allocator>(
+    written: Result<(), Memory>,
+    len: usize,
+    out: &mut Vec<u8, O>,
+) -> Result<(), Memory>
+    ensures written { result ≡ written }
+    ensures ok { OnOk result (out.new.items ≡ out.old.items) }
+    ensures err { OnErr result (out.new.items ≡ take len out.old.items) }
+{
+    if written.is_err() {
+        out.truncate(len);
+    }
+    written
 }

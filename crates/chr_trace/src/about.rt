@@ -10,9 +10,8 @@ ghost use Rattle.chr_term.specs.Extension.{IsExtension};
 ghost use Rattle.chr_trace.specs.About.{line_about};
 ghost use Rattle.chr_trace.specs.ScribeView.{about_line, at_line, fired_line};
 
-use crate::writing::{write_byte, write_bytes, write_number, write_text};
 use chr_store::Id;
-use chr_term::{Memory, print_numbers};
+use chr_term::{Memory, print_numbers, write_byte, write_bytes, write_number, write_text};
 use std::alloc::Allocator;
 
 /// What a line says about a constraint. A Drop and a Default go with the number of the occurrence, and a firing with that, whether it keeps the

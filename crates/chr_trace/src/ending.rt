@@ -8,11 +8,10 @@ ghost use Rattle.chr_trace.specs.EndingView.{ended_state};
 use crate::parts::{write_end, write_history};
 use crate::scribe::Scribe;
 use crate::state::{Elem, Status};
-use crate::writing::all_or_nothing;
 use chr_bind::Bindings;
 use chr_rules::Program;
 use chr_store::{Entry, Store};
-use chr_term::{Memory, VarNames};
+use chr_term::{Memory, VarNames, all_or_nothing};
 use std::alloc::{Allocator, Global};
 
 /// Where a run stands: the parts of its state, its program, and the names of the query's variables.

@@ -9,7 +9,6 @@ mod parts;
 mod resolved;
 mod scribe;
 mod state;
-mod writing;
 
 pub use about::About;
 pub use chr_bind::Fault;

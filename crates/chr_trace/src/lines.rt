@@ -15,9 +15,8 @@ use crate::about::About;
 use crate::line_iter::LineIter;
 use crate::scribe::Scribe;
 use crate::state::Status;
-use crate::writing::write_byte;
 use chr_rules::Goal;
-use chr_term::Memory;
+use chr_term::{Memory, write_byte};
 use std::alloc::{Allocator, Global};
 use std::marker::Model;
 

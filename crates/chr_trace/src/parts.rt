@@ -13,10 +13,9 @@ ghost use Rattle.chr_trace.specs.Texts.{body};
 
 use crate::scribe::Scribe;
 use crate::state::{Elem, Status};
-use crate::writing::{write_byte, write_number, write_text};
 use chr_rules::Program;
 use chr_store::{Entry, Store};
-use chr_term::{Memory, Term, print_numbers};
+use chr_term::{Memory, Term, print_numbers, write_byte, write_number, write_text};
 use std::alloc::Allocator;
 
 #[tactic(auto, using(chr_term::proofs::Extensions::extended_on), unfolding(crate::specs::Texts::body))]

@@ -1,6 +1,9 @@
 //! Writing with the bindings applied. Where memory is refused, the text begins with what it was before.
-ghost use Rattle.std.specs.Prelude.{◌≡◌, ◌++◌, OnOk};
+ghost use Rattle.std.specs.Prelude.{◌≡◌, ◌++◌, ◌∷◌, OnOk};
+ghost use Rattle.std.specs.Fmt.{decimal};
+ghost use Rattle.std.specs.Str.{byte};
 ghost use Rattle.chr_semantics.specs.Subst.{apply};
+ghost use Rattle.chr_store.specs.Rows.{row_atom};
 ghost use Rattle.chr_term.specs.Extension.{IsExtension};
 ghost use Rattle.chr_term.specs.TermView.{view};
 ghost use Rattle.chr_trace.specs.ScribeView.{active_by, atom_by, element_by, goal_by, known_by, shown_atom, shown_goal, term_by};
@@ -8,10 +11,9 @@ ghost use Rattle.chr_trace.specs.State.{elem_view};
 
 use crate::scribe::Scribe;
 use crate::state::Elem;
-use crate::writing::{write_byte, write_number, write_text};
 use chr_rules::Goal;
-use chr_store::Id;
-use chr_term::{Args, Memory, Sym, Term, print, print_atom};
+use chr_store::{Id, Row};
+use chr_term::{Args, Memory, Sym, Term, print, print_atom, write_byte, write_number, write_text};
 use std::alloc::Allocator;
 
 impl<'a, A: Allocator + Copy> Scribe<'a, A> {
@@ -70,8 +72,23 @@ impl<'a, A: Allocator + Copy> Scribe<'a, A> {
         ensures kept { IsExtension out.old.items out.new.items }
     {
         self.write_atom(sym, args, out)?;
-        write_byte(b'#', out)?;
-        write_number(id.0, out)
+        write_identity(id, out)
+    }
+
+    /// Writes a constraint, as its row stands, with its identity: the bindings are applied to the row already.
+    pub fn write_row(&self, row: &Row<A>, id: Id, out: &mut Vec<u8, A>) -> Result<(), Memory>
+        ensures ok { OnOk result
+            (out.new.items ≡ out.old.items ++ known_by self.now (row_atom row.now) id.0) }
+        ensures kept { IsExtension out.old.items out.new.items }
+    {
+        print_atom(
+            self.names,
+            self.var_names,
+            row.sym,
+            row.args.as_slice(),
+            out,
+        )?;
+        write_identity(id, out)
     }
 
     /// Writes an active constraint with its identity and its occurrence.
@@ -106,4 +123,13 @@ impl<'a, A: Allocator + Copy> Scribe<'a, A> {
             }
         }
     }
+}
+
+/// Writes the identity of a constraint, behind it.
+fn write_identity<A: Allocator>(id: Id, out: &mut Vec<u8, A>) -> Result<(), Memory>
+    ensures ok { OnOk result (out.new.items ≡ out.old.items ++ (byte "#" ∷ decimal id.0)) }
+    ensures kept { IsExtension out.old.items out.new.items }
+{
+    write_byte(b'#', out)?;
+    write_number(id.0, out)
 }

@@ -9,10 +9,9 @@ ghost use Rattle.chr_trace.specs.State.{status_view};
 
 use crate::about::write_start;
 use crate::state::Status;
-use crate::writing::write_text;
 use chr_bind::{Bindings, Fault};
 use chr_rules::Goal;
-use chr_term::{Memory, Names, VarNames};
+use chr_term::{Memory, Names, VarNames, write_text};
 use std::alloc::{Allocator, Global};
 
 /// What the lines of a trace are written with: names, and the bindings, which are applied to goals and terms.

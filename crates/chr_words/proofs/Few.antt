@@ -7,19 +7,16 @@ use Rattle.chr_words.specs.declared.words.Request.{Request}
 use Rattle.chr_words.specs.declared.words.Request.TheVariants.{Run, Help, Refused}
 use Rattle.chr_words.specs.Answer.{IsAnswer, IsRun}
 use Rattle.chr_words.specs.Words.{Asks, Reading, RunWords, Values, asks_from, asks_of, asks_after, is_plain, no_values, no_words, number_of, operand_step, run, step, parts_step}
+use Rattle.std.proofs.lemmas.Bool.{not-true}
 
 abbrev reading : RunWords → Reading
 reading run_words = record { run_words = run_words; awaits = None; plain = false }
-
-not_is : (b : Bool) → not b ≡ true → b ≡ false
-not_is true e = sym e
-not_is false e = refl
 
 plain_step : (run_words : RunWords) (word : List ℕ) → is_plain word ≡ true → step (reading run_words) word ≡ operand_step (reading run_words) word run_words.program run_words.query
 plain_step run_words [] e = refl
 plain_step run_words (c ∷ cs) e =
     ap (λ b. parts_step (reading run_words) (c ∷ cs) (b && bytes_eq cs (45 ∷ [])) (option_and_then long_of_rest (option_and_then (strip_byte 45) (cond b (Some cs) None)))
-    (option_and_then short_of_rest (cond b (Some cs) None))) (not_is (c == 45) e)
+    (option_and_then short_of_rest (cond b (Some cs) None))) (not-true (c == 45) e)
 
 pub asks_of-none : asks_of [] ≡ run no_words
 unfolding asks_from

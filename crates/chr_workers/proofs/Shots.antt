@@ -10,6 +10,7 @@ use Rattle.chr_store.specs.contracts.row.Row as Row
 use Rattle.chr_map.specs.contracts.pointer.Pointer as Pointer
 use Rattle.chr_map.proofs.pointer.Pointer.TheSendSync as pointer_laws
 use Rattle.chr_map.proofs.node.Node.TheLaws.TheKnot as node_laws
+use Rattle.chr_map.proofs.node.Slot.TheSendSync as slot_laws
 use Rattle.chr_term.proofs.term.Sym.TheSendSync as sym_laws
 use Rattle.chr_store.proofs.id.Id.TheSendSync as id_laws
 use Rattle.std.specs.contracts.sync.Arc as Arc
@@ -20,20 +21,22 @@ use Rattle.std.specs.declared.cmp.PartialEq as eq
 use Rattle.std.specs.declared.cmp.PartialOrd as partial
 use Rattle.chr_store.specs.contracts.fired.Fired as Fired
 use Rattle.chr_find.specs.contracts.firings.Firings as Firings
-use Rattle.chr_find.specs.contracts.list.Place as Place
-use Rattle.chr_find.specs.contracts.note.Note as Note
+use Rattle.chr_find.specs.contracts.bucket.IndexKey as IndexKey
+use Rattle.chr_find.specs.contracts.index_change.IndexChange as IndexChange
 use Rattle.chr_store.proofs.fired.Fired.TheSendSync as fired_laws
-use Rattle.chr_find.proofs.list.Place.TheSendSync as place_laws
+use Rattle.chr_find.proofs.bucket.IndexKey.TheSendSync as index_key_laws
 use Rattle.chr_keys.specs.contracts.key_lists.KeyLists as KeyLists
-use Rattle.chr_keys.specs.contracts.noted_keys.NotedKeys as NotedKeys
+use Rattle.chr_keys.specs.contracts.pending.Pending as Pending
+use Rattle.chr_keys.specs.contracts.pending_keys.PendingKeys as PendingKeys
 use Rattle.chr_keys.specs.contracts.id_list.IdList as IdList
-use Rattle.chr_keys.specs.contracts.place.Place as KeyPlace
-use Rattle.chr_keys.specs.contracts.note.Note as KeyNote
+use Rattle.chr_keys.specs.contracts.symbol_key.SymbolKey as SymbolKey
+use Rattle.chr_keys.specs.contracts.key_change.KeyChange as KeyChange
 use Rattle.chr_keys.proofs.id_list.IdList.TheSendSync as id_list_laws
-use Rattle.chr_keys.proofs.place.Place.TheSendSync as key_place_laws
-use Rattle.chr_keys.proofs.note.Note.TheSendSync as key_note_laws
-use Rattle.chr_find.specs.contracts.keyed.Keyed as Keyed
-use Rattle.chr_find.specs.contracts.noted.Noted as Noted
+use Rattle.chr_keys.proofs.pending.Pending.TheSendSync as pending_laws
+use Rattle.chr_keys.proofs.symbol_key.SymbolKey.TheSendSync as symbol_key_laws
+use Rattle.chr_keys.proofs.key_change.KeyChange.TheSendSync as key_change_laws
+use Rattle.chr_find.specs.contracts.lent_keys.LentKeys as LentKeys
+use Rattle.chr_find.specs.contracts.pending_index.PendingIndex as PendingIndex
 use Rattle.chr_find.specs.contracts.table.Table as Table
 use Rattle.chr_find.specs.contracts.snapshot.Task as Task
 use Rattle.chr_find.specs.contracts.snapshot.Snapshot as Snapshot
@@ -43,8 +46,8 @@ use Rattle.chr_shelf.specs.contracts.shelf.Shelf as Shelf
 use Rattle.chr_map.specs.contracts.node.Node as Node
 use Rattle.chr_find.specs.contracts.plan.Plan as Plan
 use Rattle.chr_find.proofs.plan.Plan.TheSendSync as plan_laws
-use Rattle.chr_find.specs.contracts.lists.Change as Change
-use Rattle.chr_find.specs.contracts.standing.Standing as Standing
+use Rattle.chr_find.specs.contracts.index.Change as Change
+use Rattle.chr_find.specs.contracts.constraint.Constraint as Constraint
 use Rattle.chr_workers.proofs.Crosses.{args, args_send, vec_of}
 
 module _ (A : RattleType) (g : Ghosts A.Denot) (s : IsSend A) (y : IsSync A) (f : Frees g g.dealloc_token) where
@@ -69,18 +72,18 @@ module _ (A : RattleType) (g : Ghosts A.Denot) (s : IsSend A) (y : IsSync A) (f 
   pub change : IsSync (Change.the_field A g).row
   change = let r : IsSync (Row.the_field A g).row = row in struct_sync (struct.shape (Change.the_type A g)) (search (r, id_laws.the_field_sync, sendable) depth 20)
 
-  pub standing : IsSync (Standing.the_row A g)
-  standing =
+  pub constraint : IsSync (Constraint.the_row A g)
+  constraint =
       let r : IsSync (Row.the_field A g).row = row in
-      recorded_sync _ _ _ (Standing.the_type A g).to_one (struct_sync (struct.shape (Standing.the_type A g)) (search (r, id_laws.the_field_sync, sendable) depth 20))
+      recorded_sync _ _ _ (Constraint.the_type A g).to_one (struct_sync (struct.shape (Constraint.the_type A g)) (search (r, id_laws.the_field_sync, sendable) depth 20))
 
   -- trees of keys and values
   module _ (K V : RattleType) (ks : IsSend K) (ky : IsSync K) (vs : IsSend V) (vy : IsSync V) where
     pub node : IsSync (Node.the_field K V A g).row
-    node = node_laws.both_sync-Node K V A g (λ h hs hy. search (crosses, sendable) depth 20) (λ h hs hy. search (crosses, sendable) depth 20) (search sendable) (search sendable) (search sendable) (search sendable) (search sendable) (search sendable)
+    node = node_laws.both_sync-Node K V A g (λ h hs hy. search (crosses, sendable) depth 20) (λ h hs hy. search (crosses, sendable) depth 20) (λ h hs hy. search (crosses, slot_laws.the_field_send, sendable) depth 20) (λ h hs hy. search (crosses, slot_laws.the_field_sync, sendable) depth 20) (search sendable) (search sendable)
 
     pub node_send : IsSend (Node.the_field K V A g).row
-    node_send = node_laws.both_send-Node K V A g (λ h hs hy. search (crosses, sendable) depth 20) (λ h hs hy. search (crosses, sendable) depth 20) (search sendable) (search sendable) (search sendable) (search sendable) (search sendable) (search sendable)
+    node_send = node_laws.both_send-Node K V A g (λ h hs hy. search (crosses, sendable) depth 20) (λ h hs hy. search (crosses, sendable) depth 20) (λ h hs hy. search (crosses, slot_laws.the_field_send, sendable) depth 20) (λ h hs hy. search (crosses, slot_laws.the_field_sync, sendable) depth 20) (search sendable) (search sendable)
 
     pub node_row : IsSync (Node.the_row K V A g)
     node_row = recorded_sync _ _ _ (Node.the_type K V A g).to_one node
@@ -107,40 +110,40 @@ module _ (A : RattleType) (g : Ghosts A.Denot) (s : IsSend A) (y : IsSync A) (f 
       let all = map_field Fired.the_row denote.Builtin.unit fired_laws.the_send fired_laws.the_sync (search sendable) (search sendable) in
       struct_sync (struct.shape (Firings.the_type A g)) (search (all, sendable) depth 20)
 
-  pub note : IsSync (Note.the_field A g).row
-  note = let c = change in enum_sync (enum.shape (Note.the_type A g)) (search (c, sendable) depth 20)
+  pub index_change : IsSync (IndexChange.the_field A g).row
+  index_change = let c = change in enum_sync (enum.shape (IndexChange.the_type A g)) (search (c, sendable) depth 20)
 
-  pub rows : (o : ord.Ghosts Place.the_row.Denot) (e : eq.Ghosts Place.the_row.Denot) (l : partial.Ghosts Place.the_row.Denot) → IsSync (Map.the_field Place.the_row (Row.the_row A g) A o e l g).row
-  rows o e l = map_field Place.the_row (Row.the_row A g) place_laws.the_send place_laws.the_sync row_row_send row_row o e l
+  pub rows : (o : ord.Ghosts IndexKey.the_row.Denot) (e : eq.Ghosts IndexKey.the_row.Denot) (l : partial.Ghosts IndexKey.the_row.Denot) → IsSync (Map.the_field IndexKey.the_row (Row.the_row A g) A o e l g).row
+  rows o e l = map_field IndexKey.the_row (Row.the_row A g) index_key_laws.the_send index_key_laws.the_sync row_row_send row_row o e l
 
   pub key_lists : IsSync (KeyLists.the_field A g).row
   key_lists =
-      let lists = map_field KeyPlace.the_row (IdList.the_row A g) key_place_laws.the_send key_place_laws.the_sync (id_list_laws.the_send A g s y f) (id_list_laws.the_sync A g s y f) in
+      let lists = map_field SymbolKey.the_row (IdList.the_row A g) symbol_key_laws.the_send symbol_key_laws.the_sync (id_list_laws.the_send A g s y f) (id_list_laws.the_sync A g s y f) in
       struct_sync (struct.shape (KeyLists.the_type A g)) (search (lists, sendable) depth 20)
 
-  pub noted_keys : IsSync (NotedKeys.the_field A g).row
-  noted_keys =
+  pub pending_keys : IsSync (PendingKeys.the_field A g).row
+  pending_keys =
       let keys = key_lists in
-      let notes = vec_of A g s y f KeyNote.the_row key_note_laws.the_sync in
-      struct_sync (struct.shape (NotedKeys.the_type A g)) (search (keys, notes, sendable) depth 20)
+      let pending = pending_laws.the_sync KeyChange.the_row A g key_change_laws.the_sync y in
+      struct_sync (struct.shape (PendingKeys.the_type A g)) (search (keys, pending, sendable) depth 20)
 
-  pub noted_keys_row : IsSync (NotedKeys.the_row A g)
-  noted_keys_row = recorded_sync _ _ _ (NotedKeys.the_type A g).to_one noted_keys
+  pub pending_keys_row : IsSync (PendingKeys.the_row A g)
+  pending_keys_row = recorded_sync _ _ _ (PendingKeys.the_type A g).to_one pending_keys
 
-  pub keyed : IsSync (Keyed.the_field A g).row
-  keyed = let keys : IsSync (Option.the_field (NotedKeys.the_row A g)).row = (let k = noted_keys_row in search (sendable) depth 20) in struct_sync (struct.shape (Keyed.the_type A g)) (search (keys, sendable) depth 20)
+  pub lent_keys : IsSync (LentKeys.the_field A g).row
+  lent_keys = let keys : IsSync (Option.the_field (PendingKeys.the_row A g)).row = (let k = pending_keys_row in search (sendable) depth 20) in struct_sync (struct.shape (LentKeys.the_type A g)) (search (keys, sendable) depth 20)
 
-  pub noted : IsSync (Noted.the_field A g).row
-  noted =
+  pub pending_index : IsSync (PendingIndex.the_field A g).row
+  pending_index =
       let shared_plan : IsSync (Pointer.the_field (Plan.the_row A g) A g).row = pointer_laws.the_sync (Plan.the_row A g) A g (plan_laws.the_send A g s f) s plan y f in
-      let notes = vec_of A g s y f (Note.the_row A g) (recorded_sync _ _ _ (Note.the_type A g).to_one note) in
-      struct_sync (struct.shape (Noted.the_type A g)) (search (shared_plan, rows, notes, sendable) depth 20)
+      let pending = pending_laws.the_sync (IndexChange.the_row A g) A g (recorded_sync _ _ _ (IndexChange.the_type A g).to_one index_change) y in
+      struct_sync (struct.shape (PendingIndex.the_type A g)) (search (shared_plan, rows, pending, sendable) depth 20)
 
   pub table : IsSync (Table.the_field A g).row
   table =
-      let n = noted in
-      let newest : IsSync (Option.the_field (Standing.the_row A g)).row = (let r = standing in search (sendable) depth 20) in
-      let k = keyed in
+      let n = pending_index in
+      let newest : IsSync (Option.the_field (Constraint.the_row A g)).row = (let r = constraint in search (sendable) depth 20) in
+      let k = lent_keys in
       struct_sync (struct.shape (Table.the_type A g)) (search (n, newest, k, sendable) depth 20)
 
   pub snapshot : IsSync (Snapshot.the_field A g).row
@@ -172,50 +175,50 @@ module _ (A : RattleType) (g : Ghosts A.Denot) (s : IsSend A) (y : IsSync A) (f 
   pub change_send : IsSend (Change.the_field A g).row
   change_send = let r : IsSend (Row.the_field A g).row = row_send in struct_send (struct.shape (Change.the_type A g)) (search (r, id_laws.the_field_send, sendable) depth 20)
 
-  pub standing_send : IsSend (Standing.the_row A g)
-  standing_send =
+  pub constraint_send : IsSend (Constraint.the_row A g)
+  constraint_send =
       let r : IsSend (Row.the_field A g).row = row_send in
-      recorded_send _ _ _ (Standing.the_type A g).to_one (struct_send (struct.shape (Standing.the_type A g)) (search (r, id_laws.the_field_send, sendable) depth 20))
+      recorded_send _ _ _ (Constraint.the_type A g).to_one (struct_send (struct.shape (Constraint.the_type A g)) (search (r, id_laws.the_field_send, sendable) depth 20))
 
   pub firings_send : IsSend (Firings.the_field A g).row
   firings_send =
       let all = map_field_send Fired.the_row denote.Builtin.unit fired_laws.the_send fired_laws.the_sync (search sendable) (search sendable) in
       struct_send (struct.shape (Firings.the_type A g)) (search (all, sendable) depth 20)
 
-  pub note_send : IsSend (Note.the_field A g).row
-  note_send = let c = change_send in enum_send (enum.shape (Note.the_type A g)) (search (c, sendable) depth 20)
+  pub index_change_send : IsSend (IndexChange.the_field A g).row
+  index_change_send = let c = change_send in enum_send (enum.shape (IndexChange.the_type A g)) (search (c, sendable) depth 20)
 
-  pub rows_send : (o : ord.Ghosts Place.the_row.Denot) (e : eq.Ghosts Place.the_row.Denot) (l : partial.Ghosts Place.the_row.Denot) → IsSend (Map.the_field Place.the_row (Row.the_row A g) A o e l g).row
-  rows_send o e l = map_field_send Place.the_row (Row.the_row A g) place_laws.the_send place_laws.the_sync row_row_send row_row o e l
+  pub rows_send : (o : ord.Ghosts IndexKey.the_row.Denot) (e : eq.Ghosts IndexKey.the_row.Denot) (l : partial.Ghosts IndexKey.the_row.Denot) → IsSend (Map.the_field IndexKey.the_row (Row.the_row A g) A o e l g).row
+  rows_send o e l = map_field_send IndexKey.the_row (Row.the_row A g) index_key_laws.the_send index_key_laws.the_sync row_row_send row_row o e l
 
   pub key_lists_send : IsSend (KeyLists.the_field A g).row
   key_lists_send =
-      let lists = map_field_send KeyPlace.the_row (IdList.the_row A g) key_place_laws.the_send key_place_laws.the_sync (id_list_laws.the_send A g s y f) (id_list_laws.the_sync A g s y f) in
+      let lists = map_field_send SymbolKey.the_row (IdList.the_row A g) symbol_key_laws.the_send symbol_key_laws.the_sync (id_list_laws.the_send A g s y f) (id_list_laws.the_sync A g s y f) in
       struct_send (struct.shape (KeyLists.the_type A g)) (search (lists, sendable) depth 20)
 
-  pub noted_keys_send : IsSend (NotedKeys.the_field A g).row
-  noted_keys_send =
+  pub pending_keys_send : IsSend (PendingKeys.the_field A g).row
+  pending_keys_send =
       let keys = key_lists_send in
-      let notes = vec_send KeyNote.the_row key_note_laws.the_send in
-      struct_send (struct.shape (NotedKeys.the_type A g)) (search (keys, notes, sendable) depth 20)
+      let pending = pending_laws.the_send KeyChange.the_row A g key_change_laws.the_send s f in
+      struct_send (struct.shape (PendingKeys.the_type A g)) (search (keys, pending, sendable) depth 20)
 
-  pub noted_keys_row_send : IsSend (NotedKeys.the_row A g)
-  noted_keys_row_send = recorded_send _ _ _ (NotedKeys.the_type A g).to_one noted_keys_send
+  pub pending_keys_row_send : IsSend (PendingKeys.the_row A g)
+  pending_keys_row_send = recorded_send _ _ _ (PendingKeys.the_type A g).to_one pending_keys_send
 
-  pub keyed_send : IsSend (Keyed.the_field A g).row
-  keyed_send = let keys : IsSend (Option.the_field (NotedKeys.the_row A g)).row = (let k = noted_keys_row_send in search (sendable) depth 20) in struct_send (struct.shape (Keyed.the_type A g)) (search (keys, sendable) depth 20)
+  pub lent_keys_send : IsSend (LentKeys.the_field A g).row
+  lent_keys_send = let keys : IsSend (Option.the_field (PendingKeys.the_row A g)).row = (let k = pending_keys_row_send in search (sendable) depth 20) in struct_send (struct.shape (LentKeys.the_type A g)) (search (keys, sendable) depth 20)
 
-  pub noted_send : IsSend (Noted.the_field A g).row
-  noted_send =
+  pub pending_index_send : IsSend (PendingIndex.the_field A g).row
+  pending_index_send =
       let shared_plan : IsSend (Pointer.the_field (Plan.the_row A g) A g).row = pointer_laws.the_send (Plan.the_row A g) A g (plan_laws.the_send A g s f) s plan y f in
-      let notes = vec_send (Note.the_row A g) (recorded_send _ _ _ (Note.the_type A g).to_one note_send) in
-      struct_send (struct.shape (Noted.the_type A g)) (search (shared_plan, rows_send, notes, sendable) depth 20)
+      let pending = pending_laws.the_send (IndexChange.the_row A g) A g (recorded_send _ _ _ (IndexChange.the_type A g).to_one index_change_send) s f in
+      struct_send (struct.shape (PendingIndex.the_type A g)) (search (shared_plan, rows_send, pending, sendable) depth 20)
 
   pub table_send : IsSend (Table.the_field A g).row
   table_send =
-      let n = noted_send in
-      let newest : IsSend (Option.the_field (Standing.the_row A g)).row = (let r = standing_send in search (sendable) depth 20) in
-      let k = keyed_send in
+      let n = pending_index_send in
+      let newest : IsSend (Option.the_field (Constraint.the_row A g)).row = (let r = constraint_send in search (sendable) depth 20) in
+      let k = lent_keys_send in
       struct_send (struct.shape (Table.the_type A g)) (search (n, newest, k, sendable) depth 20)
 
   pub snapshot_send : IsSend (Snapshot.the_field A g).row

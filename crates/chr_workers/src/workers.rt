@@ -6,7 +6,7 @@ ghost use Rattle.chr_rules.specs.ProgramView.{rules_of};
 
 use chr_board::{Board, Gate, Tally, work};
 use chr_rules::Program;
-use chr_shelf::{Run as Name, Shelf};
+use chr_shelf::{RunName, Shelf};
 use std::alloc::Allocator;
 use std::sync::Wait;
 use std::thread;
@@ -34,7 +34,7 @@ fn sum(one: Tally, other: Tally) -> Tally {
 /// Has workers answer tasks, until the board is closed. A worker that cannot start is left out.
 fn work_all<
     'x,
-    J: Name + Send + Sync,
+    J: RunName + Send + Sync,
     A: Allocator + Copy + Send + Sync,
     G: Gate,
     R: Threads + Wait + Sync,
@@ -85,7 +85,7 @@ fn work_all<
 /// Calls a run, in this thread, beside workers, and answers what it answers and what the workers did. The run has to close the
 /// board. Where no thread can be started, there is no worker.
 pub fn beside<
-    J: Name + Send + Sync,
+    J: RunName + Send + Sync,
     A: Allocator + Copy + Send + Sync,
     G: Gate,
     R: Threads + Wait + Sync,

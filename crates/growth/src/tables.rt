@@ -103,8 +103,10 @@ fn search_all(
     for k in 0..pairs.count {
         let active = Active::at(program, occurrence, Id(pairs.first.saturating_add(k)));
         table.settle_for(active.id)?;
-        if table.first(&active, &history, &mut tries)?.is_some() {
-            count = count.saturating_add(1);
+        if let Some(own) = table.row(active.id) {
+            if table.first(&active, own, &history, &mut tries)?.is_some() {
+                count = count.saturating_add(1);
+            }
         }
     }
     Ok(count)
@@ -132,7 +134,11 @@ fn fire_all(
     let mut tries = 0;
     for _ in 0..u64::MAX {
         table.settle_for(active.id)?;
-        let found = match table.next(&active, &history, &cursor, &mut tries)? {
+        let own = match table.row(active.id) {
+            None => return Ok(count),
+            Some(own) => own,
+        };
+        let found = match table.next(&active, own, &history, &cursor, &mut tries)? {
             None => return Ok(count),
             Some(found) => found,
         };

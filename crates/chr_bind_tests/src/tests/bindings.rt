@@ -88,12 +88,13 @@ enum Call {
     Unify,
 }
 
-/// Whether the call over the variables X, Y and Z, of which Y is X, with f(Y), answers as it should: f(Y) stands for f(X).
+/// Whether the call over the variables X, Y and Z, of which Y is X, with f(Y), answers as it should: f(Y) stands for f(X). The arguments of f(Z)
+/// and f(Y) are unified by lists, which take memory.
 fn answers<A: Allocator + Copy>(
     rt: &impl Abort,
     call: Call,
     bindings: &mut Bindings<A>,
-    (term, wanted): (&Term<A>, &Term<A>),
+    (term, wanted, other): (&Term<A>, &Term<A>, &Term<A>),
 ) -> bool {
     match call {
         Call::Room => bindings.room(1000).is_ok(),
@@ -102,8 +103,8 @@ fn answers<A: Allocator + Copy>(
             .resolve(term)
             .is_ok_and(|resolved| same(&resolved, wanted)),
         Call::Unify => {
-            let is_bound = unify(rt, bindings, &Term::Var(2), term) == Ok(Unified::Bound);
-            is_bound && bindings.resolves_to(&Term::Var(2), wanted)
+            let is_bound = unify(rt, bindings, other, term) == Ok(Unified::Bound);
+            is_bound && bindings.resolves_to(other, wanted)
         }
     }
 }
@@ -116,7 +117,7 @@ fn is_through<M: Allocator + Copy>(
     meter: &Refusing<Global>,
     call: Call,
     bindings: &mut Bindings<M>,
-    terms: (&Term<M>, &Term<M>),
+    terms: (&Term<M>, &Term<M>, &Term<M>),
     left: u64,
 ) -> bool {
     meter.allow(left);
@@ -158,7 +159,9 @@ fn is_called<M: Allocator + Copy>(
     unify(rt, &mut bindings, &Term::Var(0), &Term::Var(1))?;
     let term = Term::node(alloc, F, one(alloc, Term::Var(1))?)?;
     let wanted = Term::node(alloc, F, one(alloc, Term::Var(0))?)?;
-    Ok(is_through(rt, meter, call, &mut bindings, (&term, &wanted), left))
+    let other = Term::node(alloc, F, one(alloc, Term::Var(2))?)?;
+    let terms = (&term, &wanted, &other);
+    Ok(is_through(rt, meter, call, &mut bindings, terms, left))
 }
 
 #[test]

@@ -29,7 +29,7 @@ fn assert_tasks(rt: &impl Abort, tasks: &[Task]) {
 }
 
 /// Puts the snapshot on the shelf. After a refusal it comes back.
-fn put<J: Run, A: Allocator + Copy>(
+fn put<J: RunName, A: Allocator + Copy>(
     rt: &(impl Abort + Wait),
     scene: &Scene<'_, A>,
     shelf: &Shelf<A>,
@@ -52,7 +52,7 @@ fn put<J: Run, A: Allocator + Copy>(
 }
 
 /// A ticket, and one that is asked for by its place, show the tasks.
-fn assert_seen<J: Run, A: Allocator + Copy>(
+fn assert_seen<J: RunName, A: Allocator + Copy>(
     rt: &impl Abort,
     shelf: &Shelf<A>,
     ticket: &Ticket<J, A>,
@@ -67,7 +67,7 @@ fn assert_seen<J: Run, A: Allocator + Copy>(
 }
 
 /// Solves the task of a slip. After a refusal the ticket comes back.
-fn answer_to<J: Run, A: Allocator + Copy>(
+fn answer_to<J: RunName, A: Allocator + Copy>(
     rt: &impl Abort,
     scene: &Scene<'_, A>,
     program: &Program<A>,
@@ -97,7 +97,7 @@ fn answer_to<J: Run, A: Allocator + Copy>(
 }
 
 /// The first task finds 2, 1, 3; there is no fourth one, and the ticket comes back.
-fn assert_solved<J: Run, A: Allocator + Copy>(
+fn assert_solved<J: RunName, A: Allocator + Copy>(
     rt: &impl Abort,
     program: &Program<A>,
     shelf: &Shelf<A>,
@@ -127,7 +127,7 @@ fn assert_solved<J: Run, A: Allocator + Copy>(
 }
 
 /// Offers two tasks.
-fn offer<J: Run, A: Allocator + Copy>(
+fn offer<J: RunName, A: Allocator + Copy>(
     rt: &(impl Abort + Wait),
     scene: &Scene<'_, A>,
     board: &Board<J, A>,
@@ -146,7 +146,7 @@ fn offer<J: Run, A: Allocator + Copy>(
 }
 
 /// Drains the answer to the first task into a list with no room.
-fn drain<J: Run, A: Allocator + Copy>(
+fn drain<J: RunName, A: Allocator + Copy>(
     rt: &(impl Abort + Wait),
     scene: &Scene<'_, A>,
     board: &Board<J, A>,
@@ -167,7 +167,7 @@ fn drain<J: Run, A: Allocator + Copy>(
 }
 
 /// Takes the task with that index.
-fn take<J: Run, A: Allocator + Copy>(
+fn take<J: RunName, A: Allocator + Copy>(
     rt: &(impl Abort + Wait),
     board: &Board<J, A>,
     place: usize,
@@ -181,7 +181,7 @@ fn take<J: Run, A: Allocator + Copy>(
 }
 
 /// A closed board gives no task and takes none in. One task was answered, and one given up.
-fn assert_closed<J: Run, A: Allocator + Copy>(
+fn assert_closed<J: RunName, A: Allocator + Copy>(
     rt: &(impl Abort + Wait),
     board: &Board<J, A>,
     place: usize,
@@ -204,7 +204,7 @@ fn assert_closed<J: Run, A: Allocator + Copy>(
 }
 
 /// The calls, from a snapshot on.
-fn play_named<J: Run, A: Allocator + Copy>(
+fn play_named<J: RunName, A: Allocator + Copy>(
     rt: &(impl Abort + Wait),
     scene: &Scene<'_, A>,
     program: &Program<A>,

@@ -13,13 +13,13 @@ const CLOSED_AT: u64 = 3;
 
 /// Drains and closes a board while a worker is at its tasks.
 #[derive(Drop)]
-struct Draining<'b, J: Run, A: Allocator, R> {
+struct Draining<'b, J: RunName, A: Allocator, R> {
     rt: &'b R,
     alloc: A,
     board: &'b Board<J, A>,
 }
 
-impl<J: Run + Send + Sync, A: Allocator + Copy + Send + Sync, R: Abort + Wait + Sync> Gate
+impl<J: RunName + Send + Sync, A: Allocator + Copy + Send + Sync, R: Abort + Wait + Sync> Gate
     for Draining<'_, J, A, R> {
     fn at(&self, point: Point) {
         match point {
@@ -34,7 +34,7 @@ impl<J: Run + Send + Sync, A: Allocator + Copy + Send + Sync, R: Abort + Wait + 
 }
 
 /// The first task is offered three times. The worker gives it up where its answer waits to be drained, and searches for it again afterwards.
-fn play_named<J: Run + Send + Sync, A: Allocator + Copy + Send + Sync, R: Abort + Wait + Sync>(
+fn play_named<J: RunName + Send + Sync, A: Allocator + Copy + Send + Sync, R: Abort + Wait + Sync>(
     rt: &R,
     alloc: A,
     program: &Program<A>,

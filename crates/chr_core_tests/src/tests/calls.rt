@@ -6,16 +6,16 @@ ghost use Rattle.chr_rules.specs.RuleView.{query_view};
 
 use super::*;
 use chr_find::Snapshot;
-use chr_shelf::{Answer, Run, Shelf, solve};
+use chr_shelf::{Answer, RunName, Shelf, solve};
 use std::marker::Brand;
 
 /// What a core shows: its counts, its transitions, and the number of its events.
-fn shown<J: Run, A: Allocator + Copy>(core: &Core<'_, J, A>) -> (Counts, u64, usize) {
+fn shown<J: RunName, A: Allocator + Copy>(core: &Core<'_, J, A>) -> (Counts, u64, usize) {
     (core.counts(), core.machine().steps(), core.events().len())
 }
 
 /// So many transitions. After a refusal all is as before, and the transition is made with memory.
-fn move_on<J: Run, A: Allocator + Copy>(
+fn move_on<J: RunName, A: Allocator + Copy>(
     rt: &impl Abort,
     scene: &Scene<'_, A>,
     core: &mut Core<'_, J, A>,
@@ -36,7 +36,7 @@ fn move_on<J: Run, A: Allocator + Copy>(
 }
 
 /// A round of three tasks. Its place on the shelf.
-fn publish<J: Run, A: Allocator + Copy>(
+fn publish<J: RunName, A: Allocator + Copy>(
     rt: &(impl Abort + Wait),
     scene: &Scene<'_, A>,
     shelf: &Shelf<A>,
@@ -59,7 +59,7 @@ fn publish<J: Run, A: Allocator + Copy>(
 }
 
 /// The answer to a task of the snapshot at a place of the shelf.
-fn solved<J: Run, A: Allocator + Copy>(
+fn solved<J: RunName, A: Allocator + Copy>(
     rt: &impl Abort,
     program: &Program<A>,
     shelf: &Shelf<A>,
@@ -76,7 +76,7 @@ fn solved<J: Run, A: Allocator + Copy>(
 }
 
 /// An answer arrives and comes to this. After a refusal it comes back, and arrives with memory.
-fn arrive<J: Run, A: Allocator + Copy>(
+fn arrive<J: RunName, A: Allocator + Copy>(
     rt: &impl Abort,
     scene: &Scene<'_, A>,
     shelf: &Shelf<A>,
@@ -104,7 +104,7 @@ fn arrive<J: Run, A: Allocator + Copy>(
 }
 
 /// `core_calls`, and the rest of the run with the answer.
-fn play<J: Run, A: Allocator + Copy>(
+fn play<J: RunName, A: Allocator + Copy>(
     rt: &(impl Abort + Wait),
     scene: &Scene<'_, A>,
     program: &Program<A>,
@@ -129,7 +129,7 @@ fn play<J: Run, A: Allocator + Copy>(
 }
 
 /// The growths of the step after a round, to whose first task an answer came or not.
-fn growths_of_step<J: Run, A: Allocator + Copy>(
+fn growths_of_step<J: RunName, A: Allocator + Copy>(
     rt: &(impl Abort + Wait),
     scene: &Scene<'_, A>,
     program: &Program<A>,
@@ -152,7 +152,7 @@ fn growths_of_step<J: Run, A: Allocator + Copy>(
 }
 
 /// The answer to a snapshot that the core did not publish changes nothing.
-fn assert_stranger<J: Run, A: Allocator + Copy>(
+fn assert_stranger<J: RunName, A: Allocator + Copy>(
     rt: &(impl Abort + Wait),
     scene: &Scene<'_, A>,
     program: &Program<A>,
@@ -177,7 +177,7 @@ fn assert_stranger<J: Run, A: Allocator + Copy>(
 }
 
 /// Publishes as often as a core does, and once more.
-fn fill<J: Run, A: Allocator + Copy>(
+fn fill<J: RunName, A: Allocator + Copy>(
     rt: &(impl Abort + Wait),
     shelf: &Shelf<A>,
     core: &mut Core<'_, J, A>,
@@ -204,7 +204,7 @@ enum Asked<A: Allocator> {
 }
 
 /// Asks it of a core. The growths, where they are asked for.
-fn answer_to<J: Run, A: Allocator + Copy>(
+fn answer_to<J: RunName, A: Allocator + Copy>(
     rt: &(impl Abort + Wait),
     scene: &Scene<'_, A>,
     program: &Program<A>,
@@ -227,7 +227,7 @@ fn answer_to<J: Run, A: Allocator + Copy>(
 }
 
 /// A core at its start. After a refusal it is made again.
-fn started<'p, J: Run, A: Allocator + Copy>(
+fn started<'p, J: RunName, A: Allocator + Copy>(
     rt: &impl Abort,
     scene: &Scene<'_, A>,
     program: &'p Program<A>,
@@ -248,7 +248,7 @@ fn started<'p, J: Run, A: Allocator + Copy>(
 }
 
 /// Asks it of a new core.
-fn ask_named<J: Run, A: Allocator + Copy>(
+fn ask_named<J: RunName, A: Allocator + Copy>(
     rt: &(impl Abort + Wait),
     scene: &Scene<'_, A>,
     program: &Program<A>,

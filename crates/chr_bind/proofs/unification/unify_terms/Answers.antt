@@ -1,22 +1,34 @@
-use Rattle.std.proofs.Common.{Ok, ◌++◌, ◌∙◌, ap, subst, sym}
+use Rattle.std.proofs.Common.{[], false, true, ◌≡◌, ◌∙◌, subst, sym}
+use Rattle.chr_semantics.specs.Subst.{apply, occurs}
 use Rattle.chr_term.specs.TermView.{view}
-use Rattle.chr_bind.specs.Agenda.{Eliminates}
-use Rattle.chr_bind.specs.Chains.{IsSound, owned_pairs, links_before}
-use Rattle.chr_bind.proofs.Eliminations.{elimination_none, elimination_unifier}
+use Rattle.chr_bind.specs.Agenda.{IsRootComparison}
+use Rattle.chr_bind.specs.Chains.{pairs_in, solution}
+use Rattle.chr_bind.specs.declared.unification.Binding.{Binding}
+use Rattle.chr_bind.specs.declared.unification.RootComparison.TheVariants.{Bind, Clash, Same}
+use Rattle.chr_bind.proofs.Eliminations.{apart_roots, bound_root, same_roots, within_root}
 use Rattle.chr_bind.proofs.unification.unify_terms.Goals as goal
 
-pub returns-in_ok-keep-in-Ok-true-clause-unified : goal.returns-in_ok-keep-in-Ok-true-clause-unified
-returns-in_ok-keep-in-Ok-true-clause-unified g c =
-    let kept = c.in_ok-keep-in-Ok-true.ensures.kept in
-    let owned = c.in_ok-keep-in-Ok-true.ensures.pairs in
-    let added = subst (Eliminates _ _ _ _ _) c.in-Ok-true.field-0-test c.in-Ok-true.ensures.added in
-    let sound = subst (IsSound c.make_equal.new.links) (ap (λ es. owned_pairs c.args.made.now ++ es) (sym owned)) (c.make_equal.ensures.sound (c.in-Ok-true.is ∙ ap Ok c.in-Ok-true.field-0-test)) in (
-      subst (λ ls. IsSound ls (owned_pairs c.args.made.now ++ owned_pairs c.in_ok-keep-in-Ok-true.field-0.pairs.items)) (sym kept) sound,
-      elimination_unifier c.args.links.now c.args.made.now c.new.result.items c.make_equal.new.progress.added.items (view c.args.left.now) (view c.args.right.now) _ c.new.ensures.items c.requires.sound added owned,
-      ap (λ es. links_before es c.keep.new.links) c.in_ok-keep-in-Ok-true.ensures.before ∙ ap (links_before c.make_equal.new.progress.before.items) kept ∙ c.make_equal.ensures.undone ∙ ap (λ es. links_before es c.args.links.now) c.new-2.ensures.items,
-    )
+pub returns-in-Same-clause-unified : goal.returns-in-Same-clause-unified
+returns-in-Same-clause-unified g c =
+    same_roots c.args.links.now c.args.made.now.items (view c.args.left.now) (view c.args.right.now) c.requires.sound.solved
+    (subst (λ es. IsRootComparison {A = g.row.A.Denot} c.args.links.now (solution (pairs_in es [])) (view c.args.left.now) (view c.args.right.now) Same) c.as_slice.ensures.value c.in-Same.ensures)
 
-pub returns-in-Ok-false-clause-unified : goal.returns-in-Ok-false-clause-unified
-returns-in-Ok-false-clause-unified g c =
-    let added = subst (Eliminates _ _ _ _ _) c.in-Ok-false.field-0-test c.in-Ok-false.ensures.added in
-    (elimination_none c.args.made.now c.new.result.items c.make_equal.new.progress.added.items (view c.args.left.now) (view c.args.right.now) c.new.ensures.items added, c.undo.ensures ∙ c.make_equal.ensures.undone ∙ ap (λ es. links_before es c.args.links.now) c.new-2.ensures.items)
+pub returns-in-Clash-clause-unified : goal.returns-in-Clash-clause-unified
+returns-in-Clash-clause-unified g c =
+    apart_roots c.args.links.now c.args.made.now.items (view c.args.left.now) (view c.args.right.now) c.requires.sound.solved
+    (subst (λ es. IsRootComparison {A = g.row.A.Denot} c.args.links.now (solution (pairs_in es [])) (view c.args.left.now) (view c.args.right.now) Clash) c.as_slice.ensures.value c.in-Clash.ensures)
+
+pub returns-then-occurs-clause-unified : goal.returns-then-occurs-clause-unified
+returns-then-occurs-clause-unified g c =
+    let d : Binding g.row.A.Denot = c.in-Bind.field-0 in
+    within_root c.args.links.now c.args.made.now.items (view c.args.left.now) (view c.args.right.now) c.requires.sound.solved d
+    (subst (λ es. IsRootComparison {A = g.row.A.Denot} c.args.links.now (solution (pairs_in es [])) (view c.args.left.now) (view c.args.right.now) (Bind d)) c.as_slice.ensures.value c.in-Bind.ensures)
+    (subst (λ es. occurs d.name (apply (solution (pairs_in es [])) (view d.term.now)) ≡ true) c.as_slice.ensures.value (sym c.occurs.ensures ∙ c.if-occurs.true))
+
+pub returns-in_ok-bind_alone-in-Bind-clause-unified : goal.returns-in_ok-bind_alone-in-Bind-clause-unified
+returns-in_ok-bind_alone-in-Bind-clause-unified g c =
+    let d : Binding g.row.A.Denot = c.in-Bind.field-0 in
+    bound_root c.args.links.now c.args.made.now.items (view c.args.left.now) (view c.args.right.now) c.requires.sound.solved d
+    (subst (λ es. IsRootComparison {A = g.row.A.Denot} c.args.links.now (solution (pairs_in es [])) (view c.args.left.now) (view c.args.right.now) (Bind d)) c.as_slice.ensures.value c.in-Bind.ensures)
+    c.bind_alone.new.made.items _ c.in_ok-term-in-Bind.ensures c.in_ok-bind_alone-in-Bind.ensures.made
+    (subst (λ es. occurs d.name (apply (solution (pairs_in es [])) (view d.term.now)) ≡ false) c.as_slice.ensures.value (sym c.occurs.ensures ∙ c.if-occurs.false))

@@ -20,14 +20,14 @@ pub returns-in_err-replay_all-clause-err : goal.returns-in_err-replay_all-clause
 returns-in_err-replay_all-clause-err g c =
     let e = c.in_err-replay_all.field-0.0 in
     let all = events_view c.args.events.now in
-    let same : first_refusal g.J.Run.rules (start (query_view c.in_ok-core.core.query)) no_progress 0 all ≡ first_refusal (rules_of c.args.program.now) (start (query_view c.args.query)) no_progress 0 all =
+    let same : first_refusal g.J.RunName.rules (start (query_view c.in_ok-core.core.query)) no_progress 0 all ≡ first_refusal (rules_of c.args.program.now) (start (query_view c.args.query)) no_progress 0 all =
     λ k. first_refusal (sym c.requires.run.rules k) (start (c.in_ok-core.ensures.query k)) no_progress 0 all in
     err_answers c.from_residual-in_err-replay_all.result e (IsRefusal (first_refusal (rules_of c.args.program.now) (start (query_view c.args.query)) no_progress 0 all)) c.from_residual-in_err-replay_all.ensures.1
     (subst (λ (o : Option Refusal). IsRefusal o e) same c.in_err-replay_all.ensures.err)
 
 pub returns-clause-ok : goal.returns-clause-ok
 returns-clause-ok g c =
-    let p = g.J.Run.rules in
+    let p = g.J.RunName.rules in
     let r = query_view c.args.query in
     let all = events_view c.args.events.now in
     let rules = c.requires.run.rules in

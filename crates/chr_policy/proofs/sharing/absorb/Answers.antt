@@ -9,7 +9,7 @@ use Rattle.chr_policy.proofs.sharing.absorb.Goals as goal
 
 pub loop-answer-preserved : goal.loop-answer-preserved
 loop-answer-preserved g c =
-    let p = g.J.Run.rules in
+    let p = g.J.RunName.rules in
     let old = c.args.core.now in
     let core = c.loop-answer.core in
     let es = events_of core in

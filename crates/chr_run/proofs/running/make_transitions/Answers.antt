@@ -28,7 +28,7 @@ returns-in_err-sent g c =
     let was = c.loop-transitions.invariant.steps in
     let within = c.loop-transitions.invariant.within in
     let e = c.in_err-sent.field-0.0 in
-    answered (Turns {G = g.J.Run} c.args.budget c.args.coordinator.now c.loop-transitions.coordinator old new) c.from_residual.result e c.from_residual.ensures.1
+    answered (Turns {G = g.J.RunName} c.args.budget c.args.coordinator.now c.loop-transitions.coordinator old new) c.from_residual.result e c.from_residual.ensures.1
     (record {
       same = c.loop-transitions.invariant.same;
       through = tt;
@@ -94,7 +94,7 @@ returns g c =
     let sent = c.loop-transitions-test.sent in
     let was = c.loop-transitions.invariant.steps in
     let within = c.loop-transitions.invariant.within in
-    let done : IsDone {G = g.J.Run} n old before k mid sent = elim c.loop-transitions-test.branch [
+    let done : IsDone {G = g.J.RunName} n old before k mid sent = elim c.loop-transitions-test.branch [
       | else-loop-transitions-test w ↦
           let over = w.loop-transitions-test.false in
           done_same g.O.Outlet.known n old before k _ c.loop-transitions-test.outlet _ sent _ w.coordinator-is w.outlet-is w.sent-is

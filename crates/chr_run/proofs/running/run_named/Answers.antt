@@ -31,7 +31,7 @@ returns-in-Err g c =
     let at = c.in-Ok.ensures in
     let went = c.turns_beside-ended.ensures in
     let part = rw c.in-Err.is at went.part in
-    let out = sent_part {G = g.J.Run} c.turns_beside-ended.new.coordinator n names query (went.same.names_are ∙ at.names) (went.same.query_is ∙ at.query) old new part in
+    let out = sent_part {G = g.J.RunName} c.turns_beside-ended.new.coordinator n names query (went.same.names_are ∙ at.names) (went.same.query_is ∙ at.query) old new part in
     subst (λ (p : Program). AppendsLess old new (text names p query n)) (sym c.requires.rules) out
 
 pub returns : goal.returns
@@ -51,6 +51,6 @@ returns g c =
     let rests = rw c.in-Ok-ended.is at went.rests in
     let text_out = rw c.in-Ok-ended.is at went.text in
     let k = c.turns_beside-ended.new.coordinator in
-    let out = sent_whole {G = g.J.Run} k n names query names_are query_is old new through text_out in
-    let run = is_run {G = g.J.Run} k n through names query workers c.finish.result c.with_workers.result names_are query_is (went.same.workers_are ∙ at.workers) job.limits.allowed rests c.finish.ensures c.with_workers.ensures in
+    let out = sent_whole {G = g.J.RunName} k n names query names_are query_is old new through text_out in
+    let run = is_run {G = g.J.RunName} k n through names query workers c.finish.result c.with_workers.result names_are query_is (went.same.workers_are ∙ at.workers) job.limits.allowed rests c.finish.ensures c.with_workers.ensures in
     subst (λ (p : Program). Appends old new (text names p query n) × IsRun names p query n workers c.with_workers.result) (sym c.requires.rules) (out, run)

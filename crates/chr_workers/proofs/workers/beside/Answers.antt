@@ -21,6 +21,6 @@ join_mut-made-requires-send-F g c κs within =
     let frees = c.type_bounds.frees-A-Allocator in
     let program : IsSync (Program.the_row (copied 1 g.row.A) g.A.Allocator) = program_row (copied 1 g.row.A) g.A.Allocator send_alloc alloc frees in
     let shelf_row : IsSync (Shelf.the_row (copied 1 g.row.A) g.A.Allocator) = shelf (copied 1 g.row.A) g.A.Allocator send_alloc alloc frees in
-    let board : IsSync (Board.the_row (param 0 g.row.J) (copied 1 g.row.A) g.J.Run g.A.Allocator) = search (board_laws.the_sync, sendable) depth 20 in
+    let board : IsSync (Board.the_row (param 0 g.row.J) (copied 1 g.row.A) g.J.RunName g.A.Allocator) = search (board_laws.the_sync, sendable) depth 20 in
     let many : IsSend u32 = search sendable in
     param_send 1 _ (arg_send _ no _ (seven_send _ _ _ _ _ _ _ _ (shr_send _ _ _ rt) send_alloc (shr_send _ _ _ program) (shr_send _ _ _ shelf_row) (shr_send _ _ _ board) (shr_send _ _ _ gate) many))

@@ -28,7 +28,7 @@ pub same-shared : goal.same-shared
 same-shared g c = refl
 
 pub add-requires : goal.add-requires
-add-requires g c = c.requires
+add-requires g c = c.requires.few
 
 pub invariant_of-self-in-Err-1 : goal.invariant_of-self-in-Err-1
 invariant_of-self-in-Err-1 g c =
@@ -56,7 +56,7 @@ invariant_of-self-in-Ok g c =
     let b = c.args.self.now in
     let a = atom_over c.args.sym c.args.args.now in
     let next = (store_view b.store).next_id in
-    let row : row_atom c.in_ok-row.row ≡ resolved_atom b.bindings.subst a = c.in_ok-row.ensures in
+    let row : row_atom c.args.row ≡ resolved_atom b.bindings.subst a = c.requires.resolved in
     let more = c.in-Ok.ensures.ok ∙ ap (λ ts. added (store_view b.store) (record { sym = c.args.sym.0; args = ts })) c.in_ok-shared.ensures in
     let same : (i : ℕ) → atom_at c.add-in-Ok.new.self i ≡ atoms_with (atom_at b.table) next (Some (resolved_atom b.bindings.subst a)) i = λ i.
     c.add-in-Ok.ensures.atoms i ∙ (λ k. atoms_with (λ j. c.room.ensures.same j k) (c.in-Ok.ensures.id k) (Some (row k)) i)

@@ -1,7 +1,7 @@
 use Rattle.std.proofs.Common.{◌∙◌}
 use Rattle.chr_store.specs.HistoryView.{entries_view}
 use Rattle.chr_store.specs.StoreView.{store_view}
-use Rattle.chr_find.specs.NotedFiringsView.{noted_in}
+use Rattle.chr_find.specs.PendingFiringsView.{noted_in}
 use Rattle.chr_base.proofs.Lent.{lends_these, lent_begun}
 use Rattle.chr_base.proofs.base.Base.keep_firings.Goals as goal
 

@@ -2,7 +2,7 @@ use Rattle.std.proofs.Common.{ap, option_map, refl, subst, sym, ◌∙◌, ◌�
 use Rattle.std.proofs.lemmas.Result.{IfOk-weaker}
 use Rattle.chr_semantics.specs.Snapshot.{snapshot_for}
 use Rattle.chr_store.specs.Rows.{row_atom}
-use Rattle.chr_find.specs.NotedFiringsView.{noted_in}
+use Rattle.chr_find.specs.PendingFiringsView.{noted_in}
 use Rattle.chr_find.specs.SnapshotView.{IsTaken, told_view, tasks_view}
 use Rattle.chr_base.specs.Agreement.{under}
 use Rattle.chr_base.specs.Sharing.{AreKept}

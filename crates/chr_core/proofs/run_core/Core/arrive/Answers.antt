@@ -39,7 +39,7 @@ pub returns-in-Some-clause-took : goal.returns-in-Some-clause-took
 returns-in-Some-clause-took g c =
     let old = c.args.self.now in
     let q = start (query_view old.query) in
-    let h = progress g.J.Run.rules q (events_view old.events.items) in
+    let h = progress g.J.RunName.rules q (events_view old.events.items) in
     let i = c.in-Some.round in
     let x = c.args.answer.index in
     let place = place_of c.args.answer.ticket in
@@ -50,7 +50,7 @@ returns-in-Some-clause-took g c =
 pub returns-in-Some-clause-allowed : goal.returns-in-Some-clause-allowed
 returns-in-Some-clause-allowed g c =
     let old = c.args.self.now in
-    let p = g.J.Run.rules in
+    let p = g.J.RunName.rules in
     let r = query_view old.query in
     let h = progress p (start r) (events_view old.events.items) in
     let i = c.in-Some.round in

@@ -15,7 +15,7 @@ use Rattle.chr_core.proofs.run_core.Core.check_arrival.Goals as goal
 pub returns-then-arrival-len-clause-ok : goal.returns-then-arrival-len-clause-ok
 returns-then-arrival-len-clause-ok g c =
     let old = c.args.self.now in
-    let p = g.J.Run.rules in
+    let p = g.J.RunName.rules in
     let q = start (query_view old.query) in
     let i = c.args.arrival.round in
     let d = round_view c.in-Some.round.now in
@@ -27,7 +27,7 @@ returns-then-arrival-len-clause-ok g c =
 pub returns-else-arrival-len-clause-err : goal.returns-else-arrival-len-clause-err
 returns-else-arrival-len-clause-err g c =
     let old = c.args.self.now in
-    let p = g.J.Run.rules in
+    let p = g.J.RunName.rules in
     let q = start (query_view old.query) in
     let i = c.args.arrival.round in
     let d = round_view c.in-Some.round.now in

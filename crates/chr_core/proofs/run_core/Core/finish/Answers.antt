@@ -13,7 +13,7 @@ use Rattle.chr_core.proofs.run_core.Core.finish.Goals as goal
 pub returns-clause-outcome : goal.returns-clause-outcome
 returns-clause-outcome g c =
     let core = c.args.self in
-    let p = g.J.Run.rules in
+    let p = g.J.RunName.rules in
     let r = query_view core.query in
     let q = start r in
     let m = machine_view core.machine in

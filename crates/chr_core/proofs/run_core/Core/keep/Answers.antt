@@ -32,12 +32,12 @@ keep-requires g c =
     let lt = subst (λ (n : ℕ). i < n) (length-map (rounds_view rounds) (λ (x : Round). x.at) ∙ length-map rounds round_view) c.requires.there.0 in
     let there = slice_get-map round_view rounds i ∙ ap (option_map round_view) (slice_get_read rounds (length rounds) i d refl lt c.index_mut.ensures.value) in
     subst (λ (x : ℕ). x < length d.is_kept.items) (sym c.index-index.ensures)
-    (flag_within g.J.Run.rules (rise_by_calls g.J.Run.rules) (start (query_view old.query)) (rounds_view rounds) old.stands.holds.are_rounds i (round_view d) there (answered i c.args.answer.now) refl c.requires.there)
+    (flag_within g.J.RunName.rules (rise_by_calls g.J.RunName.rules) (start (query_view old.query)) (rounds_view rounds) old.stands.holds.are_rounds i (round_view d) there (answered i c.args.answer.now) refl c.requires.there)
 
 pub invariant_of-self : goal.invariant_of-self
 invariant_of-self g c =
     let old = c.args.self.now in
-    let p = g.J.Run.rules in
+    let p = g.J.RunName.rules in
     let q = start (query_view old.query) in
     let rounds = old.rounds.items in
     let i = c.args.round in

@@ -10,7 +10,7 @@ use Rattle.chr_core.proofs.run_core.Core.keep_found.Goals as goal
 
 pub keep-requires : goal.keep-requires
 keep-requires g c =
-    let p = g.J.Run.rules in
+    let p = g.J.RunName.rules in
     let new = c.room_for_answer.new.self in
     let made = c.in_default.ensures in
     let i = c.args.round in

@@ -17,7 +17,7 @@ use Rattle.chr_core.proofs.run_core.Core.new.Goals as goal
 
 pub invariant_of-result : goal.invariant_of-result
 invariant_of-result g c =
-    let p = g.J.Run.rules in
+    let p = g.J.RunName.rules in
     let m = machine_view c.in_ok-start.field-0 in
     let r = query_view c.in_ok-copied.copied in
     let s = c.in_ok-start.ensures in

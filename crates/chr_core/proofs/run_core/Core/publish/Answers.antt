@@ -38,7 +38,7 @@ push_round-requires-clause-round g c =
 pub returns-in-Ok-clause-tasks : goal.returns-in-Ok-clause-tasks
 returns-in-Ok-clause-tasks g c =
     let old = c.args.self.now in
-    let p = g.J.Run.rules in
+    let p = g.J.RunName.rules in
     let q = start (query_view old.query) in
     let m = machine_view c.room_for_round.new.self.machine in
     let rules = c.room_for_round.new.self.at.run.same.rules in
@@ -50,12 +50,12 @@ returns-in-Ok-clause-tasks g c =
 pub returns-in_err-round-clause-why : goal.returns-in_err-round-clause-why
 returns-in_err-round-clause-why g c =
     let old = c.args.self.now in
-    let rounds = (progress g.J.Run.rules (start (query_view old.query)) (events_view old.events.items)).rounds in
+    let rounds = (progress g.J.RunName.rules (start (query_view old.query)) (events_view old.events.items)).rounds in
     err_answers c.from_residual-in_err-round.result OutOfMemory (λ error. is_full error ≡ nat_le MAX_ROUNDS (length rounds)) c.from_residual-in_err-round.ensures.1
     (fewer_made old.rounds.items rounds old.stands.holds.ats_are (omega (arith, c.len.ensures, c.if-len-ge-MAX_ROUNDS.false)))
 
 pub returns-in-Err-clause-why : goal.returns-in-Err-clause-why
 returns-in-Err-clause-why g c =
     let old = c.args.self.now in
-    let rounds = (progress g.J.Run.rules (start (query_view old.query)) (events_view old.events.items)).rounds in
+    let rounds = (progress g.J.RunName.rules (start (query_view old.query)) (events_view old.events.items)).rounds in
     fewer_made old.rounds.items rounds old.stands.holds.ats_are (omega (arith, c.len.ensures, c.if-len-ge-MAX_ROUNDS.false))

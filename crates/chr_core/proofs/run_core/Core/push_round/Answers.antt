@@ -25,7 +25,7 @@ use Rattle.chr_core.proofs.run_core.Core.push_round.Goals as goal
 pub invariant_of-self : goal.invariant_of-self
 invariant_of-self g c =
     let old = c.args.self.now in
-    let p = g.J.Run.rules in
+    let p = g.J.RunName.rules in
     let r = query_view old.query in
     let m = machine_view old.machine in
     let d = round_view c.args.round in

@@ -8,5 +8,5 @@ use Rattle.chr_core.proofs.run_core.Core.replay_all.Given as goal
 abbrev pub invariant-loop-place : goal.invariant-loop-place
 invariant-loop-place g l = record {
   same : IsSameQuery l.initial.self l.self;
-  replayed : HasReplayed g.J.Run.rules (query_view l.initial.self.query) (take l.place (events_view l.events)) (events_view l.self.events.items) l.steps;
+  replayed : HasReplayed g.J.RunName.rules (query_view l.initial.self.query) (take l.place (events_view l.events)) (events_view l.self.events.items) l.steps;
 }

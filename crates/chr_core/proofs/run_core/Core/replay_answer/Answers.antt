@@ -14,7 +14,7 @@ use Rattle.chr_core.proofs.run_core.Core.replay_answer.Goals as goal
 pub keep_found-requires : goal.keep_found-requires
 keep_found-requires g c =
     let old = c.args.self.now in
-    let p = g.J.Run.rules in
+    let p = g.J.RunName.rules in
     let q = start (query_view old.query) in
     let i = c.args.arrival.round in
     let lt : i < length old.tickets.items =

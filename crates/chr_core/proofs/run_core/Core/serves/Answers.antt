@@ -12,7 +12,7 @@ use Rattle.chr_core.proofs.run_core.Core.serves.Goals as goal
 pub returns-in-Search : goal.returns-in-Search
 returns-in-Search g c =
     let core = c.args.self.now in
-    let p = g.J.Run.rules in
+    let p = g.J.RunName.rules in
     let r = query_view core.query in
     let es = map event_view core.events.items in
     c.is_some.ensures

@@ -14,7 +14,7 @@ use Rattle.chr_core.proofs.run_core.Core.serving.Goals.{in-Some+else-row_serves,
 pub returns-then-row_serves-clause-some : goal.returns-then-row_serves-clause-some
 returns-then-row_serves-clause-some g c =
     let core = c.args.self.now in
-    let p = g.J.Run.rules in
+    let p = g.J.RunName.rules in
     let m = machine_view core.machine in
     let asked = c.in_ok-asked.asked in
     row_serves_at m.names p (query_view core.query) m core.at (map event_view core.events.items) (core_in core) core.stands refl (task_view c.args.task) c.requires (row_atom asked.row.now) asked.touches asked.own c.in_ok-asked.ensures.is
@@ -23,7 +23,7 @@ returns-then-row_serves-clause-some g c =
 pub returns-clause-some : goal.returns-clause-some
 returns-clause-some g c =
     let core = c.args.self.now in
-    let p = g.J.Run.rules in
+    let p = g.J.RunName.rules in
     let m = machine_view core.machine in
     let asked = c.in_ok-asked.asked in
     guest_found m.names p (query_view core.query) m core.at (map event_view core.events.items) (core_in core) core.stands refl (task_view c.args.task) c.requires (row_atom asked.row.now) asked.touches asked.own c.in_ok-asked.ensures.is
@@ -32,7 +32,7 @@ returns-clause-some g c =
 pub returns-clause-none : goal.returns-clause-none
 returns-clause-none g c =
     let core = c.args.self.now in
-    let p = g.J.Run.rules in
+    let p = g.J.RunName.rules in
     let m = machine_view core.machine in
     let asked = c.in_ok-asked.asked in
     let rows : (n : ℕ) → row_in core.answers (task_view c.args.task) ≡ Some n → row_passes (core_in core) asked.touches n ≡ false = λ n is. elim c.match-row.branch [

@@ -26,7 +26,7 @@ invariant_of-self-2 g c =
 pub step_answered-requires : goal.step_answered-requires
 step_answered-requires g c =
     let old = c.args.self.now in
-    let p = g.J.Run.rules in
+    let p = g.J.RunName.rules in
     let w = c.requires.serves in
     let ids_are = c.ids.ensures ∙ ap (option_and_then (λ (k : Answered). k.ids)) w.there in
     rw ids_are (answers (machine_view old.machine).names p (query_view old.query) (machine_view old.machine) old.at (map event_view old.events.items) (core_in old) old.stands refl (task_view c.args.task) c.requires.ready.needs_are c.args.position w)

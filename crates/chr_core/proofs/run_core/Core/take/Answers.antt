@@ -12,7 +12,7 @@ use Rattle.chr_core.proofs.run_core.Core.take.Goals as goal
 pub returns-clause-took : goal.returns-clause-took
 returns-clause-took g c =
     let old = c.args.self.now in
-    let p = g.J.Run.rules in
+    let p = g.J.RunName.rules in
     let q = start (query_view old.query) in
     let es = events_view old.events.items in
     let i = c.args.round in

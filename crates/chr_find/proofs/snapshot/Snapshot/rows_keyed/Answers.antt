@@ -2,7 +2,7 @@ use Rattle.std.proofs.Common.{◌∙◌, Option, ap, sym}
 use Rattle.chr_semantics.specs.Program.{Atom}
 use Rattle.chr_store.specs.KeyView.{keys_view}
 use Rattle.chr_store.specs.Numbers.{numbers}
-use Rattle.chr_find.specs.KeyedView.{is_keyed_at}
+use Rattle.chr_find.specs.LentKeysView.{is_keyed_at}
 use Rattle.chr_find.specs.TableView.{atom_at}
 use Rattle.chr_find.proofs.KeyedRows.{rows_keyed_are}
 use Rattle.chr_find.proofs.snapshot.Snapshot.rows_keyed.Goals as goal

@@ -19,7 +19,7 @@ pub returns-in_err-room-clause-same : goal.returns-in_err-room-clause-same
 returns-in_err-room-clause-same g c = atoms_kept c.args.self.now c.room.new.self c.room.ensures.rows
 
 pub returns-in_ok-room-clause-same : goal.returns-in_ok-room-clause-same
-returns-in_ok-room-clause-same g c i = c.list_newest.ensures.same i ∙ atoms_kept c.args.self.now c.room.new.self c.room.ensures.rows i
+returns-in_ok-room-clause-same g c i = c.enter_newest.ensures.same i ∙ atoms_kept c.args.self.now c.room.new.self c.room.ensures.rows i
 
 pub returns-in_ok-room-clause-ok : goal.returns-in_ok-room-clause-ok
-returns-in_ok-room-clause-ok g c = none_for c.list_newest.new.self c.list_newest.ensures.newest
+returns-in_ok-room-clause-ok g c = none_for c.enter_newest.new.self c.enter_newest.ensures.newest

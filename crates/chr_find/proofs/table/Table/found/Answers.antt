@@ -5,8 +5,8 @@ use Rattle.chr_store.specs.Rows.{row_atom}
 use Rattle.chr_find.specs.Finding.{rule_of}
 use Rattle.chr_find.specs.Finds.{Finds}
 use Rattle.chr_find.specs.Gate.{passed}
-use Rattle.chr_find.specs.ModeView.{gate_of}
-use Rattle.chr_find.specs.PlanView.{positions_of}
+use Rattle.chr_find.specs.CursorStateView.{gate_of}
+use Rattle.chr_find.specs.PlanView.{lookups_of}
 use Rattle.chr_find.specs.Shown.{IsShown}
 use Rattle.chr_find.specs.TableView.{atom_at}
 use Rattle.chr_find.specs.declared.plan.Plan.{Plan}
@@ -14,13 +14,13 @@ use Rattle.chr_find.proofs.TableShown.{row_is}
 use Rattle.chr_find.proofs.SearchParts.{ok_more}
 use Rattle.chr_find.proofs.table.Table.found.Goals as goal
 
-pub returns-clause-found : goal.returns-clause-found
-returns-clause-found g c =
+pub returns : goal.returns
+returns g c =
     let t = c.args.self.now in
     let s = c.args.active.now in
     ok_more _ _ c.first.result
     (λ found f a lives x at rows shown quiet.
-    let same : row_atom c.in-Some.row.now ≡ a = row_is (atom_at t s.id.0) c.in-Some.row.now a c.in-Some.ensures lives in
-    subst (λ (b : Atom). Finds (g.P.Past.history c.args.past.now) s.number (rule_of s).guard [] (passed c.args.from (gate_of c.args.mode c.args.after.now) (own_joined rows (rule_of s) s.place x (s.id.0, b))) found c.args.tries.now c.first.new.tries) same
-    (f x at rows (subst (λ (p : Plan g.row.A.Denot). IsShown (positions_of p) t.noted.rows rows) (sym c.value.ensures) shown) quiet))
+    let same : row_atom c.args.own.now ≡ a = row_is (atom_at t s.id.0) c.args.own.now a (sym c.requires.row) lives in
+    subst (λ (b : Atom). Finds (g.P.FiringHistory.history c.args.past.now) s.number (rule_of s).guard [] (passed c.args.from (gate_of c.args.mode c.args.after.now) (own_joined rows (rule_of s) s.place x (s.id.0, b))) found c.args.tries.now c.first.new.tries) same
+    (f x at rows (subst (λ (p : Plan g.row.A.Denot). IsShown (lookups_of p) t.index.rows rows) (sym c.value.ensures) shown) quiet))
     c.first.ensures

@@ -2,12 +2,12 @@ use Rattle.std.proofs.Common.{◌≡◌, ◌∙◌, ◌++◌, List, ap, subst, s
 use Rattle.chr_map.specs.Order.{Ascends}
 use Rattle.chr_semantics.specs.Match as semantics
 use Rattle.chr_semantics.specs.Search.{atom_of}
-use Rattle.chr_find.specs.Places.{place_cmp}
+use Rattle.chr_find.specs.IndexKeys.{index_cmp}
 use Rattle.chr_find.specs.Rebinding.{standing_rows}
 use Rattle.chr_find.specs.Shown.{Rises, walk}
 use Rattle.chr_find.specs.TableView.{atom_at}
-use Rattle.chr_find.specs.declared.list.List.TheVariants.{All}
-use Rattle.chr_find.specs.declared.standing.Standing.{Standing}
+use Rattle.chr_find.specs.declared.bucket.Bucket.TheVariants.{All}
+use Rattle.chr_find.specs.declared.constraint.Constraint.{Constraint}
 use Rattle.chr_find.proofs.KeyedTables.{listed_alike}
 use Rattle.chr_find.proofs.MadeWhole.{all_looked, all_rises}
 use Rattle.chr_find.proofs.table.Table.keep_keys.Goals as goal
@@ -15,22 +15,22 @@ use Rattle.chr_find.proofs.table.Table.keep_keys.Goals as goal
 pub of_rows-requires : goal.of_rows-requires
 of_rows-requires g c =
     let t = c.args.self.now in
-    let all : standing_rows c.as_slice.result.now ≡ walk All t.noted.rows =
+    let all : standing_rows c.as_slice.result.now ≡ walk All t.index.rows =
     ap standing_rows c.as_slice.ensures.value
-    ∙ (c.in_ok-collect.ensures ∙ (ap (λ (old : List (Standing g.row.A.Denot)). standing_rows old ++ walk All c.entries.result) c.new-rows.ensures.items ∙ ap (walk All) c.entries.ensures.value))
+    ∙ (c.in_ok-collect.ensures ∙ (ap (λ (old : List (Constraint g.row.A.Denot)). standing_rows old ++ walk All c.entries.result) c.new-rows.ensures.items ∙ ap (walk All) c.entries.ensures.value))
     in
-    let up : Ascends place_cmp t.noted.rows = c.entries.ensures.ascending in
+    let up : Ascends index_cmp t.index.rows = c.entries.ensures.ascending in
     subst Rises (sym all) (all_rises t c.requires up)
 
 pub invariant_of-self : goal.invariant_of-self
 invariant_of-self g c =
     let t = c.args.self.now in
-    let l : List (Standing g.row.A.Denot) = c.as_slice.result.now in
-    let all : standing_rows l ≡ walk All t.noted.rows =
+    let l : List (Constraint g.row.A.Denot) = c.as_slice.result.now in
+    let all : standing_rows l ≡ walk All t.index.rows =
     ap standing_rows c.as_slice.ensures.value
-    ∙ (c.in_ok-collect.ensures ∙ (ap (λ (old : List (Standing g.row.A.Denot)). standing_rows old ++ walk All c.entries.result) c.new-rows.ensures.items ∙ ap (walk All) c.entries.ensures.value))
+    ∙ (c.in_ok-collect.ensures ∙ (ap (λ (old : List (Constraint g.row.A.Denot)). standing_rows old ++ walk All c.entries.result) c.new-rows.ensures.items ∙ ap (walk All) c.entries.ensures.value))
     in
-    let up : Ascends place_cmp t.noted.rows = c.entries.ensures.ascending in
+    let up : Ascends index_cmp t.index.rows = c.entries.ensures.ascending in
     record {
       shown = t.shown;
       apart = t.apart;

@@ -1,7 +1,7 @@
 use Rattle.std.proofs.Common.{◌∙◌, None, Some, ap, arith, refl, sym}
 use Rattle.chr_store.specs.Rows.{row_atom}
 use Rattle.chr_find.specs.Newest.{IsNot, with_newest}
-use Rattle.chr_find.specs.NotedView.{noted_atom}
+use Rattle.chr_find.specs.PendingIndexView.{indexed_atom}
 use Rattle.chr_find.specs.TableView.{atom_at, atoms_with}
 use Rattle.chr_find.proofs.GroundRows.{ground_alike, ground_without}
 use Rattle.chr_find.proofs.KeyedTables.{listed_alike}
@@ -15,10 +15,10 @@ invariant_of-self g c =
     let atoms = atoms_gone t c.args.id.0 (c.is_newest.ensures.yes c.if-is_newest.true) in
     record {
       shown = t.shown;
-      apart = apart_none None (noted_atom t.noted) refl;
-      listed = listed_alike (atoms_with (atom_at t) c.args.id.0 None) (noted_atom t.noted) c.leave.new.self atoms
+      apart = apart_none None (indexed_atom t.index) refl;
+      listed = listed_alike (atoms_with (atom_at t) c.args.id.0 None) (indexed_atom t.index) c.leave.new.self atoms
           (c.leave.ensures.lists (atom_at t) t.listed c.requires.there);
-      ground = λ none. ground_alike (atoms_with (atom_at t) c.args.id.0 None) (noted_atom t.noted) atoms (ground_without (atom_at t) c.args.id.0 (t.ground none));
+      ground = λ none. ground_alike (atoms_with (atom_at t) c.args.id.0 None) (indexed_atom t.index) atoms (ground_without (atom_at t) c.args.id.0 (t.ground none));
     }
 
 pub invariant_of-self-else-is_newest : goal.invariant_of-self-else-is_newest
@@ -31,9 +31,9 @@ invariant_of-self-else-is_newest g c =
     record {
       shown = shown_out t n c.args.id c.args.row other c.requires.there rows c.note.ensures.plan;
       apart = apart_out t n c.args.id c.args.row other c.requires.there rows;
-      listed = listed_alike (atoms_with (atom_at t) c.args.id.0 None) (with_newest t.newest (noted_atom n)) c.leave.new.self atoms
+      listed = listed_alike (atoms_with (atom_at t) c.args.id.0 None) (with_newest t.newest (indexed_atom n)) c.leave.new.self atoms
           (c.leave.ensures.lists (atom_at t) t.listed c.requires.there);
-      ground = λ none. ground_alike (atoms_with (atom_at t) c.args.id.0 None) (with_newest t.newest (noted_atom n)) atoms (ground_without (atom_at t) c.args.id.0 (t.ground none));
+      ground = λ none. ground_alike (atoms_with (atom_at t) c.args.id.0 None) (with_newest t.newest (indexed_atom n)) atoms (ground_without (atom_at t) c.args.id.0 (t.ground none));
     }
 
 pub returns-then-is_newest-clause-atoms : goal.returns-then-is_newest-clause-atoms

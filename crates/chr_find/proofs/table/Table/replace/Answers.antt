@@ -1,7 +1,7 @@
 use Rattle.std.proofs.Common.{◌∙◌, Some, ap, sym}
 use Rattle.chr_store.specs.Rows.{row_atom}
 use Rattle.chr_find.specs.Newest.{with_newest}
-use Rattle.chr_find.specs.NotedView.{noted_atom}
+use Rattle.chr_find.specs.PendingIndexView.{indexed_atom}
 use Rattle.chr_find.specs.TableView.{atom_at, atoms_with}
 use Rattle.chr_find.proofs.GroundRows.{ground_added, ground_alike}
 use Rattle.chr_find.proofs.KeyedTables.{listed_alike}
@@ -19,10 +19,10 @@ invariant_of-self g c =
     record {
       shown = shown_over t n c.requires.all r.id r.old r.new was rows c.note.ensures.plan;
       apart = apart_over t n c.requires.all r.id r.old r.new was rows;
-      listed = listed_alike (atoms_with (atom_at t) r.id.0 (Some (row_atom r.new))) (with_newest t.newest (noted_atom n)) c.replace.new.self atoms
+      listed = listed_alike (atoms_with (atom_at t) r.id.0 (Some (row_atom r.new))) (with_newest t.newest (indexed_atom n)) c.replace.new.self atoms
           (c.replace.ensures.lists (atom_at t) t.listed was);
       ground = λ none.
-          ground_alike (atoms_with (atom_at t) r.id.0 (Some (row_atom r.new))) (with_newest t.newest (noted_atom n)) atoms
+          ground_alike (atoms_with (atom_at t) r.id.0 (Some (row_atom r.new))) (with_newest t.newest (indexed_atom n)) atoms
           (ground_added (atom_at t) r.id.0 (row_atom r.new) t.may_open c.is_open.result t.ground c.is_open.ensures none);
     }
 

@@ -12,18 +12,18 @@ returns-in_ok-one-in-None-clause-ok g c =
     let there : c.args.is_there ≡ true = c.if-is_there.true in
     let one : c.in_ok-one-in-None.field-0 ≡ ids_set c.args.id.0 c.args.is_there [] = rw there c.in_ok-one-in-None.ensures in
     on_ok_weaker c.put.result
-    (set_put c.args.self.now.lists c.put.new.self c.args.place c.args.id.0 c.args.is_there c.in_ok-one-in-None.field-0 (one ∙ ap (λ (v : Option (List ℕ)). ids_set c.args.id.0 c.args.is_there (ids_in v)) c.in-None.ensures.value))
+    (set_put c.args.self.now.lists c.put.new.self c.args.key c.args.id.0 c.args.is_there c.in_ok-one-in-None.field-0 (one ∙ ap (λ (v : Option (List ℕ)). ids_set c.args.id.0 c.args.is_there (ids_in v)) c.in-None.ensures.value))
     c.put.ensures.ok
 
 pub returns-then-empties-clause-ok : goal.returns-then-empties-clause-ok
 returns-then-empties-clause-ok g c =
     let none : [] ≡ ids_set c.args.id.0 c.args.is_there c.in-Some.list.now = let only = c.if-empties.ensures.0 refl in sym (set_only c.args.id.0 c.args.is_there c.in-Some.list.now (sym c.as_slice.ensures.ids ∙ only.0) only.1) in
     on_ok_weaker c.take_out.result
-    (set_removed c.args.self.now.lists c.take_out.new.self c.args.place c.args.id.0 c.args.is_there (none ∙ ap (λ (v : Option (List ℕ)). ids_set c.args.id.0 c.args.is_there (ids_in v)) c.in-Some.ensures.value) c.take_out.ensures.ascending)
+    (set_removed c.args.self.now.lists c.take_out.new.self c.args.key c.args.id.0 c.args.is_there (none ∙ ap (λ (v : Option (List ℕ)). ids_set c.args.id.0 c.args.is_there (ids_in v)) c.in-Some.ensures.value) c.take_out.ensures.ascending)
     c.take_out.ensures.ok
 
 pub returns-else-empties-clause-ok : goal.returns-else-empties-clause-ok
 returns-else-empties-clause-ok g c =
     on_ok_weaker c.edit.result
-    (set_edited c.args.self.now.lists c.edit.new.self c.args.place c.args.id.0 c.args.is_there c.in-Some.list.now c.in-Some.ensures.value)
+    (set_edited c.args.self.now.lists c.edit.new.self c.args.key c.args.id.0 c.args.is_there c.in-Some.list.now c.in-Some.ensures.value)
     c.edit.ensures.ok

@@ -7,7 +7,7 @@ use Rattle.chr_policy.proofs.coordinator.Coordinator.new.Goals as goal
 
 pub returns-clause-rests : goal.returns-clause-rests
 returns-clause-rests g c =
-    let p = g.J.Run.rules in
+    let p = g.J.RunName.rules in
     let q = start_of c.in_ok-core.core in record {
       rests = subst (λ (es : List Event). Rests p q c.args.workers 0 es) (sym c.in_ok-core.ensures.events) (rests_at_start p q c.args.workers);
       few = omega arith;

@@ -10,7 +10,7 @@ use Rattle.chr_policy.proofs.coordinator.Coordinator.prepare.Goals as goal
 
 pub returns-clause-ready : goal.returns-clause-ready
 returns-clause-ready g c =
-    let p = g.J.Run.rules in
+    let p = g.J.RunName.rules in
     let old = c.args.self.now in
     let r = query_of old.core in
     let at = progress p (start r) (events_of old.core) in

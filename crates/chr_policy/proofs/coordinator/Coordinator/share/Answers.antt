@@ -8,7 +8,7 @@ use Rattle.chr_policy.proofs.coordinator.Coordinator.share.Goals as goal
 pub returns-in-Ok-clause-ready : goal.returns-in-Ok-clause-ready
 returns-in-Ok-clause-ready g c =
     let old = c.args.self.now in
-    let p = g.J.Run.rules in
+    let p = g.J.RunName.rules in
     let q = start_of old.core in
     let at = progress p q (events_of old.core) in
     subst (λ (es : List Event). IsReady p q old.workers old.skipped at es) (sym c.in-Ok.ensures.events)
@@ -17,7 +17,7 @@ returns-in-Ok-clause-ready g c =
 pub returns-in-Err-clause-ready : goal.returns-in-Err-clause-ready
 returns-in-Err-clause-ready g c =
     let old = c.args.self.now in
-    let p = g.J.Run.rules in
+    let p = g.J.RunName.rules in
     let q = start_of old.core in
     let at = progress p q (events_of old.core) in
     subst (λ (es : List Event). IsReady p q old.workers (old.skipped + 1) at es) (sym c.in-Err.ensures.err.events_are)
@@ -26,4 +26,4 @@ returns-in-Err-clause-ready g c =
 pub returns-then-not-has_place-clause-ready : goal.returns-then-not-has_place-clause-ready
 returns-then-not-has_place-clause-ready g c =
     let old = c.args.self.now in
-    ready_passed g.J.Run.rules (start_of old.core) (events_of old.core) old.workers old.skipped c.requires.workers c.requires.rests.rests (sym c.has_place.ensures ∙ c.if-not-has_place.true)
+    ready_passed g.J.RunName.rules (start_of old.core) (events_of old.core) old.workers old.skipped c.requires.workers c.requires.rests.rests (sym c.has_place.ensures ∙ c.if-not-has_place.true)

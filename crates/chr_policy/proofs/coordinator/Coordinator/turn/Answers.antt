@@ -18,7 +18,7 @@ returns-in-Plain-clause-rests g c =
 
 pub returns-in_ok-prepare-in-Search-clause-rests : goal.returns-in_ok-prepare-in-Search-clause-rests
 returns-in_ok-prepare-in-Search-clause-rests g c =
-    let p = g.J.Run.rules in
+    let p = g.J.RunName.rules in
     let old = c.args.self.now in
     let ready = c.prepare.new.self in
     let same = c.prepare.ensures.same in

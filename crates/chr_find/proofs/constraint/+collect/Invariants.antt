@@ -1,0 +1,5 @@
+use Rattle.std.proofs.Common.{length}
+use Rattle.chr_find.proofs.constraint.+collect.Given as goal
+
+abbrev pub decreases-collect : goal.decreases-collect
+decreases-collect g l = length l.part.now

@@ -1,9 +1,0 @@
-use Rattle.chr_bind.specs.Matching.{AgreesWith}
-use Rattle.chr_semantics.specs.Subst.{Subst}
-use Rattle.chr_term.specs.TermView.{atom_view}
-use Rattle.chr_find.specs.Enough.{IsEnough}
-use Rattle.chr_find.specs.PlanView.{positions_of}
-use Rattle.chr_find.proofs.search.list_for.Given as goal
-
-abbrev pub invariant-loop-position : goal.invariant-loop-position
-invariant-loop-position g l = (m : Subst) → AgreesWith l.fn.matching m → IsEnough (positions_of l.fn.plan) (atom_view l.fn.sym l.fn.args) m l.best

@@ -1,0 +1,87 @@
+//! The whole search of a rule: the own head first, and then the join.
+ghost use Rattle.std.specs.Prelude.{◌≡◌, ◌<◌, ◌≤◌, IfOk, Some, slice_get, true, vec_len};
+ghost use Rattle.chr_rules.specs.RuleView.{rule_view};
+ghost use Rattle.chr_semantics.specs.declared.limits.TheConstants.{MAX_HEADS};
+ghost use Rattle.chr_store.specs.Rows.{row_atom};
+ghost use Rattle.chr_semantics.specs.Program.{Head};
+ghost use Rattle.chr_find.specs.Barren.{IsBarren, LacksPartner};
+ghost use Rattle.chr_find.specs.PlanView.{lookups_of};
+ghost use Rattle.chr_find.specs.SearchIs.{OwnFinds};
+ghost use Rattle.chr_find.specs.SearchView.{AreSmall};
+ghost use Rattle.chr_find.specs.Shown.{ForRows};
+
+use crate::Memory;
+use crate::candidates::{fits, some_bucket_for};
+use crate::cursor_state::CursorState;
+use crate::firing_history::FiringHistory;
+use crate::join::{Prefix, Reached, Search};
+use crate::new_partners::has_new;
+use chr_bind::Match;
+use chr_store::{HeadIds, Row};
+use std::alloc::Allocator;
+
+impl<'a, P: FiringHistory, A: Allocator + Copy> Search<'a, P, A> {
+    /// Whether no constraint can stand at the head of the level under the match.
+    fn is_barren(&self, level: usize, matching: &Match<'a, A>) -> bool
+        requires { level < vec_len self.now.rule.now.heads }
+        ensures { result ≡ true → (x : Head) → slice_get (rule_view self.now.rule.now).heads level ≡ Some x →
+            ForRows (lookups_of self.now.plan.now) self.now.rows.now (λ rows. IsBarren rows matching.now x) }
+    {
+        let (sym, args) = &self.rule.heads[level];
+        let bucket = some_bucket_for(self.plan, *sym, args.as_slice(), matching);
+        !has_new(self.rows.entries(), &bucket, 0)
+    }
+
+    /// Whether that is so of some head but the own one, which tells at once that nothing is found.
+    fn lacks_partner(&self, matching: &Match<'a, A>) -> bool
+        ensures { result ≡ true → ForRows (lookups_of self.now.plan.now) self.now.rows.now
+            (λ rows. LacksPartner rows matching.now (rule_view self.now.rule.now).heads self.now.place) }
+    {
+        for level in 0..self.rule.heads.len() {
+            if level != self.place && self.is_barren(level, matching) {
+                return true;
+            }
+        }
+        false
+    }
+
+    /// The first list with the own constraint in its place that may fire, and one try more for each complete list.
+    pub(crate) fn first(
+        &self,
+        row: &'a Row<A>,
+        mode: CursorState,
+        tries: &mut u64,
+    ) -> Result<Option<HeadIds>, Memory>
+        requires few { vec_len self.now.rule.now.heads ≤ MAX_HEADS }
+        requires small { AreSmall (rule_view self.now.rule.now).heads }
+        requires inside { self.now.place < vec_len self.now.rule.now.heads }
+        ensures { IfOk result (λ found. OwnFinds (P.history self.now.past.now) self.now
+            (row_atom row.now) mode found tries.old tries.new) }
+    {
+        // For the proof: that the count has 64 bits is known once it is read.
+        let _so_far = *tries;
+        let mut matching = Match::new();
+        if !fits(&self.rule.heads[self.place], row, &mut matching) {
+            return Ok(None);
+        }
+        // With one partner the join looks at the same bucket at once.
+        if self.rule.heads.len() > 2 && self.lacks_partner(&matching) {
+            return Ok(None);
+        }
+        let start = Prefix {
+            partners: HeadIds::new(),
+            mode,
+        };
+        let mut reached = Reached {
+            partners: HeadIds::new(),
+            tries: *tries,
+        };
+        let is_found = self.join(&start, &mut matching, &mut reached)?;
+        *tries = reached.tries;
+        if is_found {
+            Ok(Some(reached.partners))
+        } else {
+            Ok(None)
+        }
+    }
+}

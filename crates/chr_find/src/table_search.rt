@@ -1,0 +1,119 @@
+//! The search of a table.
+ghost use Rattle.std.specs.Prelude.{◌≡◌, IfOk, Some};
+ghost use Rattle.chr_find.specs.Finding.{FindsFirst, FindsJoined, FindsNext};
+ghost use Rattle.chr_store.specs.Rows.{row_atom};
+ghost use Rattle.chr_find.specs.CursorStateView.{gate_of};
+ghost use Rattle.chr_find.specs.SearchView.{IsSearchable};
+ghost use Rattle.chr_find.specs.TableView.{IsFor, IsSettled, atom_at};
+
+use crate::Memory;
+use crate::active::{Active, Cursor};
+use crate::cursor_state::CursorState;
+use crate::firing_history::FiringHistory;
+use crate::join::Search;
+use crate::new_partners::quiet_from;
+use crate::table::Table;
+use chr_store::{HeadIds, Row};
+use std::alloc::Allocator;
+
+impl<A: Allocator + Copy> Table<A> {
+    /// The first list of partners, after a list or from the beginning, where no constraint for a head from `quiet` on is new.
+    fn found<P: FiringHistory>(
+        &self,
+        active: &Active<'_, A>,
+        own: &Row<A>,
+        past: &P,
+        mode: CursorState,
+        after: &HeadIds,
+        from: u64,
+        quiet: usize,
+        tries: &mut u64,
+    ) -> Result<Option<HeadIds>, Memory>
+        requires settled { IsSettled self.now }
+        requires row { atom_at self.now active.now.id.0 ≡ Some (row_atom own.now) }
+        requires searchable { IsSearchable active.now.rule.now active.now.place }
+        ensures { IfOk result (λ found. FindsJoined (P.history past.now) self.now active.now from quiet
+            (gate_of mode after.now) found tries.old tries.new) }
+    {
+        // For the proof: that the count has 64 bits is known once it is read.
+        let _so_far = *tries;
+        let search = Search {
+            alloc: self.alloc,
+            plan: self.index.plan.value(),
+            rows: &self.index.rows,
+            past,
+            rule: active.rule,
+            number: active.number,
+            place: active.place,
+            own: active.id,
+            after,
+            from,
+            quiet,
+        };
+        search.first(own, mode, tries)
+    }
+
+    /// The first list of partners with which the rule can fire, and one try more for each complete list that was looked at. The active
+    /// constraint has this row, and the table is ready to be searched for it.
+    pub fn first<P: FiringHistory>(
+        &self,
+        active: &Active<'_, A>,
+        own: &Row<A>,
+        past: &P,
+        tries: &mut u64,
+    ) -> Result<Option<HeadIds>, Memory>
+        requires settled { IsSettled self.now }
+        requires own { IsFor active.now.id.0 self.now }
+        requires row { atom_at self.now active.now.id.0 ≡ Some (row_atom own.now) }
+        requires searchable { IsSearchable active.now.rule.now active.now.place }
+        ensures { IfOk result (λ found. FindsFirst (P.history past.now) self.now active.now found tries.old
+            tries.new) }
+    {
+        // For the proof: that the count has 64 bits is known once it is read.
+        let _so_far = *tries;
+        let quiet = active.rule.heads.len();
+        let after = HeadIds::new();
+        self.found(
+            active,
+            own,
+            past,
+            CursorState::Free,
+            &after,
+            0,
+            quiet,
+            tries,
+        )
+    }
+
+    /// As `first`, where each list that can fire is ahead of the cursor: no other is looked at.
+    pub fn next<P: FiringHistory>(
+        &self,
+        active: &Active<'_, A>,
+        own: &Row<A>,
+        past: &P,
+        cursor: &Cursor,
+        tries: &mut u64,
+    ) -> Result<Option<HeadIds>, Memory>
+        requires settled { IsSettled self.now }
+        requires own { IsFor active.now.id.0 self.now }
+        requires row { atom_at self.now active.now.id.0 ≡ Some (row_atom own.now) }
+        requires searchable { IsSearchable active.now.rule.now active.now.place }
+        ensures { IfOk result (λ found. FindsNext (P.history past.now) self.now active.now cursor.now found) }
+    {
+        // For the proof: that the count has 64 bits is known once it is read.
+        let _so_far = *tries;
+        let (plan, rows) = (self.index.plan.value(), &self.index.rows);
+        let from = cursor.from;
+        let quiet = quiet_from(plan, rows, active.rule, active.place, active.id.0, from);
+        self.found(
+            active,
+            own,
+            past,
+            CursorState::On,
+            &cursor.after,
+            from,
+            quiet,
+            tries,
+        )
+    }
+}
