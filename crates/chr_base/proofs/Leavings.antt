@@ -11,6 +11,7 @@ use Rattle.chr_semantics.specs.Program.{Atom}
 use Rattle.chr_semantics.specs.Search.{atom_of, has_number}
 use Rattle.chr_semantics.specs.State.{resolved_atom}
 use Rattle.chr_semantics.specs.Subst.{Subst}
+use Rattle.chr_semantics.specs.declared.limits.TheConstants.{MAX_HEADS}
 use Rattle.chr_store.specs.Rows.{row_atom}
 use Rattle.chr_find.specs.TableView.{atoms_with}
 use Rattle.chr_base.specs.Agreement.{Agrees, is_alive, under}
@@ -118,7 +119,7 @@ drop_least k n ids e = by (nat_lt k (length ids)) refl
         drop_past n ids (omega (arith, same)) ∙ sym (drop_past k ids past)
 
 -- of a number of constraints no more than that leave
-pub few_leave : {A : Type 0} (ls : List (Leaving A)) (ids : List ℕ) (k : ℕ) → leaving_ids ls ≡ drop k ids → length ids ≤ 8 → length ls ≤ 8
+pub few_leave : {A : Type 0} (ls : List (Leaving A)) (ids : List ℕ) (k : ℕ) → leaving_ids ls ≡ drop k ids → length ids ≤ MAX_HEADS → length ls ≤ MAX_HEADS
 few_leave ls ids k is few =
     let all : length (leaving_ids ls) ≡ length ls = length-map (reverse ls) (λ (l : Leaving _). l.id.0) ∙ length-reverse ls in
     omega (arith, all, ap length is, length-drop k ids, few)

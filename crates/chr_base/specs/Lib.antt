@@ -1,5 +1,6 @@
 pub mod Agreement
 pub mod BaseView
+pub mod Bodies
 pub mod Bookmarks
 pub mod Entering
 pub mod Leaving

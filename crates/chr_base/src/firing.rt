@@ -2,7 +2,7 @@
 ghost use Rattle.std.specs.Prelude.{◌≡◌, ◌≢◌, ◌≤◌, ◌<◌, ◌+◌, AllPairs, IfOk, ℕ, OnErr, OnOk, Some, drop, false, length, reverse, slice_get, true, vec_capacity, vec_len};
 ghost use Rattle.std.specs.List.{fold, list_all};
 ghost use Rattle.chr_semantics.specs.Changes.{entered, removed};
-ghost use Rattle.chr_semantics.specs.Search.{fired_before, has_number};
+ghost use Rattle.chr_semantics.specs.Search.{has_number};
 ghost use Rattle.chr_semantics.specs.declared.limits.TheConstants.{MAX_CHANGES, MAX_HEADS};
 ghost use Rattle.chr_store.specs.Rows.{row_atom};
 ghost use Rattle.chr_store.specs.StoreView.{store_view};
@@ -97,8 +97,7 @@ impl<'p, A: Allocator + Copy> Base<'p, A> {
 
     /// Enters a firing, and makes new variables, for which there is room.
     fn enter(&mut self, fired: &Fired, variables: usize) -> Result<(), Memory>
-        requires alive { list_all (is_alive (base_view self.old).store) fired.now.ids ≡ true }
-        requires is_new { fired_before (base_view self.old).entries.list fired.now.rule fired.now.ids ≡ false }
+        requires can { CanEnter (base_view self.old) fired.now }
         requires spare { variables ≤ self.old.bindings.spare }
         requires place { HasPlace self.old.firings }
         ensures ok { OnOk result (base_view self.new
@@ -126,8 +125,7 @@ impl<'p, A: Allocator + Copy> Base<'p, A> {
         variables: usize,
         leaving: Leaving<A>,
     ) -> Result<(), Memory>
-        requires alive { list_all (is_alive (base_view self.old).store) fired.now.ids ≡ true }
-        requires is_new { fired_before (base_view self.old).entries.list fired.now.rule fired.now.ids ≡ false }
+        requires can { CanEnter (base_view self.old) fired.now }
         requires spare { variables ≤ self.old.bindings.spare }
         requires few { (base_view self.old).store.changes < MAX_CHANGES }
         requires room { HasRoom 1 self.old.table }
@@ -164,8 +162,7 @@ impl<'p, A: Allocator + Copy> Base<'p, A> {
         variables: usize,
         mut leaving: Vec<Leaving<A>, A>,
     ) -> Result<(), Memory>
-        requires alive { list_all (is_alive (base_view self.old).store) fired.now.ids ≡ true }
-        requires is_new { fired_before (base_view self.old).entries.list fired.now.rule fired.now.ids ≡ false }
+        requires can { CanEnter (base_view self.old) fired.now }
         requires spare { variables ≤ self.old.bindings.spare }
         requires few { (base_view self.old).store.changes + length leaving.items ≤ MAX_CHANGES }
         requires room { HasRoom (length leaving.items) self.old.table }

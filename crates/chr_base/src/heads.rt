@@ -13,7 +13,7 @@ ghost use Rattle.chr_base.specs.BaseView.{IsFresh};
 ghost use Rattle.chr_base.specs.Standing.{AreStanding};
 
 use crate::base::Base;
-use crate::body::build_body;
+use crate::body::Body;
 use chr_bind::{Match, fit_or_spoil};
 use chr_rules::{Goal, Rule};
 use chr_store::Id;
@@ -42,7 +42,7 @@ fn match_heads<'t, A: Allocator + Copy>(
 }
 
 /// The goals of the body of a rule that fires with constraints of a base, which are given by their identities in head order: the same as
-/// those of `build_body` with the match of the heads. Nothing is said where these constraints do not fit the heads. Only the goals take memory.
+/// those of `Body::goals` with the match of the heads. Nothing is said where these constraints do not fit the heads. Only the goals take memory.
 pub fn build_fired<A: Allocator + Copy>(
     alloc: A,
     base: &Base<'_, A>,
@@ -59,5 +59,11 @@ pub fn build_fired<A: Allocator + Copy>(
 {
     let mut matching = Match::new();
     match_heads(base, rule, ids, &mut matching);
-    build_body(alloc, rule, &matching, next)
+    let body = Body {
+        alloc,
+        rule,
+        matching: &matching,
+        next,
+    };
+    body.goals()
 }

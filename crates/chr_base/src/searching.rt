@@ -6,7 +6,6 @@ ghost use Rattle.chr_semantics.specs.State.{goal};
 ghost use Rattle.chr_rules.specs.ProgramView.{rules_of};
 ghost use Rattle.chr_rules.specs.RuleView.{goal_view, rule_view};
 ghost use Rattle.chr_store.specs.Rows.{row_atom};
-ghost use Rattle.chr_find.specs.SearchView.{IsSearchable};
 ghost use Rattle.chr_find.specs.TableView.{IsFor, atom_at};
 
 use crate::Memory;
@@ -101,7 +100,6 @@ impl<'p, A: Allocator + Copy> Base<'p, A> {
 
     /// What the search finds in a table that is ready for the active constraint.
     fn found(&self, active: &Active<'_, A>) -> Result<Option<HeadIds>, Memory>
-        requires searchable { IsSearchable active.now.rule.now active.now.place }
         requires of_program { slice_get (rules_of (program_of self.now)) active.now.number
             ≡ Some (rule_view active.now.rule.now) }
         requires fresh { IsFresh self.now }
@@ -126,7 +124,6 @@ impl<'p, A: Allocator + Copy> Base<'p, A> {
     /// The identities of the first constraints with which the rule can fire, in head order. Contracts see the same base, after a refusal
     /// too.
     pub fn first(&mut self, active: &Active<'_, A>) -> Result<Option<HeadIds>, Memory>
-        requires searchable { IsSearchable active.now.rule.now active.now.place }
         requires of_program { slice_get (rules_of (program_of self.old)) active.now.number
             ≡ Some (rule_view active.now.rule.now) }
         ensures same { base_view self.new ≡ base_view self.old }

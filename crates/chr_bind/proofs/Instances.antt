@@ -34,14 +34,14 @@ free_value (p ∷ m) x e = free_step (p.0 == x) p.1 (var x) (value_at m x) (matc
 pub instance_matched : {A : Type 0} (h : Match A) (m : Subst) (x : ℕ) (p : Tree) (o : Option (Bor (Term A))) (t : Bor (Term A)) → AgreesWith h m → p ≡ var x → option_map (λ (r : Bor (Term A)). view r.now) o ≡ matched_tree h x → o ≡ Some t
     → view t.now ≡ apply m p
 instance_matched h m x p o t a ep eo et =
-    let slot : matched_tree h x ≡ Some (view t.now) = sym eo ∙ ap (option_map (λ (r : Bor (Term _)). view r.now)) et in
-    sym (ap (apply m) ep ∙ matched_value m x (view t.now) (sym (a x) ∙ slot))
+    let held : matched_tree h x ≡ Some (view t.now) = sym eo ∙ ap (option_map (λ (r : Bor (Term _)). view r.now)) et in
+    sym (ap (apply m) ep ∙ matched_value m x (view t.now) (sym (a x) ∙ held))
 
 -- one that is not stays
 pub instance_free : {A : Type 0} (h : Match A) (m : Subst) (x : ℕ) (p : Tree) (o : Option (Bor (Term A))) → AgreesWith h m → p ≡ var x → option_map (λ (r : Bor (Term A)). view r.now) o ≡ matched_tree h x → o ≡ None → p ≡ apply m p
 instance_free h m x p o a ep eo et =
-    let slot : matched_tree h x ≡ None = sym eo ∙ ap (option_map (λ (r : Bor (Term _)). view r.now)) et in
-    ep ∙ sym (ap (apply m) ep ∙ free_value m x (sym (a x) ∙ slot))
+    let held : matched_tree h x ≡ None = sym eo ∙ ap (option_map (λ (r : Bor (Term _)). view r.now)) et in
+    ep ∙ sym (ap (apply m) ep ∙ free_value m x (sym (a x) ∙ held))
 
 pub shown_number : (m : Subst) (p : Tree) (z : ℤ) → p ≡ int z → p ≡ apply m p
 shown_number m p z e = e ∙ sym (ap (apply m) e)

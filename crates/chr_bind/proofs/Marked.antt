@@ -10,7 +10,7 @@ use Rattle.chr_semantics.specs.Subst.{Subst}
 use Rattle.chr_semantics.specs.Match.{match_at}
 use Rattle.chr_term.specs.TermView.{view}
 use Rattle.chr_term.specs.declared.term.Term.{Term}
-use Rattle.chr_bind.specs.Slots.{AreFilled, is_marked, slot_tree, tree_at, with_mark}
+use Rattle.chr_bind.specs.MatchedTerms.{AreFilled, is_marked, term_tree, tree_at, with_mark}
 use Rattle.chr_bind.specs.Matching.{AreMarksOf, Covers, Keeps, matched_tree}
 use Rattle.chr_bind.specs.declared.matching.Marks.{Marks}
 use Rattle.chr_bind.specs.declared.matching.Match.{Match}
@@ -48,28 +48,28 @@ agrees_step true m n t o p q en ep h = rw (en, ep) refl
 agrees_step false m n t o p q en ep h = rw (en, ep) h
 
 module _ {A : Type 0} where
-  pub none_filled : (slots : List (Option (Bor (Term A)))) → AreFilled 0 slots
-  none_filled slots x e = absurd (let no : false ≡ true = sym (none_marked x) ∙ e in cc)
+  pub none_filled : (matched : List (Option (Bor (Term A)))) → AreFilled 0 matched
+  none_filled matched x e = absurd (let no : false ≡ true = sym (none_marked x) ∙ e in cc)
 
-  pub none_matched : (x : ℕ) (slots : List (Option (Bor (Term A)))) → cond (is_marked 0 x) (tree_at slots x) None ≡ None
-  none_matched x slots = ap (λ (b : Bool). cond b (tree_at slots x) None) (none_marked x)
+  pub none_matched : (x : ℕ) (matched : List (Option (Bor (Term A)))) → cond (is_marked 0 x) (tree_at matched x) None ≡ None
+  none_matched x matched = ap (λ (b : Bool). cond b (tree_at matched x) None) (none_marked x)
 
-  -- one slot is filled
-  pub slot_put : (slots : List (Option (Bor (Term A)))) (x y : ℕ) (t : Bor (Term A)) → x < length slots → tree_at (set slots x (Some t)) y ≡ cond (y == x) (Some (view t.now)) (tree_at slots y)
-  slot_put slots x y t within = elim (eqb_tells y x) [
-    | inl p ↦ ap (tree_at (set slots x (Some t))) p.1 ∙ (ap slot_tree (slice_get-set_same slots x (Some t) within) ∙ sym (ap (λ (b : Bool). cond b (Some (view t.now)) (tree_at slots y)) p.0))
-    | inr p ↦ ap slot_tree (slice_get-set_other slots x y (Some t) p.1) ∙ sym (ap (λ (b : Bool). cond b (Some (view t.now)) (tree_at slots y)) p.0)
+  -- one is filled
+  pub term_put : (matched : List (Option (Bor (Term A)))) (x y : ℕ) (t : Bor (Term A)) → x < length matched → tree_at (set matched x (Some t)) y ≡ cond (y == x) (Some (view t.now)) (tree_at matched y)
+  term_put matched x y t within = elim (eqb_tells y x) [
+    | inl p ↦ ap (tree_at (set matched x (Some t))) p.1 ∙ (ap term_tree (slice_get-set_same matched x (Some t) within) ∙ sym (ap (λ (b : Bool). cond b (Some (view t.now)) (tree_at matched y)) p.0))
+    | inr p ↦ ap term_tree (slice_get-set_other matched x y (Some t) p.1) ∙ sym (ap (λ (b : Bool). cond b (Some (view t.now)) (tree_at matched y)) p.0)
   ]
 
   -- and marked
-  module _ (marks : ℕ) (slots new : List (Option (Bor (Term A)))) (x : ℕ) (t : Tree) (within : x < 64) (put : (y : ℕ) → tree_at new y ≡ cond (y == x) (Some t) (tree_at slots y)) where
-    pub put_filled : AreFilled marks slots → AreFilled (with_mark marks x) new
-    put_filled h y e = filled_step (y == x) (is_marked marks y) (is_marked (with_mark marks x) y) t (tree_at slots y) (tree_at new y) (marked_put marks x y within) (put y) (h y) e
+  module _ (marks : ℕ) (matched new : List (Option (Bor (Term A)))) (x : ℕ) (t : Tree) (within : x < 64) (put : (y : ℕ) → tree_at new y ≡ cond (y == x) (Some t) (tree_at matched y)) where
+    pub put_filled : AreFilled marks matched → AreFilled (with_mark marks x) new
+    put_filled h y e = filled_step (y == x) (is_marked marks y) (is_marked (with_mark marks x) y) t (tree_at matched y) (tree_at new y) (marked_put marks x y within) (put y) (h y) e
 
-    at_place : (y : ℕ) (q : Option Tree) → cond (is_marked marks y) (tree_at slots y) None ≡ q → cond (is_marked (with_mark marks x) y) (tree_at new y) None ≡ cond (y == x) (Some t) q
-    at_place y q h = agrees_step (y == x) (is_marked marks y) (is_marked (with_mark marks x) y) t (tree_at slots y) (tree_at new y) q (marked_put marks x y within) (put y) h
+    at_place : (y : ℕ) (q : Option Tree) → cond (is_marked marks y) (tree_at matched y) None ≡ q → cond (is_marked (with_mark marks x) y) (tree_at new y) None ≡ cond (y == x) (Some t) q
+    at_place y q h = agrees_step (y == x) (is_marked marks y) (is_marked (with_mark marks x) y) t (tree_at matched y) (tree_at new y) q (marked_put marks x y within) (put y) h
 
-    pub put_agrees : (m : Subst) → ((y : ℕ) → cond (is_marked marks y) (tree_at slots y) None ≡ match_at m y) → (y : ℕ) → cond (is_marked (with_mark marks x) y) (tree_at new y) None ≡ match_at ((x, t) ∷ m) y
+    pub put_agrees : (m : Subst) → ((y : ℕ) → cond (is_marked marks y) (tree_at matched y) None ≡ match_at m y) → (y : ℕ) → cond (is_marked (with_mark marks x) y) (tree_at new y) None ≡ match_at ((x, t) ∷ m) y
     put_agrees m h y = at_place y (match_at m y) (h y) ∙ ap (λ (b : Bool). cond b (Some t) (match_at m y)) turned
       where
         turned : (y == x) ≡ (x == y)
@@ -78,17 +78,17 @@ module _ {A : Type 0} where
           | inr p ↦ p.0 ∙ sym (grind (arith, Decides-eqb x y, p.1))
         ]
 
-    pub put_keeps : cond (is_marked marks x) (tree_at slots x) None ≡ None → (y : ℕ) (u : Tree) → cond (is_marked marks y) (tree_at slots y) None ≡ Some u → cond (is_marked (with_mark marks x) y) (tree_at new y) None ≡ Some u
+    pub put_keeps : cond (is_marked marks x) (tree_at matched x) None ≡ None → (y : ℕ) (u : Tree) → cond (is_marked marks y) (tree_at matched y) None ≡ Some u → cond (is_marked (with_mark marks x) y) (tree_at new y) None ≡ Some u
     put_keeps free y u e = elim (eqb_tells y x) [
-      | inl p ↦ absurd (let no : ◌≡◌ {A = Option Tree} None (Some u) = sym free ∙ (ap (λ (z : ℕ). cond (is_marked marks z) (tree_at slots z) None) (sym p.1) ∙ e) in cc)
+      | inl p ↦ absurd (let no : ◌≡◌ {A = Option Tree} None (Some u) = sym free ∙ (ap (λ (z : ℕ). cond (is_marked marks z) (tree_at matched z) None) (sym p.1) ∙ e) in cc)
       | inr p ↦ at_place y (Some u) e ∙ ap (λ (b : Bool). cond b (Some t) (Some u)) p.0
     ]
 
   -- what is marked is matched
   marked_tree : (h : Match A) (x : ℕ) → is_marked h.marks.marks x ≡ true → (u : Tree) × (matched_tree h x ≡ Some u)
   marked_tree h x e =
-      let there : (u : Tree) × (tree_at h.slots.terms x ≡ Some u) = is_there (tree_at h.slots.terms x) (h.filled x e) in
-      (there.0, ap (λ (b : Bool). cond b (tree_at h.slots.terms x) None) e ∙ there.1)
+      let there : (u : Tree) × (tree_at h.matched.terms x ≡ Some u) = is_there (tree_at h.matched.terms x) (h.filled x e) in
+      (there.0, ap (λ (b : Bool). cond b (tree_at h.matched.terms x) None) e ∙ there.1)
 
   -- and stays so where nothing is lost
   pub marks_covered : (h now : Match A) (marks : Marks) → AreMarksOf marks h → Keeps h now → Covers now marks
@@ -97,15 +97,15 @@ module _ {A : Type 0} where
       ap is_some (keeps x there.0 there.1)
 
   -- with the marks of an earlier match it is that one again
-  pub went_back : (h : Match A) (marks : Marks) (others : ℕ) (slots : List (Option (Bor (Term A)))) → AreMarksOf marks h → ((x : ℕ) (u : Tree) → matched_tree h x ≡ Some u → cond (is_marked others x) (tree_at slots x) None ≡ Some u)
-      → (x : ℕ) → cond (is_marked marks.marks x) (tree_at slots x) None ≡ matched_tree h x
-  went_back h marks others slots is keeps x = by_mark (is_marked marks.marks x) refl
+  pub went_back : (h : Match A) (marks : Marks) (others : ℕ) (matched : List (Option (Bor (Term A)))) → AreMarksOf marks h → ((x : ℕ) (u : Tree) → matched_tree h x ≡ Some u → cond (is_marked others x) (tree_at matched x) None ≡ Some u)
+      → (x : ℕ) → cond (is_marked marks.marks x) (tree_at matched x) None ≡ matched_tree h x
+  went_back h marks others matched is keeps x = by_mark (is_marked marks.marks x) refl
     where
       of_both : is_marked marks.marks x ≡ is_marked h.marks.marks x
       of_both = ap (λ (k : Marks). is_marked k.marks x) is
 
-      by_mark : (b : Bool) → is_marked marks.marks x ≡ b → cond b (tree_at slots x) None ≡ matched_tree h x
+      by_mark : (b : Bool) → is_marked marks.marks x ≡ b → cond b (tree_at matched x) None ≡ matched_tree h x
       by_mark true e =
           let there : (u : Tree) × (matched_tree h x ≡ Some u) = marked_tree h x (sym of_both ∙ e) in
-          some_tree (is_marked others x) (tree_at slots x) there.0 (keeps x there.0 there.1) ∙ sym there.1
-      by_mark false e = sym (ap (λ (b : Bool). cond b (tree_at h.slots.terms x) None) (sym of_both ∙ e))
+          some_tree (is_marked others x) (tree_at matched x) there.0 (keeps x there.0 there.1) ∙ sym there.1
+      by_mark false e = sym (ap (λ (b : Bool). cond b (tree_at h.matched.terms x) None) (sym of_both ∙ e))

@@ -1,11 +1,11 @@
 pub mod Values
 pub mod Terms
 pub mod Chains
-pub mod Root
+pub mod ResolvedRoot
 pub mod Agenda
 pub mod Unified
 pub mod BindingsModel
-pub mod Slots
+pub mod MatchedTerms
 pub mod Matching
 pub mod Comparison
 pub mod Guards

@@ -3,14 +3,14 @@ use Rattle.std.specs.Prelude.{◌≡◌, ℕ, Bool, true, false, cond, Option, S
 use Rattle.chr_semantics.specs.Tree.{Tree, Trees}
 use Rattle.chr_semantics.specs.Subst.{Subst}
 use Rattle.chr_semantics.specs.Match.{match_at, fit, fit_all}
-use Rattle.chr_bind.specs.Slots.{is_marked, tree_at}
+use Rattle.chr_bind.specs.MatchedTerms.{is_marked, tree_at}
 use Rattle.chr_bind.specs.declared.matching.Marks.{Marks}
 use Rattle.chr_bind.specs.declared.matching.Match.{Match}
 
 module _ {A : Type 0} where
   -- what a variable is matched to, if it is
   abbrev pub matched_tree : Match A → ℕ → Option Tree
-  matched_tree h x = cond (is_marked h.marks.marks x) (tree_at h.slots.terms x) None
+  matched_tree h x = cond (is_marked h.marks.marks x) (tree_at h.matched.terms x) None
 
   -- the match is that of the definitions
   abbrev pub AgreesWith : Match A → Subst → Type 0

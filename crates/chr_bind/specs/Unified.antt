@@ -3,11 +3,18 @@ use Rattle.std.specs.Prelude.{◌≡◌, ◌<◌, ℕ, List, ◌++◌, Option, S
 use Rattle.chr_semantics.specs.Tree.{Tree}
 use Rattle.chr_semantics.specs.Subst.{Subst, apply}
 use Rattle.chr_semantics.specs.Mgu.{mgu}
+use Rattle.chr_semantics.specs.Bounds.{IsBelow}
 use Rattle.chr_bind.specs.Chains.{IsSound, Pairs, owned_pairs, solution, links_before}
 use Rattle.chr_bind.specs.declared.bindings.Unified.{Unified}
 use Rattle.chr_bind.specs.declared.bindings.Unified.TheVariants.{Same, Bound, Clash}
 use Rattle.chr_bind.specs.declared.chains.Link.{Link}
 use Rattle.chr_bind.specs.declared.unification.Additions.{Additions}
+
+-- the links are those of the bindings, and the variables of both terms have links
+pub record AreLinked (links : List Link) (pairs : Pairs) (t u : Tree) : Type 0 where
+  pub sound : IsSound links pairs
+  pub left : IsBelow (length links) t
+  pub right : IsBelow (length links) u
 
 -- both terms stood for one term already, or they do now by the most general unifier, which is longer, or there is none
 abbrev pub IsUnified : Tree → Tree → Subst → Subst → Unified → Type 0

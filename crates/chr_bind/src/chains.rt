@@ -5,7 +5,7 @@ ghost use Rattle.chr_semantics.specs.Subst.{apply, occurs, occurs_any, instances
 ghost use Rattle.chr_semantics.specs.Value.{node_value, value as value_of, values};
 ghost use Rattle.chr_term.specs.TermView.{trees_view, view};
 ghost use Rattle.chr_bind.specs.Chains.{AreSound, IsEnd, pairs_of, subst_of};
-ghost use Rattle.chr_bind.specs.Root.{IsRoot, IsWrittenRoot};
+ghost use Rattle.chr_bind.specs.ResolvedRoot.{IsRoot, IsWrittenRoot};
 ghost use Rattle.chr_bind.specs.Terms.{IsNoVar};
 ghost use Rattle.chr_bind.specs.Values.{value_view};
 
@@ -35,7 +35,7 @@ pub(crate) struct Chains<'l, 't, A: Allocator> {
 
 /// The root of a term under the bindings.
 #[derive(Drop)]
-pub(crate) enum Root<'t, A: Allocator> {
+pub(crate) enum ResolvedRoot<'t, A: Allocator> {
     /// A free class by the place of its link, and its least variable.
     Free(usize, u64),
     Int(i128),
@@ -70,24 +70,24 @@ impl<'l, 't, A: Allocator> Chains<'l, 't, A> {
     }
 
     /// What a variable stands for.
-    pub fn value(&self, var: u64) -> Root<'t, A>
+    pub fn value(&self, var: u64) -> ResolvedRoot<'t, A>
         requires { AreSound self.now }
         ensures { IsRoot self.now (variable var) result }
     {
         let place = var as usize;
         if place >= self.links.len() {
-            return Root::Free(place, var);
+            return ResolvedRoot::Free(place, var);
         }
         let end = self.end(place);
         match self.links[end] {
-            Link::Free(name, _) => Root::Free(end, name),
+            Link::Free(name, _) => ResolvedRoot::Free(end, name),
             Link::Follows(_, _) => unreachable!(),
             Link::Bound(number) => written_root(self.term(number)),
         }
     }
 
     /// The root of a term.
-    pub fn root(&self, term: &'t Term<A>) -> Root<'t, A>
+    pub fn root(&self, term: &'t Term<A>) -> ResolvedRoot<'t, A>
         requires { AreSound self.now }
         ensures { IsRoot self.now (view term.now) result }
     {
@@ -100,14 +100,14 @@ impl<'l, 't, A: Allocator> Chains<'l, 't, A> {
 }
 
 /// The root of a term that is no variable.
-fn written_root<'t, A: Allocator>(term: &'t Term<A>) -> Root<'t, A>
+fn written_root<'t, A: Allocator>(term: &'t Term<A>) -> ResolvedRoot<'t, A>
     requires { IsNoVar (view term.now) }
     ensures { IsWrittenRoot (view term.now) result }
 {
     match term {
         Term::Var(_) => unreachable!(),
-        Term::Int(z) => Root::Int(*z),
-        Term::Node(sym, args) => Root::Node(*sym, args),
+        Term::Int(z) => ResolvedRoot::Int(*z),
+        Term::Node(sym, args) => ResolvedRoot::Node(*sym, args),
     }
 }
 
@@ -119,9 +119,9 @@ impl<'l, 't, A: Allocator> Chains<'l, 't, A> {
         ensures { result ≡ is_ground_tree (apply (subst_of self.now) (view term.now)) }
     {
         match self.root(term) {
-            Root::Free(_, _) => false,
-            Root::Int(_) => true,
-            Root::Node(_, args) => args.is_ground() || self.are_ground(args.as_slice()),
+            ResolvedRoot::Free(_, _) => false,
+            ResolvedRoot::Int(_) => true,
+            ResolvedRoot::Node(_, args) => args.is_ground() || self.are_ground(args.as_slice()),
         }
     }
 
@@ -146,9 +146,9 @@ impl<'l, 't, A: Allocator> Chains<'l, 't, A> {
         ensures { IsTrue result ↔ (apply (subst_of self.now) (view term.now) ≡ view other.now) }
     {
         match (self.root(term), other) {
-            (Root::Free(_, name), Term::Var(x)) => name == *x,
-            (Root::Int(y), Term::Int(z)) => y == *z,
-            (Root::Node(f, args), Term::Node(g, others)) => f == *g
+            (ResolvedRoot::Free(_, name), Term::Var(x)) => name == *x,
+            (ResolvedRoot::Int(y), Term::Int(z)) => y == *z,
+            (ResolvedRoot::Node(f, args), Term::Node(g, others)) => f == *g
                 && self.resolve_to(args.as_slice(), others.as_slice()),
             _ => false,
         }
@@ -178,9 +178,10 @@ impl<'l, 't, A: Allocator> Chains<'l, 't, A> {
         ensures { result ≡ occurs var (apply (subst_of self.now) (view term.now)) }
     {
         match self.root(term) {
-            Root::Free(_, name) => var == name,
-            Root::Int(_) => false,
-            Root::Node(_, args) => !args.is_ground() && self.occurs_any(var, args.as_slice()),
+            ResolvedRoot::Free(_, name) => var == name,
+            ResolvedRoot::Int(_) => false,
+            ResolvedRoot::Node(_, args) => !args.is_ground()
+                && self.occurs_any(var, args.as_slice()),
         }
     }
 
@@ -205,9 +206,9 @@ impl<'l, 't, A: Allocator> Chains<'l, 't, A> {
         ensures { value_view result ≡ value_of (apply (subst_of self.now) (view term.now)) }
     {
         match self.root(term) {
-            Root::Free(_, _) => Err(Fault::Unbound),
-            Root::Int(z) => Ok(z),
-            Root::Node(sym, args) => self.node_number(sym, args.as_slice()),
+            ResolvedRoot::Free(_, _) => Err(Fault::Unbound),
+            ResolvedRoot::Int(z) => Ok(z),
+            ResolvedRoot::Node(sym, args) => self.node_number(sym, args.as_slice()),
         }
     }
 

@@ -1,5 +1,5 @@
 //! What the variables of a rule are matched to.
-ghost use Rattle.chr_bind.specs.Slots.{AreFilled};
+ghost use Rattle.chr_bind.specs.MatchedTerms.{AreFilled};
 
 use chr_semantics::limits::MAX_RULE_VARIABLES;
 use chr_term::Term;
@@ -13,7 +13,7 @@ pub struct Marks {
 
 impl Marks {
     ghost use Rattle.std.specs.Prelude.{◌≡◌, ◌<◌};
-    ghost use Rattle.chr_bind.specs.Slots.{is_marked, with_mark};
+    ghost use Rattle.chr_bind.specs.MatchedTerms.{is_marked, with_mark};
 
     /// Whether a variable is marked.
     fn has(self, var: usize) -> bool
@@ -34,14 +34,14 @@ impl Marks {
 
 /// Places for terms, by the numbers of variables.
 #[derive(Drop)]
-struct Slots<'t, A: Allocator> {
+struct MatchedTerms<'t, A: Allocator> {
     terms: [Option<&'t Term<A>>; MAX_RULE_VARIABLES],
 }
 
-impl<'t, A: Allocator> Slots<'t, A> {
+impl<'t, A: Allocator> MatchedTerms<'t, A> {
     ghost use Rattle.std.specs.Prelude.{◌≡◌, ◌<◌, ◌==◌, ℕ, Some, cond};
     ghost use Rattle.chr_term.specs.TermView.{view};
-    ghost use Rattle.chr_bind.specs.Slots.{tree_at};
+    ghost use Rattle.chr_bind.specs.MatchedTerms.{tree_at};
 
     /// Puts a term at the place of a variable.
     fn put(&mut self, var: usize, term: &'t Term<A>)
@@ -58,9 +58,9 @@ impl<'t, A: Allocator> Slots<'t, A> {
 #[derive(Drop)]
 pub struct Match<'t, A: Allocator = Global> {
     /// What a variable is matched to, where it is marked; else it means nothing.
-    slots: Slots<'t, A>,
+    matched: MatchedTerms<'t, A>,
     marks: Marks,
-    ghost filled: { AreFilled marks.marks slots.terms },
+    ghost filled: { AreFilled marks.marks matched.terms },
 }
 
 impl<'t, A: Allocator> Match<'t, A> {
@@ -74,7 +74,7 @@ impl<'t, A: Allocator> Match<'t, A> {
         ensures { AgreesWith result [] }
     {
         Match {
-            slots: Slots {
+            matched: MatchedTerms {
                 terms: [None; MAX_RULE_VARIABLES],
             },
             marks: Marks { marks: 0 },
@@ -86,9 +86,9 @@ impl<'t, A: Allocator> Match<'t, A> {
         ensures { option_map (λ term. view term.now) result ≡ matched_tree self.now var }
     {
         let place = var as usize;
-        let slots = &self.slots.terms[..];
-        if place < slots.len() && self.marks.has(place) {
-            slots[place]
+        let matched = &self.matched.terms[..];
+        if place < matched.len() && self.marks.has(place) {
+            matched[place]
         } else {
             None
         }
@@ -116,7 +116,7 @@ impl<'t, A: Allocator> Match<'t, A> {
         ensures agrees { (m : Subst) → AgreesWith self.old m → AgreesWith self.new ((var, view term.now) ∷ m) }
         ensures kept { Keeps self.old self.new }
     {
-        self.slots.put(var, term);
+        self.matched.put(var, term);
         self.marks.put(var);
     }
 }

@@ -13,7 +13,7 @@ use std::alloc::Allocator;
 use std::hash::{BuildHasherDefault, FoldHasher};
 
 /// The variables of some terms, each at the place that is its new number.
-type Numbers<A> = IndexSet<u64, BuildHasherDefault<FoldHasher>, A>;
+type NewNumbers<A> = IndexSet<u64, BuildHasherDefault<FoldHasher>, A>;
 
 /// Whether the terms have a unifier. The work is that of their own variables alone.
 pub(crate) fn are_unifiable<A: Allocator + Copy>(
@@ -40,7 +40,7 @@ pub(crate) fn are_unifiable<A: Allocator + Copy>(
 #[cycle(renumber)]
 fn renumber<A: Allocator + Copy>(
     alloc: A,
-    numbers: &mut Numbers<A>,
+    numbers: &mut NewNumbers<A>,
     term: &Term<A>,
 ) -> Result<Term<A>, Memory>
     requires { IsNames numbers.old.keys }
@@ -65,7 +65,7 @@ fn renumber<A: Allocator + Copy>(
 #[cycle(renumber)]
 fn renumber_all<A: Allocator + Copy>(
     alloc: A,
-    numbers: &mut Numbers<A>,
+    numbers: &mut NewNumbers<A>,
     terms: &[Term<A>],
 ) -> Result<Vec<Term<A>, A>, Memory>
     requires { IsNames numbers.old.keys }

@@ -6,7 +6,7 @@ ghost use Rattle.chr_term.specs.TermView.{trees_view, view};
 ghost use Rattle.chr_bind.specs.Chains.{AreSound, subst_of};
 ghost use Rattle.chr_term.specs.Replaced.{args_by, tree_by, trees_by};
 
-use crate::chains::{Chains, Root};
+use crate::chains::{Chains, ResolvedRoot};
 use chr_term::{Args, Memory, Term, args_or_same, push_replaced, term_or_same, terms_or_same};
 use std::alloc::Allocator;
 
@@ -35,14 +35,17 @@ impl<'l, 't, A: Allocator + Copy> Chains<'l, 't, A> {
             tree_by (variable var) replaced ≡ apply (subst_of self.now) (variable var)) }
     {
         match self.value(var) {
-            Root::Free(_, name) => {
+            ResolvedRoot::Free(_, name) => {
                 if name == var {
                     return Ok(None);
                 }
                 Ok(Some(Term::Var(name)))
             }
-            Root::Int(z) => Ok(Some(Term::Int(z))),
-            Root::Node(sym, args) => Ok(Some(Term::Node(sym, self.resolve_args(alloc, args)?))),
+            ResolvedRoot::Int(z) => Ok(Some(Term::Int(z))),
+            ResolvedRoot::Node(sym, args) => Ok(Some(Term::Node(
+                sym,
+                self.resolve_args(alloc, args)?,
+            ))),
         }
     }
 

@@ -7,11 +7,11 @@ ghost use Rattle.chr_semantics.specs.Bounds.{AreBelow, IsBelow};
 ghost use Rattle.chr_term.specs.Size.{size};
 ghost use Rattle.chr_bind.specs.Chains.{AreSound, IsAttached, IsJoined, IsSound, lent_pairs, changed_links, name_of, owned_pairs, pairs_in, solution, subst_of, links_before};
 ghost use Rattle.chr_bind.specs.Agenda.{Differs, IsAllDone, IsBelowAgenda, IsBinding, IsBound, IsRootComparison, Eliminates, agenda_size, lists_apart, lists_size, rest_apart, terms_apart};
-ghost use Rattle.chr_bind.specs.Unified.{IsAnswer, IsUnification, IsUnified};
+ghost use Rattle.chr_bind.specs.Unified.{AreLinked, IsAnswer, IsUnification, IsUnified};
 
 use crate::Memory;
 use crate::bindings::Unified;
-use crate::chains::{Chains, Link, Root};
+use crate::chains::{Chains, Link, ResolvedRoot};
 use chr_term::{Term, copy};
 use std::alloc::Allocator;
 
@@ -74,7 +74,7 @@ fn compare<'t, A: Allocator>(
         (view left.now) (view right.now) result }
 {
     match (chains.root(left), chains.root(right)) {
-        (Root::Free(end, x), Root::Free(other, y)) => {
+        (ResolvedRoot::Free(end, x), ResolvedRoot::Free(other, y)) => {
             if x == y {
                 RootComparison::Same
             } else if x < y {
@@ -83,10 +83,10 @@ fn compare<'t, A: Allocator>(
                 to_bind(end, x, right)
             }
         }
-        (Root::Free(end, name), _) => to_bind(end, name, right),
-        (_, Root::Free(end, name)) => to_bind(end, name, left),
-        (Root::Int(x), Root::Int(y)) if x == y => RootComparison::Same,
-        (Root::Node(f, lefts), Root::Node(g, rights)) => {
+        (ResolvedRoot::Free(end, name), _) => to_bind(end, name, right),
+        (_, ResolvedRoot::Free(end, name)) => to_bind(end, name, left),
+        (ResolvedRoot::Int(x), ResolvedRoot::Int(y)) if x == y => RootComparison::Same,
+        (ResolvedRoot::Node(f, lefts), ResolvedRoot::Node(g, rights)) => {
             if f == g {
                 RootComparison::Arguments(lefts.as_slice(), rights.as_slice())
             } else {
@@ -563,9 +563,7 @@ fn unify_all<A: Allocator + Copy>(
     left: &Term<A>,
     right: &Term<A>,
 ) -> Result<Unified, Memory>
-    requires sound { IsSound links.old (owned_pairs made.old.items) }
-    requires left { IsBelow (length links.old) (view left.now) }
-    requires right { IsBelow (length links.old) (view right.now) }
+    requires { AreLinked links.old (owned_pairs made.old.items) (view left.now) (view right.now) }
     ensures sound { IsSound links.new (owned_pairs made.new.items) }
     ensures unified { IfOk result (IsUnified (view left.now) (view right.now)
         (solution (owned_pairs made.old.items)) (solution (owned_pairs made.new.items))) }
@@ -620,9 +618,7 @@ pub(crate) fn unify_terms<A: Allocator + Copy>(
     left: &Term<A>,
     right: &Term<A>,
 ) -> Result<Unified, Memory>
-    requires sound { IsSound links.old (owned_pairs made.old.items) }
-    requires left { IsBelow (length links.old) (view left.now) }
-    requires right { IsBelow (length links.old) (view right.now) }
+    requires { AreLinked links.old (owned_pairs made.old.items) (view left.now) (view right.now) }
     ensures sound { IsSound links.new (owned_pairs made.new.items) }
     ensures unified { IfOk result (IsUnified (view left.now) (view right.now)
         (solution (owned_pairs made.old.items)) (solution (owned_pairs made.new.items))) }

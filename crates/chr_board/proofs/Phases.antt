@@ -4,9 +4,9 @@ use Rattle.std.specs.Prelude.{◌⊎◌, option_map, unwrap_or, is_some}
 use Rattle.std.specs.List.{filter}
 use Rattle.chr_semantics.specs.Desk.{Phase, Serial, count_of, is_posted, is_waiting, out, waiting, given_up, posted, drained, with_phase}
 use Rattle.chr_board.specs.IsDesk.{seat}
-use Rattle.chr_board.specs.RowView.{phase_view, row_view, rows_view}
-use Rattle.chr_board.specs.declared.row.Phase.{Phase as Code}
-use Rattle.chr_board.specs.declared.row.Row.{Row}
+use Rattle.chr_board.specs.OfferedView.{phase_view, offered_task_view, offered_view}
+use Rattle.chr_board.specs.declared.offered_task.Phase.{Phase as Code}
+use Rattle.chr_board.specs.declared.offered_task.OfferedTask.{OfferedTask}
 
 abbrev pub in_phase : Phase → Serial → Serial
 in_phase p s = record s { phase = p }
@@ -25,17 +25,17 @@ with_phase-none p [] k e = refl
 with_phase-none p (x ∷ xs) zero e = absurd (true≢false (ap is_some e))
 with_phase-none p (x ∷ xs) (suc k) e = ap (λ r. x ∷ r) (with_phase-none p xs k e)
 
--- a row that comes to a phase
-pub moved : (rows : List Row) (k : ℕ) (d : Row) (p : Code) → k < length rows
-    → rows_view (set rows k (record (get_or rows k d) { phase = p })) ≡ with_phase (phase_view p) (rows_view rows) k
+-- a task that comes to a phase
+pub moved : (offered : List OfferedTask) (k : ℕ) (d : OfferedTask) (p : Code) → k < length offered
+    → offered_view (set offered k (record (get_or offered k d) { phase = p })) ≡ with_phase (phase_view p) (offered_view offered) k
 moved [] k d p lt = absurd (omega (arith, lt))
 moved (r ∷ rs) zero d p lt = refl
-moved (r ∷ rs) (suc k) d p lt = ap (λ xs. row_view r ∷ xs) (moved rs k d p (omega (arith, lt)))
+moved (r ∷ rs) (suc k) d p lt = ap (λ xs. offered_task_view r ∷ xs) (moved rs k d p (omega (arith, lt)))
 
-pub not_moved : (rows : List Row) (k : ℕ) (p : Phase) → length rows ≤ k → with_phase p (rows_view rows) k ≡ rows_view rows
+pub not_moved : (offered : List OfferedTask) (k : ℕ) (p : Phase) → length offered ≤ k → with_phase p (offered_view offered) k ≡ offered_view offered
 not_moved [] k p le = refl
 not_moved (r ∷ rs) zero p le = absurd (omega (arith, le))
-not_moved (r ∷ rs) (suc k) p le = ap (λ xs. row_view r ∷ xs) (not_moved rs k p (omega (arith, le)))
+not_moved (r ∷ rs) (suc k) p le = ap (λ xs. offered_task_view r ∷ xs) (not_moved rs k p (omega (arith, le)))
 
 pub length-with_phase : (p : Phase) (ss : List Serial) (k : ℕ) → length (with_phase p ss k) ≡ length ss
 length-with_phase p [] k = refl

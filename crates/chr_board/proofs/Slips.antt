@@ -6,8 +6,8 @@ use Rattle.std.proofs.lemmas.List.{length-map}
 use Rattle.std.proofs.lemmas.Bool.{and_parts}
 use Rattle.chr_semantics.specs.Desk.{Desk, Serial, Slip, after_drain, handed_over, holds_slip, is_out, is_slip_of, is_waiting, next_serial, out, posted, taken, with_phase, with_post}
 use Rattle.chr_board.specs.IsDesk.{IsDesk, seat}
-use Rattle.chr_board.specs.RowView.{row_view, rows_view}
-use Rattle.chr_board.specs.declared.row.Row.{Row}
+use Rattle.chr_board.specs.OfferedView.{offered_task_view, offered_view}
+use Rattle.chr_board.specs.declared.offered_task.OfferedTask.{OfferedTask}
 use Rattle.chr_board.proofs.Keeps.{equal_is}
 
 -- the task that a slip is of
@@ -69,22 +69,22 @@ as_many seat_at ss next owed posts answers post_capacity answer_capacity h =
     let same = ap (λ (xs : List (Option (ℕ × ℕ))). length xs) h.seats_are in
     omega (arith, same, length-map seats (λ (x : ℕ × ℕ). Some x), length-map answers seat_at, length-map posts (λ k. option_map seat (slice_get ss k)))
 
--- ---- a row that is handed out
+-- ---- a task that is handed out
 
-pub row_at : (rows : List Row) (k : ℕ) → k < length rows → (s : Serial) × (slice_get (rows_view rows) k ≡ Some s)
-row_at [] k lt = absurd (omega (arith, lt))
-row_at (r ∷ rs) zero lt = (row_view r, refl)
-row_at (r ∷ rs) (suc k) lt = row_at rs k (omega (arith, lt))
+pub task_at : (offered : List OfferedTask) (k : ℕ) → k < length offered → (s : Serial) × (slice_get (offered_view offered) k ≡ Some s)
+task_at [] k lt = absurd (omega (arith, lt))
+task_at (r ∷ rs) zero lt = (offered_task_view r, refl)
+task_at (r ∷ rs) (suc k) lt = task_at rs k (omega (arith, lt))
 
 equal_self : (a : ℕ) → (a == a) ≡ true
 equal_self a = grind arith
 
 -- its slip is one of the desk, once it is out
-pub slip_of_row : (rows : List Row) (k : ℕ) (d : Row) → k < length rows
-    → is_slip_of (record { serial = k; place = (get_or rows k d).place; index = (get_or rows k d).index }) (slice_get (with_phase out (rows_view rows) k) k) ≡ true
-slip_of_row [] k d lt = absurd (omega (arith, lt))
-slip_of_row (r ∷ rs) zero d lt = ap₂ (λ a b. a && b) (equal_self r.place) (equal_self r.index)
-slip_of_row (r ∷ rs) (suc k) d lt = slip_of_row rs k d (omega (arith, lt))
+pub slip_of_task : (offered : List OfferedTask) (k : ℕ) (d : OfferedTask) → k < length offered
+    → is_slip_of (record { serial = k; place = (get_or offered k d).place; index = (get_or offered k d).index }) (slice_get (with_phase out (offered_view offered) k) k) ≡ true
+slip_of_task [] k d lt = absurd (omega (arith, lt))
+slip_of_task (r ∷ rs) zero d lt = ap₂ (λ a b. a && b) (equal_self r.place) (equal_self r.index)
+slip_of_task (r ∷ rs) (suc k) d lt = slip_of_task rs k d (omega (arith, lt))
 
 -- ---- a post
 

@@ -3,4 +3,4 @@ pub mod Drained
 pub mod DeskView
 pub mod Errors
 pub mod IsDesk
-pub mod RowView
+pub mod OfferedView

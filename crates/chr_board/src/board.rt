@@ -1,7 +1,7 @@
 //! A desk that threads share.
 ghost use Rattle.std.specs.Prelude.{◌≡◌, IfOk, OnErr};
 ghost use Rattle.chr_shelf.specs.Seat.{index_of, place_of, ticket_of};
-ghost use Rattle.chr_board.specs.RowView.{slip_view};
+ghost use Rattle.chr_board.specs.OfferedView.{slip_view};
 ghost use Rattle.chr_board.specs.Drained.{HasMore};
 
 use crate::Memory;

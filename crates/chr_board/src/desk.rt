@@ -3,13 +3,13 @@ ghost use Rattle.std.proofs.Props.{props};
 ghost use Rattle.std.specs.Prelude.{◌≡◌, ◌≤◌, ◌+◌, ◌++◌, IfErr, IfNone, IfOk, IfSome, None, OnErr, OnOk, Some, length, map, true, vec_capacity, vec_len};
 ghost use Rattle.chr_semantics.specs.Desk.{after_close, after_drain, answers, holds_slip, next_serial, offer_refusal, offered, open_desk, taken, totals, with_post, without_answer};
 ghost use Rattle.chr_shelf.specs.Seat.{index_of, place_of, ticket_of};
-ghost use Rattle.chr_board.specs.RowView.{newest_place, rows_view, seat_of, slip_view, totals_view};
+ghost use Rattle.chr_board.specs.OfferedView.{newest_place, offered_view, seat_of, slip_view, totals_view};
 ghost use Rattle.chr_board.specs.Errors.{refusal_of};
 ghost use Rattle.chr_board.specs.IsDesk.{IsDesk};
 
 use crate::Memory;
 use crate::error::BoardError;
-use crate::row::{Phase, Row, count, mark_drained, move_to, push_rows};
+use crate::offered_task::{OfferedTask, Phase, count, mark_drained, move_to, push_tasks};
 use crate::slip::Slip;
 use crate::totals::Totals;
 use chr_semantics::limits::MAX_OFFERED_TASKS;
@@ -20,17 +20,17 @@ use std::alloc::{Allocator, Global};
 /// for every answer that may still come, so that handing out and answering take no memory.
 #[derive(Drop)]
 pub struct Desk<J: RunName, A: Allocator = Global> {
-    rows: Vec<Row, A>,
-    /// The rows below it do not wait, and the others do.
+    offered: Vec<OfferedTask, A>,
+    /// The tasks with lesser serials do not wait, and the others do.
     next: usize,
-    /// How many rows may still get an answer.
+    /// How many of them may still get an answer.
     owed: usize,
-    /// The rows that are posted, in the order of their posts.
+    /// The serials of those that are posted, in the order of their posts.
     serials: Vec<usize, A>,
     /// Their answers.
     posted: Vec<Answer<J, A>, A>,
     closed: bool,
-    ghost is_desk: { IsDesk (rows_view rows.items) next owed serials.items (map seat_of posted.items)
+    ghost is_desk: { IsDesk (offered_view offered.items) next owed serials.items (map seat_of posted.items)
         (vec_capacity serials) (vec_capacity posted) } by { Prim.hlevel props },
 }
 
@@ -41,10 +41,10 @@ impl<J: RunName, A: Allocator> Desk<J, A> {
     fn holds(&self, slip: &Slip) -> bool
         ensures { result ≡ holds_slip (desk_view self.now) (slip_view slip.now) }
     {
-        match self.rows.get(slip.serial) {
+        match self.offered.get(slip.serial) {
             None => false,
-            Some(row) => {
-                row.phase == Phase::Out && row.place == slip.place && row.index == slip.index
+            Some(task) => {
+                task.phase == Phase::Out && task.place == slip.place && task.index == slip.index
             }
         }
     }
@@ -53,18 +53,24 @@ impl<J: RunName, A: Allocator> Desk<J, A> {
     pub fn newest(&self) -> Option<usize>
         ensures { result ≡ newest_place (desk_view self.now).serials }
     {
-        let row = self.rows.get(self.rows.len().saturating_sub(1))?;
-        Some(row.place)
+        let task = self.offered.get(self.offered.len().saturating_sub(1))?;
+        Some(task.place)
     }
 
     /// How far all tasks have come, in numbers.
     pub fn totals(&self) -> Totals
         ensures { totals_view result ≡ totals (desk_view self.now) }
     {
-        let rows = self.rows.as_slice();
-        let (waiting, given_up) = (count(rows, Phase::Waiting), count(rows, Phase::GivenUp));
-        let (left, drained) = (count(rows, Phase::Posted), count(rows, Phase::Drained));
-        let put = rows.len();
+        let offered = self.offered.as_slice();
+        let (waiting, given_up) = (
+            count(offered, Phase::Waiting),
+            count(offered, Phase::GivenUp),
+        );
+        let (left, drained) = (
+            count(offered, Phase::Posted),
+            count(offered, Phase::Drained),
+        );
+        let put = offered.len();
         Totals {
             put: put as u64,
             taken: (put - waiting) as u64,
@@ -78,7 +84,7 @@ impl<J: RunName, A: Allocator> Desk<J, A> {
 
     /// Whether it is open, and no task waits.
     pub(crate) fn is_idle(&self) -> bool {
-        !self.closed && self.next >= self.rows.len()
+        !self.closed && self.next >= self.offered.len()
     }
 }
 
@@ -90,7 +96,7 @@ impl<J: RunName, A: Allocator + Copy> Desk<J, A> {
         ensures { desk_view result ≡ open_desk }
     {
         Desk {
-            rows: Vec::new(alloc),
+            offered: Vec::new(alloc),
             next: 0,
             owed: 0,
             serials: Vec::new(alloc),
@@ -104,12 +110,12 @@ impl<J: RunName, A: Allocator + Copy> Desk<J, A> {
         requires { self.old.owed + tasks ≤ 18446744073709551615 }
         ensures same { desk_view self.new ≡ desk_view self.old }
         ensures fields { (self.new.next ≡ self.old.next) × (self.new.owed ≡ self.old.owed) }
-        ensures rows { OnOk result (vec_len self.new.rows + tasks ≤ vec_capacity self.new.rows) }
+        ensures offered { OnOk result (vec_len self.new.offered + tasks ≤ vec_capacity self.new.offered) }
         ensures serials { OnOk result (length self.new.serials.items + (self.new.owed + tasks) ≤ vec_capacity self.new.serials) }
         ensures posted { OnOk result (length self.new.serials.items + (self.new.owed + tasks) ≤ vec_capacity self.new.posted) }
     {
         let answers = self.owed + tasks;
-        self.rows.reserve(tasks)?;
+        self.offered.reserve(tasks)?;
         self.serials.reserve(answers)?;
         self.posted.reserve(answers)?;
         Ok(())
@@ -126,14 +132,14 @@ impl<J: RunName, A: Allocator + Copy> Desk<J, A> {
         if self.closed {
             return Err(BoardError::Closed);
         }
-        let first = self.rows.len();
+        let first = self.offered.len();
         if tasks as usize > MAX_OFFERED_TASKS - first {
             return Err(BoardError::TooManyTasks);
         }
         match self.room(tasks as usize) {
             Err(_) => Err(BoardError::Memory),
             Ok(()) => {
-                push_rows(&mut self.rows, place, tasks);
+                push_tasks(&mut self.offered, place, tasks);
                 self.owed += tasks as usize;
                 Ok(first as u64)
             }
@@ -150,12 +156,12 @@ impl<J: RunName, A: Allocator + Copy> Desk<J, A> {
         if self.closed {
             return None;
         }
-        if self.next >= self.rows.len() {
+        if self.next >= self.offered.len() {
             return None;
         }
         let serial = self.next;
-        let Row { place, index, .. } = self.rows[serial];
-        move_to(&mut self.rows, serial, Phase::Out);
+        let OfferedTask { place, index, .. } = self.offered[serial];
+        move_to(&mut self.offered, serial, Phase::Out);
         self.next = serial + 1;
         Some(Slip {
             serial,
@@ -177,7 +183,7 @@ impl<J: RunName, A: Allocator + Copy> Desk<J, A> {
             index: _,
         } = slip;
         if held {
-            move_to(&mut self.rows, serial, Phase::Posted);
+            move_to(&mut self.offered, serial, Phase::Posted);
             self.owed -= 1;
             self.serials.push_reserved(serial);
             self.posted.push_reserved(answer);
@@ -195,7 +201,7 @@ impl<J: RunName, A: Allocator + Copy> Desk<J, A> {
             index: _,
         } = slip;
         if held {
-            move_to(&mut self.rows, serial, Phase::GivenUp);
+            move_to(&mut self.offered, serial, Phase::GivenUp);
             self.owed -= 1;
         }
     }
@@ -209,7 +215,7 @@ impl<J: RunName, A: Allocator + Copy> Desk<J, A> {
     {
         let count = self.posted.len();
         into.append(&mut self.posted)?;
-        mark_drained(&mut self.rows, self.serials.as_slice());
+        mark_drained(&mut self.offered, self.serials.as_slice());
         self.serials.clear();
         Ok(count)
     }

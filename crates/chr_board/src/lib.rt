@@ -4,7 +4,7 @@
 mod board;
 mod desk;
 mod error;
-mod row;
+mod offered_task;
 mod searches;
 mod slip;
 mod totals;

@@ -10,7 +10,7 @@ pub struct Slip {
 
 impl Slip {
     ghost use Rattle.std.specs.Prelude.{◌≡◌};
-    ghost use Rattle.chr_board.specs.RowView.{slip_view};
+    ghost use Rattle.chr_board.specs.OfferedView.{slip_view};
 
     /// Its number, from 0 in the order of the offers.
     pub fn serial(&self) -> u64

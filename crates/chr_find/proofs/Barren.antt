@@ -9,7 +9,7 @@ use Rattle.chr_semantics.specs.Program.{Atom, Head}
 use Rattle.chr_semantics.specs.Search.{has_number}
 use Rattle.chr_semantics.specs.Subst.{Subst}
 use Rattle.chr_find.specs.Shown.{any_new}
-use Rattle.chr_find.proofs.Gates.{new_id}
+use Rattle.chr_find.proofs.Thresholds.{new_id}
 use Rattle.std.proofs.lemmas.Option.{none-some}
 
 -- what does not fit under a match does not fit under a longer one

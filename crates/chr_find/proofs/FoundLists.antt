@@ -71,7 +71,7 @@ module _ (h : History) (r : ℕ) (guard : List Test) (prefix : List ℕ) where
   pub finds_none : (told : ℕ) → told < 2 ^ 64 → Finds h r guard prefix [] None told told
   finds_none told small = record { found = refl; tries = capped_self told small }
 
-  -- where one was found in the first part, the second is not looked at
+  -- where one was found in the first span, the second is not looked at
   pub finds_first_part : (xs ys : List Joined) (l : List ℕ) (told now : ℕ) → Finds h r guard prefix xs (Some l) told now → Finds h r guard prefix (xs ++ ys) (Some l) told now
   finds_first_part xs ys l told now f =
       let there : is_some (find (entering h r guard prefix) xs) ≡ true = is_found prefix (find (entering h r guard prefix) xs) l (sym f.found) in

@@ -12,10 +12,10 @@ use Rattle.chr_semantics.specs.Search.{History, fired_before, ids_of}
 use Rattle.chr_semantics.specs.Subst.{Subst}
 use Rattle.chr_semantics.specs.Tries.{capped}
 use Rattle.chr_find.specs.Finds.{Finds, best, entering}
-use Rattle.chr_find.specs.Gate.{Gate, admits, next_gate, passed}
+use Rattle.chr_find.specs.Threshold.{Threshold, admits, next_threshold, passed}
 use Rattle.chr_find.specs.Joins.{JoinIs, WalkIs, step_of}
 use Rattle.chr_find.proofs.FoundLists.{finds_after, finds_same}
-use Rattle.chr_find.proofs.Gates.{passed-after, passed-flat_map}
+use Rattle.chr_find.proofs.Thresholds.{passed-after, passed-flat_map}
 use Rattle.chr_find.proofs.JoinSteps.{step_misfit, used_next}
 use Rattle.chr_find.proofs.SearchParts.{drop_at}
 use Rattle.chr_semantics.proofs.SearchedLists.{flat_map-filter}
@@ -37,27 +37,27 @@ joined_end rows a place hs used k m e = rw e refl
 capped_plain : (n : ℕ) → n < 2 ^ 64 → n ≡ capped (n + 0)
 capped_plain n small = omega (arith, small)
 
-passed_one : (from : ℕ) (gate : Gate) (b : Bool) (p : Joined) → admits from gate (ids_of p.0) ≡ b → passed from gate (p ∷ []) ≡ cond b (p ∷ []) []
-passed_one from gate b p e = ap (λ (x : Bool). cond x (p ∷ []) []) e
+passed_one : (from : ℕ) (threshold : Threshold) (b : Bool) (p : Joined) → admits from threshold (ids_of p.0) ≡ b → passed from threshold (p ∷ []) ≡ cond b (p ∷ []) []
+passed_one from threshold b p e = ap (λ (x : Bool). cond x (p ∷ []) []) e
 
 tried_alone : (b : Bool) → cond b 1 (0 + 1) ≡ 1
 tried_alone true = refl
 tried_alone false = omega arith
 
-module _ {A : Type 0} (rows : List Row) (h : History) (r : ℕ) (rule : Rule) (place own level : ℕ) (partners : List ℕ) (matching : Match A) (from quiet : ℕ) (gate : Gate) (told : ℕ) (past : length rule.heads ≤ level) where
+module _ {A : Type 0} (rows : List Row) (h : History) (r : ℕ) (rule : Rule) (place own level : ℕ) (partners : List ℕ) (matching : Match A) (from quiet : ℕ) (threshold : Threshold) (told : ℕ) (past : length rule.heads ≤ level) where
   end_is : (b d : Bool) → fired_before h r partners ≡ d → (m : Subst) → all_entailed m rule.guard ≡ b → best h r rule.guard partners (([], m) ∷ []) ≡ cond (b && not d) (Some partners) None
   end_is b d fired m e = end_at b d h r rule.guard partners m e fired
 
-  whole_is : (b : Bool) → admits from gate [] ≡ b → (a : Row) (used : List ℕ) (m : Subst) → passed from gate (joined rows a place (drop level rule.heads) used level m) ≡ cond b (([], m) ∷ []) []
-  whole_is b opens a used m = ap (passed from gate) (joined_end rows a place (drop level rule.heads) used level m (drop_all level rule.heads past)) ∙ passed_one from gate b ([], m) opens
+  whole_is : (b : Bool) → admits from threshold [] ≡ b → (a : Row) (used : List ℕ) (m : Subst) → passed from threshold (joined rows a place (drop level rule.heads) used level m) ≡ cond b (([], m) ∷ []) []
+  whole_is b opens a used m = ap (passed from threshold) (joined_end rows a place (drop level rule.heads) used level m (drop_all level rule.heads past)) ∙ passed_one from threshold b ([], m) opens
 
-  -- the gate does not admit the list
-  pub end_closed : told < 2 ^ 64 → admits from gate [] ≡ false → JoinIs rows h r rule place own level partners matching from quiet gate None told told
+  -- the threshold does not admit the list
+  pub end_closed : told < 2 ^ 64 → admits from threshold [] ≡ false → JoinIs rows h r rule place own level partners matching from quiet threshold None told told
   end_closed small closed a used m owns known agrees q =
       finds_same h r rule.guard partners _ [] None told told (whole_is false closed a used m) (record { found = refl; tries = capped_plain told small })
 
-  open_end : admits from gate [] ≡ true → (a : Row) (used : List ℕ) (m : Subst) (result : Option (List ℕ)) (now : ℕ) → now ≡ capped (told + 1) → result ≡ best h r rule.guard partners (([], m) ∷ [])
-      → Finds h r rule.guard partners (passed from gate (joined rows a place (drop level rule.heads) used level m)) result told now
+  open_end : admits from threshold [] ≡ true → (a : Row) (used : List ℕ) (m : Subst) (result : Option (List ℕ)) (now : ℕ) → now ≡ capped (told + 1) → result ≡ best h r rule.guard partners (([], m) ∷ [])
+      → Finds h r rule.guard partners (passed from threshold (joined rows a place (drop level rule.heads) used level m)) result told now
   open_end opens a used m result now one e =
       finds_same h r rule.guard partners _ (([], m) ∷ []) result told now (whole_is true opens a used m)
       (record { found = e; tries = one ∙ ap (λ (k : ℕ). capped (told + k)) (sym (tried_alone (entering h r rule.guard partners ([], m)))) })
@@ -66,15 +66,15 @@ module _ {A : Type 0} (rows : List Row) (h : History) (r : ℕ) (rule : Rule) (p
   and_fired true = refl
   and_fired false = refl
 
-  pub end_fired : (now : ℕ) → admits from gate [] ≡ true → now ≡ capped (told + 1) → fired_before h r partners ≡ true → JoinIs rows h r rule place own level partners matching from quiet gate None told now
+  pub end_fired : (now : ℕ) → admits from threshold [] ≡ true → now ≡ capped (told + 1) → fired_before h r partners ≡ true → JoinIs rows h r rule place own level partners matching from quiet threshold None told now
   end_fired now opens one fired a used m owns known agrees q = open_end opens a used m None now one (sym (end_is (all_entailed m rule.guard) true fired m refl ∙ and_fired (all_entailed m rule.guard)))
 
-  pub end_found : (now : ℕ) → admits from gate [] ≡ true → now ≡ capped (told + 1) → fired_before h r partners ≡ false → ((m : Subst) → AgreesWith matching m → true ≡ all_entailed m rule.guard)
-      → JoinIs rows h r rule place own level partners matching from quiet gate (Some partners) told now
+  pub end_found : (now : ℕ) → admits from threshold [] ≡ true → now ≡ capped (told + 1) → fired_before h r partners ≡ false → ((m : Subst) → AgreesWith matching m → true ≡ all_entailed m rule.guard)
+      → JoinIs rows h r rule place own level partners matching from quiet threshold (Some partners) told now
   end_found now opens one fired holds a used m owns known agrees q =
       open_end opens a used m (Some partners) now one (sym (end_is true false fired m (sym (holds m agrees))))
 
-  pub end_unguarded : (now : ℕ) → admits from gate [] ≡ true → now ≡ capped (told + 1) → ((m : Subst) → AgreesWith matching m → false ≡ all_entailed m rule.guard) → JoinIs rows h r rule place own level partners matching from quiet gate None told now
+  pub end_unguarded : (now : ℕ) → admits from threshold [] ≡ true → now ≡ capped (told + 1) → ((m : Subst) → AgreesWith matching m → false ≡ all_entailed m rule.guard) → JoinIs rows h r rule place own level partners matching from quiet threshold None told now
   end_unguarded now opens one holds a used m owns known agrees q = open_end opens a used m None now one (sym (end_is false (fired_before h r partners) refl m (sym (holds m agrees))))
 
 -- at the own place the join goes on with the own row
@@ -87,26 +87,26 @@ joined_here : (rows : List Row) (a : Row) (place : ℕ) (x : Head) (hs : List He
     → joined rows a place all used k m ≡ flat_map (λ c. step_of rows a place hs used k m x.atom c) rows
 joined_here rows a place x hs used k m all is other = rw (is, other) refl
 
-module _ {A : Type 0} (rows : List Row) (h : History) (r : ℕ) (rule : Rule) (place own level : ℕ) (partners : List ℕ) (matching : Match A) (from quiet : ℕ) (gate : Gate) (x : Head) (at : slice_get rule.heads level ≡ Some x) where
+module _ {A : Type 0} (rows : List Row) (h : History) (r : ℕ) (rule : Rule) (place own level : ℕ) (partners : List ℕ) (matching : Match A) (from quiet : ℕ) (threshold : Threshold) (x : Head) (at : slice_get rule.heads level ≡ Some x) where
   pub at_own : (longer : List ℕ) (result : Option (List ℕ)) (told now : ℕ) → longer ≡ partners ++ own ∷ [] → (level == place) ≡ true
-      → JoinIs rows h r rule place own (level + 1) longer matching from quiet (next_gate from gate own) result told now → JoinIs rows h r rule place own level partners matching from quiet gate result told now
+      → JoinIs rows h r rule place own (level + 1) longer matching from quiet (next_threshold from threshold own) result told now → JoinIs rows h r rule place own level partners matching from quiet threshold result told now
   at_own longer result told now next here j a used m owns known agrees q =
       let hs : List Head = drop (level + 1) rule.heads in
       let longer_is : longer ≡ partners ++ a.0 ∷ [] = next ∙ ap (λ (i : ℕ). partners ++ i ∷ []) (sym owns) in
       let further : List Joined = joined rows a place hs (a.0 ∷ used) (level + 1) m in
-      finds_same h r rule.guard partners (passed from gate (joined rows a place (drop level rule.heads) used level m)) (map (after_row a) (passed from (next_gate from gate own) further)) result told now
-      (ap (passed from gate) (joined_own rows a place x hs used level m (drop level rule.heads) (drop_at rule.heads level x at) here) ∙ (passed-after from gate a further ∙ ap (λ (i : ℕ). map (after_row a) (passed from (next_gate from gate i) further)) owns))
-      (finds_after h r rule.guard partners a longer (passed from (next_gate from gate own) further) result told now longer_is
+      finds_same h r rule.guard partners (passed from threshold (joined rows a place (drop level rule.heads) used level m)) (map (after_row a) (passed from (next_threshold from threshold own) further)) result told now
+      (ap (passed from threshold) (joined_own rows a place x hs used level m (drop level rule.heads) (drop_at rule.heads level x at) here) ∙ (passed-after from threshold a further ∙ ap (λ (i : ℕ). map (after_row a) (passed from (next_threshold from threshold i) further)) owns))
+      (finds_after h r rule.guard partners a longer (passed from (next_threshold from threshold own) further) result told now longer_is
       (j a (a.0 ∷ used) m owns (used_next used partners longer a.0 longer_is known) agrees q))
 
   -- the rows that some test keeps are enough
   pub from_walk : (keep : Row → Bool) (result : Option (List ℕ)) (told now : ℕ) → (level == place) ≡ false → ((m : Subst) → AgreesWith matching m → (c : Row) → keep c ≡ false → fit_atom x.atom c.1 m ≡ None)
-      → WalkIs rows h r rule place own level partners matching from quiet gate x.atom (filter keep rows) result told now → JoinIs rows h r rule place own level partners matching from quiet gate result told now
+      → WalkIs rows h r rule place own level partners matching from quiet threshold x.atom (filter keep rows) result told now → JoinIs rows h r rule place own level partners matching from quiet threshold result told now
   from_walk keep result told now other enough w a used m owns known agrees q =
       let hs : List Head = drop (level + 1) rule.heads in
       let step : Row → List Joined = λ c. step_of rows a place hs used level m x.atom c in
-      let f : Row → List Joined = λ c. passed from gate (step c) in
-      finds_same h r rule.guard partners (passed from gate (joined rows a place (drop level rule.heads) used level m)) (flat_map f (filter keep rows)) result told now
-      (ap (passed from gate) (joined_here rows a place x hs used level m (drop level rule.heads) (drop_at rule.heads level x at) other)
-      ∙ (passed-flat_map from gate step rows ∙ sym (flat_map-filter f keep rows (λ c out. ap (passed from gate) (step_misfit rows a place hs used level m x.atom c (enough m agrees c out))))))
+      let f : Row → List Joined = λ c. passed from threshold (step c) in
+      finds_same h r rule.guard partners (passed from threshold (joined rows a place (drop level rule.heads) used level m)) (flat_map f (filter keep rows)) result told now
+      (ap (passed from threshold) (joined_here rows a place x hs used level m (drop level rule.heads) (drop_at rule.heads level x at) other)
+      ∙ (passed-flat_map from threshold step rows ∙ sym (flat_map-filter f keep rows (λ c out. ap (passed from threshold) (step_misfit rows a place hs used level m x.atom c (enough m agrees c out))))))
       (w a used m owns known agrees q)

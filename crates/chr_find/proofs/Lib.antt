@@ -6,7 +6,7 @@ pub mod FiredHistory
 pub mod FiringMaps
 pub mod FoundLaw
 pub mod FoundLists
-pub mod Gates
+pub mod Thresholds
 pub mod GroundRows
 pub mod HeadFits
 pub mod Held
@@ -49,4 +49,4 @@ pub mod TakenRows
 pub mod TakenSnapshots
 pub mod Visits
 pub mod Walk
-pub mod WalkParts
+pub mod WalkSpans

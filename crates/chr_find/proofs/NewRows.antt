@@ -24,9 +24,9 @@ use Rattle.chr_find.specs.declared.plan.Lookup.TheVariants.{Symbol as Alone}
 use Rattle.chr_term.specs.declared.term.Sym.{Sym}
 use Rattle.std.specs.List.{list_any}
 use Rattle.std.proofs.lemmas.Bool.Decides.{Decides-eqb}
-use Rattle.chr_find.proofs.Gates.{old_id}
+use Rattle.chr_find.proofs.Thresholds.{old_id}
 use Rattle.chr_find.proofs.SearchParts.{drop_at}
-use Rattle.chr_find.proofs.WalkParts.{part_equal, part_passed, part_under}
+use Rattle.chr_find.proofs.WalkSpans.{span_equal, span_passed, span_under}
 
 none_new : (from : ℕ) (rows : List semantics.Row) → AllUnder from rows → any_new from rows ≡ false
 none_new from [] under = refl
@@ -38,18 +38,18 @@ or_true_at false c = refl
 
 module _ {A : Type 0} where
   -- the middle is new
-  pub part_new : (l : Bucket) (part xs : List (IndexKey × Row A)) (m : IndexKey × Row A) (ys : List (IndexKey × Row A)) (from : ℕ) → part ≡ xs ++ m ∷ ys → ghosts.cmp l m.0.bucket ≡ Equal → is_new from m.0.id.0 ≡ true → true ≡ any_new from (walk l part)
-  part_new l part xs m ys from is equal new =
-      sym (ap (any_new from) (part_equal l part xs m ys is equal)
+  pub span_new : (l : Bucket) (span xs : List (IndexKey × Row A)) (m : IndexKey × Row A) (ys : List (IndexKey × Row A)) (from : ℕ) → span ≡ xs ++ m ∷ ys → ghosts.cmp l m.0.bucket ≡ Equal → is_new from m.0.id.0 ≡ true → true ≡ any_new from (walk l span)
+  span_new l span xs m ys from is equal new =
+      sym (ap (any_new from) (span_equal l span xs m ys is equal)
       ∙ (list_any-append (λ (c : semantics.Row). is_new from c.0) (walk l xs) ((m.0.id.0, row_atom m.1) ∷ [] ++ walk l ys)
       ∙ (ap (λ (b : Bool). any_new from (walk l xs) || (b || any_new from (walk l ys))) new ∙ or_true_at (any_new from (walk l xs)) (any_new from (walk l ys)))))
 
   -- it is not, and so are those before it
-  pub part_old : (l : Bucket) (part xs : List (IndexKey × Row A)) (m : IndexKey × Row A) (ys : List (IndexKey × Row A)) (from : ℕ) → part ≡ xs ++ m ∷ ys → Ascends index_cmp part → ghosts.cmp l m.0.bucket ≡ Equal → m.0.id.0 < from → any_new from (walk l ys) ≡ any_new from (walk l part)
-  part_old l part xs m ys from is up equal lt =
-      sym (ap (any_new from) (part_passed l part xs m ys is equal)
+  pub span_old : (l : Bucket) (span xs : List (IndexKey × Row A)) (m : IndexKey × Row A) (ys : List (IndexKey × Row A)) (from : ℕ) → span ≡ xs ++ m ∷ ys → Ascends index_cmp span → ghosts.cmp l m.0.bucket ≡ Equal → m.0.id.0 < from → any_new from (walk l ys) ≡ any_new from (walk l span)
+  span_old l span xs m ys from is up equal lt =
+      sym (ap (any_new from) (span_passed l span xs m ys is equal)
       ∙ (list_any-append (λ (c : semantics.Row). is_new from c.0) (walk l xs ++ (m.0.id.0, row_atom m.1) ∷ []) (walk l ys)
-      ∙ ap (λ (b : Bool). b || any_new from (walk l ys)) (none_new from (walk l xs ++ (m.0.id.0, row_atom m.1) ∷ []) (part_under l part xs m ys from is up equal lt))))
+      ∙ ap (λ (b : Bool). b || any_new from (walk l ys)) (none_new from (walk l xs ++ (m.0.id.0, row_atom m.1) ∷ []) (span_under l span xs m ys from is up equal lt))))
 
 -- no row of the symbol is new
 or_false : (b c : Bool) → (b || c) ≡ false → (b ≡ false) × (c ≡ false)

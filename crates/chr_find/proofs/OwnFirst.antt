@@ -14,28 +14,28 @@ use Rattle.chr_semantics.specs.Subst.{Subst}
 use Rattle.chr_semantics.specs.Tries.{capped, tried, tried_tuples}
 use Rattle.chr_find.specs.Finds.{Finds}
 use Rattle.chr_find.specs.First.{IsFirst}
-use Rattle.chr_find.specs.Gate.{Gate, free, on, passed}
+use Rattle.chr_find.specs.Threshold.{Threshold, free, on, passed}
 use Rattle.chr_find.proofs.Barren.{joined_none}
 use Rattle.chr_find.proofs.FoundLists.{finds_none, finds_same}
 
 module _ (rows : List Row) (h : History) (r : ℕ) (rule : Rule) (place : ℕ) (own : Head) (a : Row) (from : ℕ) where
   -- after the match of the own head
-  pub own_found : (gate : Gate) (m : Subst) (result : Option (List ℕ)) (told now : ℕ) → fit_atom own.atom a.1 [] ≡ Some m → Finds h r rule.guard [] (passed from gate (joined rows a place rule.heads [] 0 m)) result told now
-      → Finds h r rule.guard [] (passed from gate (own_joined rows rule place own a)) result told now
-  own_found gate m result told now fit f =
-      finds_same h r rule.guard [] _ _ result told now (ap (λ (e : Option Subst). passed from gate (after_own (joined rows a place rule.heads [] 0) e)) fit) f
+  pub own_found : (threshold : Threshold) (m : Subst) (result : Option (List ℕ)) (told now : ℕ) → fit_atom own.atom a.1 [] ≡ Some m → Finds h r rule.guard [] (passed from threshold (joined rows a place rule.heads [] 0 m)) result told now
+      → Finds h r rule.guard [] (passed from threshold (own_joined rows rule place own a)) result told now
+  own_found threshold m result told now fit f =
+      finds_same h r rule.guard [] _ _ result told now (ap (λ (e : Option Subst). passed from threshold (after_own (joined rows a place rule.heads [] 0) e)) fit) f
 
   -- and where it does not match
-  pub own_apart : (gate : Gate) (told : ℕ) → told < 2 ^ 64 → fit_atom own.atom a.1 [] ≡ None → Finds h r rule.guard [] (passed from gate (own_joined rows rule place own a)) None told told
-  own_apart gate told small fit =
-      finds_same h r rule.guard [] _ [] None told told (ap (λ (e : Option Subst). passed from gate (after_own (joined rows a place rule.heads [] 0) e)) fit) (finds_none h r rule.guard [] told small)
+  pub own_apart : (threshold : Threshold) (told : ℕ) → told < 2 ^ 64 → fit_atom own.atom a.1 [] ≡ None → Finds h r rule.guard [] (passed from threshold (own_joined rows rule place own a)) None told told
+  own_apart threshold told small fit =
+      finds_same h r rule.guard [] _ [] None told told (ap (λ (e : Option Subst). passed from threshold (after_own (joined rows a place rule.heads [] 0) e)) fit) (finds_none h r rule.guard [] told small)
 
   -- and where another head has no partner
-  pub own_lacking : (gate : Gate) (m : Subst) (k : ℕ) (x : Head) (told : ℕ) → told < 2 ^ 64 → fit_atom own.atom a.1 [] ≡ Some m → slice_get rule.heads k ≡ Some x → (k == place) ≡ false → All (λ (c : Row). fit_atom x.atom c.1 m ≡ None) rows
-      → Finds h r rule.guard [] (passed from gate (own_joined rows rule place own a)) None told told
-  own_lacking gate m k x told small fit at apart all =
-      own_found gate m None told told fit
-      (finds_same h r rule.guard [] _ [] None told told (ap (passed from gate) (joined_none rows a place rule.heads [] 0 m m k x at (ap (λ (i : ℕ). i == place) (zero-add k) ∙ apart) (Extends-itself m) all)) (finds_none h r rule.guard [] told small))
+  pub own_lacking : (threshold : Threshold) (m : Subst) (k : ℕ) (x : Head) (told : ℕ) → told < 2 ^ 64 → fit_atom own.atom a.1 [] ≡ Some m → slice_get rule.heads k ≡ Some x → (k == place) ≡ false → All (λ (c : Row). fit_atom x.atom c.1 m ≡ None) rows
+      → Finds h r rule.guard [] (passed from threshold (own_joined rows rule place own a)) None told told
+  own_lacking threshold m k x told small fit at apart all =
+      own_found threshold m None told told fit
+      (finds_same h r rule.guard [] _ [] None told told (ap (passed from threshold) (joined_none rows a place rule.heads [] 0 m m k x at (ap (λ (i : ℕ). i == place) (zero-add k) ∙ apart) (Extends-itself m) all)) (finds_none h r rule.guard [] told small))
 
   all_pass : (ps : List Joined) → passed from free ps ≡ ps
   all_pass [] = refl

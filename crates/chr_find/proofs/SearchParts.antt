@@ -7,9 +7,9 @@ use Rattle.chr_bind.specs.declared.matching.Match.{Match}
 use Rattle.chr_semantics.specs.Match.{Row}
 use Rattle.chr_semantics.specs.Program.{Head, Rule}
 use Rattle.chr_semantics.specs.Search.{History}
-use Rattle.chr_find.specs.Gate.{Gate}
+use Rattle.chr_find.specs.Threshold.{Threshold}
 use Rattle.chr_find.specs.Joins.{JoinIs}
-use Rattle.chr_find.specs.CursorStateView.{gate_of}
+use Rattle.chr_find.specs.CursorStateView.{threshold_of}
 use Rattle.chr_find.specs.SearchIs.{if_found}
 use Rattle.chr_find.specs.declared.cursor_state.CursorState.{CursorState}
 
@@ -43,11 +43,11 @@ head_there (h ∷ heads) zero lt = (h, refl)
 head_there (h ∷ heads) (suc k) lt = head_there heads k (omega (arith, lt))
 
 -- the search from the longer partners
-pub join_longer : {A : Type 0} (rows : List Row) (h : History) (r : ℕ) (rule : Rule) (place own level longer_level : ℕ) (longer : List ℕ) (next : Match A) (from quiet : ℕ) (mode : CursorState) (after : List ℕ) (gate : Gate) (result : Option (List ℕ)) (told now : ℕ) → longer_level ≡ level + 1
-    → gate_of mode (drop (level + 1) after) ≡ gate → JoinIs rows h r rule place own longer_level longer next from quiet (gate_of mode (drop longer_level after)) result told now → JoinIs rows h r rule place own (level + 1) longer next from quiet gate result told now
-join_longer rows h r rule place own level longer_level longer next from quiet mode after gate result told now e g j =
-    subst (λ (x : Gate). JoinIs rows h r rule place own (level + 1) longer next from quiet x result told now) g
-    (subst (λ (k : ℕ). JoinIs rows h r rule place own k longer next from quiet (gate_of mode (drop k after)) result told now) e j)
+pub join_longer : {A : Type 0} (rows : List Row) (h : History) (r : ℕ) (rule : Rule) (place own level longer_level : ℕ) (longer : List ℕ) (next : Match A) (from quiet : ℕ) (mode : CursorState) (after : List ℕ) (threshold : Threshold) (result : Option (List ℕ)) (told now : ℕ) → longer_level ≡ level + 1
+    → threshold_of mode (drop (level + 1) after) ≡ threshold → JoinIs rows h r rule place own longer_level longer next from quiet (threshold_of mode (drop longer_level after)) result told now → JoinIs rows h r rule place own (level + 1) longer next from quiet threshold result told now
+join_longer rows h r rule place own level longer_level longer next from quiet mode after threshold result told now e g j =
+    subst (λ (x : Threshold). JoinIs rows h r rule place own (level + 1) longer next from quiet x result told now) g
+    (subst (λ (k : ℕ). JoinIs rows h r rule place own k longer next from quiet (threshold_of mode (drop k after)) result told now) e j)
 
 pub longer_length : (partners longer : List ℕ) (c : ℕ) → longer ≡ partners ++ c ∷ [] → length longer ≡ length partners + 1
 longer_length partners longer c is = ap length is ∙ length-append partners (c ∷ [])

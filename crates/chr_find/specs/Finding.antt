@@ -9,7 +9,7 @@ use Rattle.chr_semantics.specs.Search.{History}
 use Rattle.chr_semantics.specs.Tries.{capped, tried_tuples}
 use Rattle.chr_find.specs.Finds.{Finds}
 use Rattle.chr_find.specs.First.{IsFirst}
-use Rattle.chr_find.specs.Gate.{Gate, passed}
+use Rattle.chr_find.specs.Threshold.{Threshold, passed}
 use Rattle.chr_find.specs.Joins.{IsQuiet}
 use Rattle.chr_find.specs.PlanView.{lookups_of}
 use Rattle.chr_find.specs.Shown.{ForRows}
@@ -27,11 +27,11 @@ module _ {A : Type 0} (h : History) (t : Table A) (s : Active A) where
   ForOwn P = (rows : List semantics.Row) → HasRows t rows → (a : Atom) → atom_at t s.id.0 ≡ Some a → P rows (s.id.0, a)
 
   -- what the join finds in the lists, where from the quiet head on no constraint is new
-  abbrev pub FindsJoined : ℕ → ℕ → Gate → Option (List ℕ) → ℕ → ℕ → Type 0
-  FindsJoined from quiet gate found told now =
+  abbrev pub FindsJoined : ℕ → ℕ → Threshold → Option (List ℕ) → ℕ → ℕ → Type 0
+  FindsJoined from quiet threshold found told now =
       (a : Atom) → atom_at t s.id.0 ≡ Some a → (x : Head) → slice_get (rule_of s).heads s.place ≡ Some x
       → ForRows (lookups_of t.index.plan) t.index.rows (λ rows. IsQuiet rows (rule_of s).heads s.place s.id.0 from quiet
-      → Finds h s.number (rule_of s).guard [] (passed from gate (own_joined rows (rule_of s) s.place x (s.id.0, a))) found told now)
+      → Finds h s.number (rule_of s).guard [] (passed from threshold (own_joined rows (rule_of s) s.place x (s.id.0, a))) found told now)
 
   -- the first tuple that can fire, and the tries of the definitions
   abbrev pub FindsFirst : Option (List ℕ) → ℕ → ℕ → Type 0

@@ -10,7 +10,7 @@ use Rattle.chr_semantics.specs.Program.{Atom, Head, Rule}
 use Rattle.chr_semantics.specs.Search.{History, has_number}
 use Rattle.chr_semantics.specs.Subst.{Subst}
 use Rattle.chr_find.specs.Finds.{Finds}
-use Rattle.chr_find.specs.Gate.{Gate, passed}
+use Rattle.chr_find.specs.Threshold.{Threshold, passed}
 
 -- what lies after one row
 abbrev pub step_of : List Row → Row → ℕ → List Head → List ℕ → ℕ → Subst → Atom → Row → List Joined
@@ -40,14 +40,14 @@ ForMatches rows rule place own level partners matching from quiet P =
     (a : Row) (used : List ℕ) (m : Subst) → a.0 ≡ own → ((c : ℕ) → has_number used c ≡ has_number partners c) → AgreesWith matching m → IsQuiet rows rule.heads place own from quiet → P a used m
 
 -- The partners so far are the prefix, and the list is what the join finds behind it.
-abbrev pub JoinIs : {A : Type 0} → List Row → History → ℕ → Rule → ℕ → ℕ → ℕ → List ℕ → Match A → ℕ → ℕ → Gate → Option (List ℕ) → ℕ → ℕ → Type 0
-JoinIs rows h r rule place own level partners matching from quiet gate result told now =
+abbrev pub JoinIs : {A : Type 0} → List Row → History → ℕ → Rule → ℕ → ℕ → ℕ → List ℕ → Match A → ℕ → ℕ → Threshold → Option (List ℕ) → ℕ → ℕ → Type 0
+JoinIs rows h r rule place own level partners matching from quiet threshold result told now =
     ForMatches rows rule place own level partners matching from quiet
-    (λ a used m. Finds h r rule.guard partners (passed from gate (joined rows a place (drop level rule.heads) used level m)) result told now)
+    (λ a used m. Finds h r rule.guard partners (passed from threshold (joined rows a place (drop level rule.heads) used level m)) result told now)
 
 -- the same among the rows of a walk, for a head
-abbrev pub WalkIs : {A : Type 0} → List Row → History → ℕ → Rule → ℕ → ℕ → ℕ → List ℕ → Match A → ℕ → ℕ → Gate → Atom → List Row → Option (List ℕ) → ℕ → ℕ → Type 0
-WalkIs rows h r rule place own level partners matching from quiet gate head walked result told now =
+abbrev pub WalkIs : {A : Type 0} → List Row → History → ℕ → Rule → ℕ → ℕ → ℕ → List ℕ → Match A → ℕ → ℕ → Threshold → Atom → List Row → Option (List ℕ) → ℕ → ℕ → Type 0
+WalkIs rows h r rule place own level partners matching from quiet threshold head walked result told now =
     ForMatches rows rule place own level partners matching from quiet
     (λ a used m. Finds h r rule.guard partners
-    (flat_map (λ (c : Row). passed from gate (step_of rows a place (drop (level + 1) rule.heads) used level m head c)) walked) result told now)
+    (flat_map (λ (c : Row). passed from threshold (step_of rows a place (drop (level + 1) rule.heads) used level m head c)) walked) result told now)

@@ -6,7 +6,7 @@ pub mod Finding
 pub mod Finds
 pub mod Firings
 pub mod First
-pub mod Gate
+pub mod Threshold
 pub mod Joins
 pub mod LentKeysView
 pub mod CursorStateView

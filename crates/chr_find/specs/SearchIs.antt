@@ -8,14 +8,14 @@ use Rattle.chr_semantics.specs.Join.{own_joined}
 use Rattle.chr_semantics.specs.Program.{Atom, Head}
 use Rattle.chr_semantics.specs.Search.{History}
 use Rattle.chr_find.specs.Finds.{Finds}
-use Rattle.chr_find.specs.Gate.{Gate, passed}
+use Rattle.chr_find.specs.Threshold.{Threshold, passed}
 use Rattle.chr_find.specs.Joins.{IsQuiet, JoinIs, WalkIs}
-use Rattle.chr_find.specs.CursorStateView.{gate_of}
+use Rattle.chr_find.specs.CursorStateView.{threshold_of}
 use Rattle.chr_find.specs.PlanView.{lookups_of}
 use Rattle.chr_find.specs.Shown.{ForRows}
-use Rattle.chr_find.specs.declared.join.Prefix.{Prefix}
-use Rattle.chr_find.specs.declared.join.Reached.{Reached}
-use Rattle.chr_find.specs.declared.join.Search.{Search}
+use Rattle.chr_find.specs.declared.search.Prefix.{Prefix}
+use Rattle.chr_find.specs.declared.search.Reached.{Reached}
+use Rattle.chr_find.specs.declared.search.Search.{Search}
 use Rattle.chr_find.specs.declared.cursor_state.CursorState.{CursorState}
 
 -- the partners, where they are found
@@ -28,23 +28,23 @@ module _ {P A : Type 0} (h : History) (s : Search P A) where
   OwnFinds own mode found told now =
       (x : Head) → slice_get (rule_view s.rule.now).heads s.place ≡ Some x
       → ForRows (lookups_of s.plan.now) s.rows.now (λ rows. IsQuiet rows (rule_view s.rule.now).heads s.place s.own.0 s.from s.quiet
-      → Finds h s.number (rule_view s.rule.now).guard [] (passed s.from (gate_of mode s.after.now) (own_joined rows (rule_view s.rule.now) s.place x (s.own.0, own))) found told now)
+      → Finds h s.number (rule_view s.rule.now).guard [] (passed s.from (threshold_of mode s.after.now) (own_joined rows (rule_view s.rule.now) s.place x (s.own.0, own))) found told now)
 
 module _ {P A : Type 0} (h : History) (s : Search P A) (p : Prefix) where
   -- where the partners stand to the list after which the search goes on
-  abbrev pub gate_at : Gate
-  gate_at = gate_of p.mode (drop (length p.partners) s.after.now)
+  abbrev pub threshold_at : Threshold
+  threshold_at = threshold_of p.mode (drop (length p.partners) s.after.now)
 
   -- for the heads from the level on
   abbrev pub JoinFinds : Match A → Option (List ℕ) → ℕ → ℕ → Type 0
   JoinFinds matching found told now =
-      ForRows (lookups_of s.plan.now) s.rows.now (λ rows. JoinIs rows h s.number (rule_view s.rule.now) s.place s.own.0 (length p.partners) p.partners matching s.from s.quiet gate_at found told now)
+      ForRows (lookups_of s.plan.now) s.rows.now (λ rows. JoinIs rows h s.number (rule_view s.rule.now) s.place s.own.0 (length p.partners) p.partners matching s.from s.quiet threshold_at found told now)
 
   -- with these rows alone for the head at the level
   abbrev pub WalkFinds : Match A → List semantics.Row → Option (List ℕ) → ℕ → ℕ → Type 0
   WalkFinds matching walked found told now =
       (x : Head) → slice_get (rule_view s.rule.now).heads (length p.partners) ≡ Some x
-      → ForRows (lookups_of s.plan.now) s.rows.now (λ rows. WalkIs rows h s.number (rule_view s.rule.now) s.place s.own.0 (length p.partners) p.partners matching s.from s.quiet gate_at x.atom walked found told now)
+      → ForRows (lookups_of s.plan.now) s.rows.now (λ rows. WalkIs rows h s.number (rule_view s.rule.now) s.place s.own.0 (length p.partners) p.partners matching s.from s.quiet threshold_at x.atom walked found told now)
 
   -- the same, with what the search has come to, and with the match as before where nothing is found
   abbrev pub JoinLeads : Match A → Match A → Reached → Reached → Bool → Type 0

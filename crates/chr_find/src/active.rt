@@ -1,5 +1,6 @@
 //! What a search of a table starts from.
 ghost use Rattle.std.specs.Prelude.{◌≡◌, ◌<◌, Some, length, slice_get};
+ghost use Rattle.chr_rules.specs.Bounds.{bounds};
 ghost use Rattle.chr_rules.specs.Index.{IsPlaceIn};
 ghost use Rattle.chr_rules.specs.ProgramView.{rules_of};
 ghost use Rattle.chr_rules.specs.RuleView.{rule_view};
@@ -10,7 +11,7 @@ use chr_store::{HeadIds, Id};
 use std::alloc::{Allocator, Global};
 
 /// A constraint that is active at a head of a rule.
-#[derive(Clone, Copy, Drop)]
+#[derive(Drop)]
 pub struct Active<'a, A: Allocator = Global> {
     pub id: Id,
     pub rule: &'a Rule<A>,
@@ -18,6 +19,7 @@ pub struct Active<'a, A: Allocator = Global> {
     pub number: usize,
     /// The head, from 0.
     pub place: usize,
+    ghost searchable: { IsSearchable rule.now place } by { Prim.hlevel bounds },
 }
 
 impl<'a, A: Allocator> Active<'a, A> {
@@ -25,7 +27,6 @@ impl<'a, A: Allocator> Active<'a, A> {
     pub fn at(program: &'a Program<A>, occurrence: Occurrence, id: Id) -> Active<'a, A>
         requires rule { occurrence.rule < length (rules_of program.now) }
         requires place { IsPlaceIn (rules_of program.now) occurrence.rule occurrence.place }
-        ensures searchable { IsSearchable result.rule.now result.place }
         ensures rule { slice_get (rules_of program.now) occurrence.rule
             ≡ Some (rule_view result.rule.now) }
         ensures number { result.number ≡ occurrence.rule }

@@ -5,7 +5,7 @@ ghost use Rattle.chr_find.specs.Rebinding.{standing_rows};
 
 use crate::Memory;
 use crate::bucket::{Bucket, IndexKey};
-use chr_map::{Part, Share};
+use chr_map::{Share, Span};
 use chr_store::{Id, Row};
 use std::alloc::Allocator;
 use std::cmp::Ordering;
@@ -17,16 +17,16 @@ pub(crate) struct Constraint<A: Allocator> {
     pub(crate) row: Row<A>,
 }
 
-/// Adds the rows of a part that are in a bucket.
+/// Adds the rows of a span that are in a bucket.
 pub(crate) fn collect<A: Allocator + Copy>(
-    part: &Part<'_, IndexKey, Row<A>, A>,
+    span: &Span<'_, IndexKey, Row<A>, A>,
     bucket: Bucket,
     rows: &mut Vec<Constraint<A>, A>,
 ) -> Result<(), Memory>
     ensures { OnOk result (standing_rows rows.new.items
-        ≡ standing_rows rows.old.items ++ walk bucket part.now) }
+        ≡ standing_rows rows.old.items ++ walk bucket span.now) }
 {
-    let middle = match part.middle() {
+    let middle = match span.middle() {
         None => return Ok(()),
         Some(middle) => middle,
     };

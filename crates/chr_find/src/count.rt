@@ -1,16 +1,16 @@
 //! How many rows buckets have, to choose the shortest. What is found does not depend on it.
 use crate::bucket::{Bucket, IndexKey};
 use crate::narrowed::narrowed;
-use chr_map::{Middle, Part};
+use chr_map::{Middle, Span};
 use chr_store::Row;
 use std::alloc::Allocator;
 
 /// The number of rows in a bucket.
 pub(crate) fn count<A: Allocator + Copy>(
-    part: Part<'_, IndexKey, Row<A>, A>,
+    span: Span<'_, IndexKey, Row<A>, A>,
     bucket: &Bucket,
 ) -> u64 {
-    match narrowed(part, bucket).middle() {
+    match narrowed(span, bucket).middle() {
         None => 0,
         Some(middle) => count_edge(middle.before, bucket, true)
             .saturating_add(count_edge(middle.after, bucket, false))
@@ -18,13 +18,13 @@ pub(crate) fn count<A: Allocator + Copy>(
     }
 }
 
-/// The number of rows of a bucket in a part that begins in it, or ends in it where `is_last`.
+/// The number of rows of a bucket in a span that begins in it, or ends in it where `is_last`.
 fn count_edge<A: Allocator + Copy>(
-    part: Part<'_, IndexKey, Row<A>, A>,
+    span: Span<'_, IndexKey, Row<A>, A>,
     bucket: &Bucket,
     is_last: bool,
 ) -> u64 {
-    let mut left = part;
+    let mut left = span;
     let mut rows = 0u64;
     while let Some(
         Middle {

@@ -1,7 +1,7 @@
 //! Where the partners so far stand to the list after which a search goes on.
 ghost use Rattle.std.specs.Prelude.{◌≡◌, ◌+◌, ℕ, List, [], drop};
-ghost use Rattle.chr_find.specs.Gate.{admits, gate_bound, next_gate};
-ghost use Rattle.chr_find.specs.CursorStateView.{gate_of};
+ghost use Rattle.chr_find.specs.Threshold.{admits, threshold_bound, next_threshold};
+ghost use Rattle.chr_find.specs.CursorStateView.{threshold_of};
 
 use chr_store::HeadIds;
 
@@ -19,8 +19,8 @@ pub(crate) enum CursorState {
 impl CursorState {
     /// After one more partner at a level. A new one has an identity that is not below `from`.
     pub(crate) fn next(self, after: &HeadIds, level: usize, from: u64, id: u64) -> CursorState
-        ensures { gate_of result (drop (level + 1) after.now)
-            ≡ next_gate from (gate_of self (drop level after.now)) id }
+        ensures { threshold_of result (drop (level + 1) after.now)
+            ≡ next_threshold from (threshold_of self (drop level after.now)) id }
     {
         if id >= from {
             return CursorState::Free;
@@ -46,7 +46,7 @@ impl CursorState {
 
     /// A partner at the level with a lesser identity leads to lists before that one, which a new row alone makes wanted.
     pub(crate) fn bound(self, after: &HeadIds, level: usize, from: u64) -> u64
-        ensures { result ≡ gate_bound from (gate_of self (drop level after.now)) }
+        ensures { result ≡ threshold_bound from (threshold_of self (drop level after.now)) }
     {
         match self {
             CursorState::Free => 0,
@@ -60,7 +60,7 @@ impl CursorState {
 
     /// Whether a list that ends here is one that the search asks for.
     pub(crate) fn is_free(self) -> bool
-        ensures { (lowest : ℕ) (rest : List ℕ) → result ≡ admits lowest (gate_of self rest) [] }
+        ensures { (lowest : ℕ) (rest : List ℕ) → result ≡ admits lowest (threshold_of self rest) [] }
     {
         match self {
             CursorState::Free => true,

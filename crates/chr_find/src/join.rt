@@ -1,74 +1,31 @@
 //! The join: the lists of partners for the heads of a rule, in order.
 ghost use Rattle.std.specs.Prelude.{◌≡◌, ◌+◌, ◌<◌, ◌≤◌, ◌^◌, ◌∷◌, ◌++◌, [], IfOk, drop, length, vec_len};
 ghost use Rattle.chr_semantics.specs.declared.limits.TheConstants.{MAX_HEADS};
-ghost use Rattle.chr_rules.specs.RuleView.{rule_view};
 ghost use Rattle.chr_store.specs.Rows.{row_atom};
-ghost use Rattle.chr_find.specs.Gate.{gate_bound, next_gate};
-ghost use Rattle.chr_find.specs.CursorStateView.{gate_of};
-ghost use Rattle.chr_find.specs.SearchIs.{JoinLeads, RowLeads, WalkLeads, gate_at};
-ghost use Rattle.chr_find.specs.SearchView.{AreSmall};
+ghost use Rattle.chr_find.specs.Threshold.{threshold_bound, next_threshold};
+ghost use Rattle.chr_find.specs.CursorStateView.{threshold_of};
+ghost use Rattle.chr_find.specs.SearchIs.{JoinLeads, RowLeads, WalkLeads, threshold_at};
 ghost use Rattle.chr_find.specs.Shown.{walk};
 
 use crate::Memory;
 use crate::bucket::{Bucket, IndexKey};
 use crate::candidates::{bucket_for, takes};
-use crate::cursor_state::CursorState;
 use crate::firing_history::FiringHistory;
-use crate::index::Index;
 use crate::narrowed::narrowed;
-use crate::plan::Plan;
+use crate::search::{Prefix, Reached, Search};
 use chr_bind::{Match, guard_holds};
-use chr_map::Part;
-use chr_rules::Rule;
+use chr_map::Span;
 use chr_store::{Fired, HeadIds, Id, Row};
 use std::alloc::Allocator;
 use std::cmp::Ordering;
-
-/// What stays the same in a search.
-#[derive(Drop)]
-pub(crate) struct Search<'a, P, A: Allocator> {
-    pub(crate) alloc: A,
-    pub(crate) plan: &'a Plan<A>,
-    pub(crate) rows: &'a Index<A>,
-    pub(crate) past: &'a P,
-    pub(crate) rule: &'a Rule<A>,
-    /// The number of the rule, from 0.
-    pub(crate) number: usize,
-    /// The head that the own constraint stands at, from 0.
-    pub(crate) place: usize,
-    /// The identity of the own constraint.
-    pub(crate) own: Id,
-    /// The list after which the search goes on.
-    pub(crate) after: &'a HeadIds,
-    /// From this identity on constraints are new.
-    pub(crate) from: u64,
-    /// From this head on, counted from 0, no constraint for a head is new.
-    pub(crate) quiet: usize,
-}
-
-/// The partners so far: the next one is for the head of that number.
-#[derive(Clone, Copy, Drop)]
-pub(crate) struct Prefix {
-    pub(crate) partners: HeadIds,
-    pub(crate) mode: CursorState,
-}
-
-/// What a search has come to.
-#[derive(Clone, Copy, Drop)]
-pub(crate) struct Reached {
-    /// The partners, where they are found.
-    pub(crate) partners: HeadIds,
-    /// How many complete lists were looked at.
-    pub(crate) tries: u64,
-}
 
 impl<'a, P: FiringHistory, A: Allocator + Copy> Search<'a, P, A> {
     /// With one more partner.
     fn longer(&self, prefix: &Prefix, id: Id) -> Prefix
         requires { length prefix.now.partners < MAX_HEADS }
         ensures partners { result.partners ≡ prefix.now.partners ++ id.0 ∷ [] }
-        ensures gate { gate_of result.mode (drop (length prefix.now.partners + 1) self.now.after.now)
-            ≡ next_gate self.now.from (gate_at (P.history self.now.past.now) self.now prefix.now) id.0 }
+        ensures threshold { threshold_of result.mode (drop (length prefix.now.partners + 1) self.now.after.now)
+            ≡ next_threshold self.now.from (threshold_at (P.history self.now.past.now) self.now prefix.now) id.0 }
     {
         let level = prefix.partners.len();
         let mut partners = prefix.partners;
@@ -81,8 +38,8 @@ impl<'a, P: FiringHistory, A: Allocator + Copy> Search<'a, P, A> {
 
     /// Rows with lesser identities may be passed over for the next head.
     fn least(&self, prefix: &Prefix) -> u64
-        ensures bound { result ≤ gate_bound self.now.from
-            (gate_at (P.history self.now.past.now) self.now prefix.now) }
+        ensures bound { result ≤ threshold_bound self.now.from
+            (threshold_at (P.history self.now.past.now) self.now prefix.now) }
         ensures quiet { 0 < result → self.now.quiet < length prefix.now.partners + 2 }
     {
         let level = prefix.partners.len();
@@ -102,9 +59,7 @@ impl<'a, P: FiringHistory, A: Allocator + Copy> Search<'a, P, A> {
         matching: &mut Match<'a, A>,
         reached: &mut Reached,
     ) -> Result<bool, Memory>
-        requires few { vec_len self.now.rule.now.heads ≤ MAX_HEADS }
-        requires small { AreSmall (rule_view self.now.rule.now).heads }
-        requires inside { length prefix.now.partners ≤ vec_len self.now.rule.now.heads }
+        requires { length prefix.now.partners ≤ vec_len self.now.rule.now.heads }
         ensures { IfOk result (JoinLeads (P.history self.now.past.now) self.now prefix.now
             matching.old matching.new reached.old reached.new) }
     {
@@ -118,33 +73,31 @@ impl<'a, P: FiringHistory, A: Allocator + Copy> Search<'a, P, A> {
         let (sym, args) = &self.rule.heads[level];
         let bucket = bucket_for(self.plan, self.rows, *sym, args.as_slice(), matching);
         let least = self.least(prefix);
-        let part = narrowed(self.rows.entries(), &bucket);
-        self.visit(&part, &bucket, least, prefix, matching, reached)
+        let span = narrowed(self.rows.entries(), &bucket);
+        self.visit(&span, &bucket, least, prefix, matching, reached)
     }
 
-    /// As `join`, where the next partner is a row of a part that is in a bucket, and its identity is not below `least`.
+    /// As `join`, where the next partner is a row of a span that is in a bucket, and its identity is not below `least`.
     #[cycle(join)]
     fn visit(
         &self,
-        part: &Part<'a, IndexKey, Row<A>, A>,
+        span: &Span<'a, IndexKey, Row<A>, A>,
         bucket: &Bucket,
         least: u64,
         prefix: &Prefix,
         matching: &mut Match<'a, A>,
         reached: &mut Reached,
     ) -> Result<bool, Memory>
-        requires few { vec_len self.now.rule.now.heads ≤ MAX_HEADS }
-        requires small { AreSmall (rule_view self.now.rule.now).heads }
         requires inside { length prefix.now.partners < vec_len self.now.rule.now.heads }
-        requires bound { least ≤ gate_bound self.now.from
-            (gate_at (P.history self.now.past.now) self.now prefix.now) }
+        requires bound { least ≤ threshold_bound self.now.from
+            (threshold_at (P.history self.now.past.now) self.now prefix.now) }
         requires quiet { 0 < least → self.now.quiet < length prefix.now.partners + 2 }
         ensures { IfOk result (WalkLeads (P.history self.now.past.now) self.now prefix.now
-            (walk bucket.now part.now) matching.old matching.new reached.old reached.new) }
+            (walk bucket.now span.now) matching.old matching.new reached.old reached.new) }
     {
         // For the proof: that the count has 64 bits is known once it is read.
         let _so_far = reached.tries;
-        let middle = match part.middle() {
+        let middle = match span.middle() {
             None => return Ok(false),
             Some(middle) => middle,
         };
@@ -184,9 +137,7 @@ impl<'a, P: FiringHistory, A: Allocator + Copy> Search<'a, P, A> {
         matching: &mut Match<'a, A>,
         reached: &mut Reached,
     ) -> Result<bool, Memory>
-        requires few { vec_len self.now.rule.now.heads ≤ MAX_HEADS }
-        requires small { AreSmall (rule_view self.now.rule.now).heads }
-        requires inside { length prefix.now.partners < vec_len self.now.rule.now.heads }
+        requires { length prefix.now.partners < vec_len self.now.rule.now.heads }
         ensures { IfOk result (WalkLeads (P.history self.now.past.now) self.now prefix.now
             ((id.0, row_atom row.now) ∷ []) matching.old matching.new reached.old reached.new) }
     {
@@ -208,9 +159,7 @@ impl<'a, P: FiringHistory, A: Allocator + Copy> Search<'a, P, A> {
         matching: &mut Match<'a, A>,
         reached: &mut Reached,
     ) -> Result<bool, Memory>
-        requires few { vec_len self.now.rule.now.heads ≤ MAX_HEADS }
-        requires small { AreSmall (rule_view self.now.rule.now).heads }
-        requires inside { length prefix.now.partners < vec_len self.now.rule.now.heads }
+        requires { length prefix.now.partners < vec_len self.now.rule.now.heads }
         ensures { IfOk result (RowLeads (P.history self.now.past.now) self.now prefix.now
             (id.0, row_atom row.now) matching.old matching.new reached.old reached.new) }
     {
@@ -231,8 +180,7 @@ impl<'a, P: FiringHistory, A: Allocator + Copy> Search<'a, P, A> {
         matching: &Match<'a, A>,
         reached: &mut Reached,
     ) -> Result<bool, Memory>
-        requires few { vec_len self.now.rule.now.heads ≤ MAX_HEADS }
-        requires inside { length prefix.now.partners ≡ vec_len self.now.rule.now.heads }
+        requires { length prefix.now.partners ≡ vec_len self.now.rule.now.heads }
         ensures { IfOk result (JoinLeads (P.history self.now.past.now) self.now prefix.now
             matching.now matching.now reached.old reached.new) }
     {

@@ -25,6 +25,7 @@ mod rebinding;
 mod resolved_row;
 mod root;
 mod scope;
+mod search;
 mod snapshot;
 mod snapshot_taking;
 mod table;

@@ -3,20 +3,20 @@ ghost use Rattle.std.specs.Prelude.{◌≡◌, ◌≤◌, length};
 ghost use Rattle.chr_find.specs.Shown.{walk};
 
 use crate::bucket::{Bucket, IndexKey};
-use chr_map::{Middle, Part};
+use chr_map::{Middle, Span};
 use chr_store::Row;
 use std::alloc::Allocator;
 use std::cmp::Ordering;
 
-/// The least part, on the way down, that has all rows of a bucket: the middle of that is one of them, or it is empty.
+/// The least span, on the way down, that has all rows of a bucket: the middle of that is one of them, or it is empty.
 pub(crate) fn narrowed<'a, A: Allocator + Copy>(
-    part: Part<'a, IndexKey, Row<A>, A>,
+    span: Span<'a, IndexKey, Row<A>, A>,
     bucket: &Bucket,
-) -> Part<'a, IndexKey, Row<A>, A>
-    ensures rows { walk bucket.now result ≡ walk bucket.now part.entry }
-    ensures short { length result ≤ length part.entry }
+) -> Span<'a, IndexKey, Row<A>, A>
+    ensures rows { walk bucket.now result ≡ walk bucket.now span.entry }
+    ensures short { length result ≤ length span.entry }
 {
-    let mut left = part;
+    let mut left = span;
     while let Some(
         Middle {
             before,

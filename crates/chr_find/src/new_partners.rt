@@ -9,7 +9,7 @@ ghost use Rattle.chr_find.specs.Shown.{ForRows, any_new, walk};
 use crate::bucket::{Bucket, IndexKey};
 use crate::index::Index;
 use crate::plan::Plan;
-use chr_map::{Middle, Part};
+use chr_map::{Middle, Span};
 use chr_rules::Rule;
 use chr_store::Row;
 use std::alloc::Allocator;
@@ -17,13 +17,13 @@ use std::cmp::Ordering;
 
 /// Whether a bucket has a row with an identity that is not below `from`.
 pub(crate) fn has_new<A: Allocator + Copy>(
-    part: Part<'_, IndexKey, Row<A>, A>,
+    span: Span<'_, IndexKey, Row<A>, A>,
     bucket: &Bucket,
     from: u64,
 ) -> bool
-    ensures { result ≡ any_new from (walk bucket.now part.entry) }
+    ensures { result ≡ any_new from (walk bucket.now span.entry) }
 {
-    let mut left = part;
+    let mut left = span;
     while let Some(
         Middle {
             before,

@@ -1,21 +1,19 @@
 //! The whole search of a rule: the own head first, and then the join.
-ghost use Rattle.std.specs.Prelude.{◌≡◌, ◌<◌, ◌≤◌, IfOk, Some, slice_get, true, vec_len};
+ghost use Rattle.std.specs.Prelude.{◌≡◌, ◌<◌, IfOk, Some, slice_get, true, vec_len};
 ghost use Rattle.chr_rules.specs.RuleView.{rule_view};
-ghost use Rattle.chr_semantics.specs.declared.limits.TheConstants.{MAX_HEADS};
 ghost use Rattle.chr_store.specs.Rows.{row_atom};
 ghost use Rattle.chr_semantics.specs.Program.{Head};
 ghost use Rattle.chr_find.specs.Barren.{IsBarren, LacksPartner};
 ghost use Rattle.chr_find.specs.PlanView.{lookups_of};
 ghost use Rattle.chr_find.specs.SearchIs.{OwnFinds};
-ghost use Rattle.chr_find.specs.SearchView.{AreSmall};
 ghost use Rattle.chr_find.specs.Shown.{ForRows};
 
 use crate::Memory;
 use crate::candidates::{fits, some_bucket_for};
 use crate::cursor_state::CursorState;
 use crate::firing_history::FiringHistory;
-use crate::join::{Prefix, Reached, Search};
 use crate::new_partners::has_new;
+use crate::search::{Prefix, Reached, Search};
 use chr_bind::Match;
 use chr_store::{HeadIds, Row};
 use std::alloc::Allocator;
@@ -32,13 +30,15 @@ impl<'a, P: FiringHistory, A: Allocator + Copy> Search<'a, P, A> {
         !has_new(self.rows.entries(), &bucket, 0)
     }
 
-    /// Whether that is so of some head but the own one, which tells at once that nothing is found.
+    /// Whether that is so of some head but the own one, which tells at once that nothing is found. The first partner is not asked for: the join
+    /// looks at its bucket at once.
     fn lacks_partner(&self, matching: &Match<'a, A>) -> bool
         ensures { result ≡ true → ForRows (lookups_of self.now.plan.now) self.now.rows.now
             (λ rows. LacksPartner rows matching.now (rule_view self.now.rule.now).heads self.now.place) }
     {
+        let first = if self.place == 0 { 1 } else { 0 };
         for level in 0..self.rule.heads.len() {
-            if level != self.place && self.is_barren(level, matching) {
+            if level != self.place && level != first && self.is_barren(level, matching) {
                 return true;
             }
         }
@@ -52,9 +52,6 @@ impl<'a, P: FiringHistory, A: Allocator + Copy> Search<'a, P, A> {
         mode: CursorState,
         tries: &mut u64,
     ) -> Result<Option<HeadIds>, Memory>
-        requires few { vec_len self.now.rule.now.heads ≤ MAX_HEADS }
-        requires small { AreSmall (rule_view self.now.rule.now).heads }
-        requires inside { self.now.place < vec_len self.now.rule.now.heads }
         ensures { IfOk result (λ found. OwnFinds (P.history self.now.past.now) self.now
             (row_atom row.now) mode found tries.old tries.new) }
     {
@@ -64,7 +61,7 @@ impl<'a, P: FiringHistory, A: Allocator + Copy> Search<'a, P, A> {
         if !fits(&self.rule.heads[self.place], row, &mut matching) {
             return Ok(None);
         }
-        // With one partner the join looks at the same bucket at once.
+        // With one partner there is no other to ask for.
         if self.rule.heads.len() > 2 && self.lacks_partner(&matching) {
             return Ok(None);
         }

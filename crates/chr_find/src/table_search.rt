@@ -2,16 +2,15 @@
 ghost use Rattle.std.specs.Prelude.{◌≡◌, IfOk, Some};
 ghost use Rattle.chr_find.specs.Finding.{FindsFirst, FindsJoined, FindsNext};
 ghost use Rattle.chr_store.specs.Rows.{row_atom};
-ghost use Rattle.chr_find.specs.CursorStateView.{gate_of};
-ghost use Rattle.chr_find.specs.SearchView.{IsSearchable};
+ghost use Rattle.chr_find.specs.CursorStateView.{threshold_of};
 ghost use Rattle.chr_find.specs.TableView.{IsFor, IsSettled, atom_at};
 
 use crate::Memory;
 use crate::active::{Active, Cursor};
 use crate::cursor_state::CursorState;
 use crate::firing_history::FiringHistory;
-use crate::join::Search;
 use crate::new_partners::quiet_from;
+use crate::search::Search;
 use crate::table::Table;
 use chr_store::{HeadIds, Row};
 use std::alloc::Allocator;
@@ -31,9 +30,8 @@ impl<A: Allocator + Copy> Table<A> {
     ) -> Result<Option<HeadIds>, Memory>
         requires settled { IsSettled self.now }
         requires row { atom_at self.now active.now.id.0 ≡ Some (row_atom own.now) }
-        requires searchable { IsSearchable active.now.rule.now active.now.place }
         ensures { IfOk result (λ found. FindsJoined (P.history past.now) self.now active.now from quiet
-            (gate_of mode after.now) found tries.old tries.new) }
+            (threshold_of mode after.now) found tries.old tries.new) }
     {
         // For the proof: that the count has 64 bits is known once it is read.
         let _so_far = *tries;
@@ -65,7 +63,6 @@ impl<A: Allocator + Copy> Table<A> {
         requires settled { IsSettled self.now }
         requires own { IsFor active.now.id.0 self.now }
         requires row { atom_at self.now active.now.id.0 ≡ Some (row_atom own.now) }
-        requires searchable { IsSearchable active.now.rule.now active.now.place }
         ensures { IfOk result (λ found. FindsFirst (P.history past.now) self.now active.now found tries.old
             tries.new) }
     {
@@ -97,7 +94,6 @@ impl<A: Allocator + Copy> Table<A> {
         requires settled { IsSettled self.now }
         requires own { IsFor active.now.id.0 self.now }
         requires row { atom_at self.now active.now.id.0 ≡ Some (row_atom own.now) }
-        requires searchable { IsSearchable active.now.rule.now active.now.place }
         ensures { IfOk result (λ found. FindsNext (P.history past.now) self.now active.now cursor.now found) }
     {
         // For the proof: that the count has 64 bits is known once it is read.

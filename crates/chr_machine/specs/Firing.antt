@@ -11,6 +11,7 @@ use Rattle.chr_semantics.specs.State.{Element, active, goal, resolved_atom}
 use Rattle.chr_semantics.specs.Step.{body_of}
 use Rattle.chr_semantics.specs.Subst.{Subst}
 use Rattle.chr_semantics.specs.Trace.{Line, defaults, drops, propagates, simplifies}
+use Rattle.chr_semantics.specs.declared.limits.TheConstants.{MAX_HEADS}
 use Rattle.chr_rules.specs.RuleView.{goal_view, rule_view}
 use Rattle.chr_find.specs.declared.active.Active.{Active}
 use Rattle.chr_term.specs.TermView.{atom_over}
@@ -53,7 +54,7 @@ pub record IsFiring {A : Type 0} (c : CourseModel) (s : Active A) (j : ℕ) (a :
   pub ids_are : ids_of rows ≡ ids
   pub fit : fits (rule_view s.rule.now).heads rows ≡ Some matched
   pub standing : All (λ (r : Row). atom_of (rows_of c.base) r.0 ≡ Some r.1) rows
-  pub few : length ids ≤ 8
+  pub few : length ids ≤ MAX_HEADS
   pub is_new : fired_before c.base.entries.list s.number ids ≡ false
   pub bounded : IsBounded (rule_view s.rule.now)
   pub of_program : slice_get c.rules s.number ≡ Some (rule_view s.rule.now)

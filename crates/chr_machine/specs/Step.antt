@@ -1,6 +1,6 @@
 -- What a transition of the machine does.
 use Rattle.std.specs.Prelude.{◌≡◌, ℕ, ◌+◌, ◌*◌, ◌<◌, ◌≤◌, ◌++◌, List, [], ◌∷◌, vec_len}
-use Rattle.chr_semantics.specs.declared.limits.TheConstants.{MAX_CHANGES, MAX_TRANSITIONS}
+use Rattle.chr_semantics.specs.declared.limits.TheConstants.{MAX_CHANGES, MAX_HEADS, MAX_TRANSITIONS}
 use Rattle.chr_semantics.specs.Bounds.{AreBounded, IsWithin}
 use Rattle.chr_semantics.specs.Calls.{top_calls, top_entry}
 use Rattle.chr_semantics.specs.Footprint.{IsSound}
@@ -27,7 +27,7 @@ IsReady m = status_view m.status ≡ running → 0 < vec_len m.stack
 pub record IsCounted (m : Model) : Type 0 where
   pub limit : m.steps ≤ MAX_TRANSITIONS
   pub given : m.base.store.next_id ≤ m.steps + 1
-  pub changed : m.base.store.changes ≤ 8 * m.steps
+  pub changed : m.base.store.changes ≤ MAX_HEADS * m.steps
 
 -- the parts that no transition changes
 pub record SameRun (m n : Model) : Type 0 where
@@ -41,11 +41,11 @@ pub record IsSteady {A : Type 0} (e : Execution A) : Type 0 where
   pub counted : IsCounted (model_of e)
   pub proper : IsProper (model_of e).rules (state_in (model_of e))
 
--- one transition more, with at most one identity and eight changes of the store
+-- one transition more, with at most one identity, and no more changes of the store than a rule has heads
 pub record Counts (m n : Model) : Type 0 where
   pub steps : n.steps ≡ m.steps + 1
   pub given : n.base.store.next_id ≤ m.base.store.next_id + 1
-  pub changed : n.base.store.changes ≤ m.base.store.changes + 8
+  pub changed : n.base.store.changes ≤ m.base.store.changes + MAX_HEADS
 
 -- n is a transition further than m, which runs and has a top
 pub record Makes (m n : Model) : Type 0 where
@@ -60,14 +60,14 @@ pub record Makes (m n : Model) : Type 0 where
 pub record CanMove (c : CourseModel) (e : Element) : Type 0 where
   pub rest : List Element
   pub few : c.steps < MAX_TRANSITIONS
-  pub changes : c.base.store.changes + 8 ≤ MAX_CHANGES
+  pub changes : c.base.store.changes + MAX_HEADS ≤ MAX_CHANGES
   pub proper : IsProper c.rules (state_in (model_with (e ∷ rest) running c))
 
 -- what each private step of an execution needs
 pub record CanStep (m : Model) : Type 0 where
   pub runs : m.status ≡ running
   pub few : m.steps < MAX_TRANSITIONS
-  pub changes : m.base.store.changes + 8 ≤ MAX_CHANGES
+  pub changes : m.base.store.changes + MAX_HEADS ≤ MAX_CHANGES
   pub proper : IsProper m.rules (state_in m)
 
 -- and what it leaves: the transition is made

@@ -3,7 +3,6 @@ ghost use Rattle.std.specs.Prelude.{◌≡◌, IfOk, OnErr, OnOk, Some, slice_ge
 ghost use Rattle.chr_semantics.specs.Search.{ids_found};
 ghost use Rattle.chr_rules.specs.ProgramView.{rules_of};
 ghost use Rattle.chr_rules.specs.RuleView.{rule_view};
-ghost use Rattle.chr_find.specs.SearchView.{IsSearchable};
 ghost use Rattle.chr_base.specs.BaseView.{base_view, program_of};
 ghost use Rattle.chr_base.specs.Searching.{FindsFirst};
 ghost use Rattle.chr_machine.specs.Answering.{AnswersSearch};
@@ -53,7 +52,6 @@ pub enum Turn<'p, A: Allocator> {
 impl<'p, A: Allocator + Copy> Course<'p, A> {
     /// The identities with which the rule can fire first, in head order, by a search.
     fn search(&mut self, at: &Active<'p, A>) -> Result<Option<HeadIds>, Memory>
-        requires searchable { IsSearchable at.now.rule.now at.now.place }
         requires of_program { slice_get (rules_of (program_of self.old.base)) at.now.number
             ≡ Some (rule_view at.now.rule.now) }
         ensures same { course_of self.new ≡ course_of self.old }
@@ -71,7 +69,6 @@ impl<'p, A: Allocator + Copy> Course<'p, A> {
         active: &ActiveConstraint<'_, A>,
         answer: &SearchAnswer,
     ) -> Result<Option<HeadIds>, Memory>
-        requires searchable { IsSearchable at.now.rule.now at.now.place }
         requires at { IsAt (course_of self.old) at.now active.now }
         requires answer { AnswersSearch (course_of self.old) active.now answer.now }
         ensures same { course_of self.new ≡ course_of self.old }
@@ -91,13 +88,13 @@ impl<'p, A: Allocator + Copy> Course<'p, A> {
     /// Makes ready that the rule fires with these identities.
     fn prepare(
         &mut self,
-        at: &Active<'p, A>,
+        at: Active<'p, A>,
         active: &ActiveConstraint<'_, A>,
         ids: &HeadIds,
     ) -> Result<Firing<'p, A>, Memory>
         requires can { CanMove (course_of self.old) (top_at active.now) }
-        requires id { at.now.id.0 ≡ active.now.id.0 }
-        requires is { IsFiring (course_of self.old) at.now active.now.occurrence (atom_at active.now) ids.now }
+        requires id { at.id.0 ≡ active.now.id.0 }
+        requires is { IsFiring (course_of self.old) at active.now.occurrence (atom_at active.now) ids.now }
         ensures same { course_of self.new ≡ course_of self.old }
         ensures ok { IfOk result (λ firing. IsPrepared active.now firing self.new) }
     {
@@ -113,7 +110,7 @@ impl<'p, A: Allocator + Copy> Course<'p, A> {
         self.draft(active.id, active.sym, active.args, about)?;
         let goals = self.base.body(rule, ids)?;
         Ok(Firing {
-            active: *at,
+            active: at,
             ids: *ids,
             goals,
         })
@@ -149,7 +146,7 @@ impl<'p, A: Allocator + Copy> Course<'p, A> {
                 self.write_line(id, sym, args, About::Defaults(occurrence))?;
                 Ok(Turn::Defaults(occurrence + 1))
             }
-            Some(ids) => Ok(Turn::Fires(self.prepare(&at, active, &ids)?)),
+            Some(ids) => Ok(Turn::Fires(self.prepare(at, active, &ids)?)),
         }
     }
 

@@ -9,7 +9,7 @@ use Rattle.chr_map.specs.Order.{AllAbove, Ascends, IsAbove, IsAtFirst, IsBelow, 
 use Rattle.chr_map.proofs.Ordered.{AllCompare, all_less, back, edited_before, edited_here, edited_past, kept_apart, parted, put_before, put_here, put_past, removed_here, turned, value_before, value_here, value_past}
 
 module _ {K V : Type 0} (cmp : K → K → Ordering) where
-  -- the parts of entries that ascend
+  -- the spans of entries that ascend
   ascends_back : (xs ys : List (K × V)) → Ascends cmp (xs ++ ys) → Ascends cmp ys
   ascends_back [] ys h = h
   ascends_back (x ∷ xs) ys h = ascends_back xs ys h.1

@@ -1,4 +1,4 @@
--- Entries in order: what a part before or after a key has to do with it.
+-- Entries in order: what a span before or after a key has to do with it.
 use Rattle.std.proofs.Common.{◌≡◌, ◌∙◌, Bool, true, false, not, cond, List, [], ◌∷◌, ◌++◌, ap, refl, sym}
 use Rattle.std.specs.Prelude.{Some, None}
 use Rattle.std.specs.Cmp.{IsTotalOrder}
@@ -33,7 +33,7 @@ module _ {K V : Type 0} (cmp : K → K → Ordering) where
   above_first k [] zs h = tt
   above_first k (x ∷ xs) zs h = (h.0, above_first k xs zs h.1)
 
-  -- the parts of entries that ascend
+  -- the spans of entries that ascend
   pub ascends_before : (xs : List (K × V)) (m : K × V) (ys : List (K × V)) → Ascends cmp (xs ++ m ∷ ys) → Ascends cmp xs
   ascends_before [] m ys h = tt
   ascends_before (x ∷ xs) m ys h = (above_first x.0 xs (m ∷ ys) h.0, ascends_before xs m ys h.1)

@@ -4,10 +4,10 @@ ghost use Rattle.std.specs.Option.{option_copied};
 ghost use Rattle.chr_map.specs.Order.{Ascends, entry_edited, entry_put, entry_removed, value_of};
 
 use crate::editing::edit_at;
-use crate::node::{Link, share_link};
-use crate::part::Part;
+use crate::node::{Subtree, share_subtree};
 use crate::putting::put;
 use crate::search::found;
+use crate::span::Span;
 use crate::taking::take_out;
 use crate::{Edit, Memory, Share};
 use std::alloc::{Allocator, Global};
@@ -17,7 +17,7 @@ use std::marker::Model;
 /// the greatest number of entries that it had. Contracts see the list of its entries, ascending.
 #[derive(Drop)]
 pub struct Map<K: Ord + Copy, V: Share, A: Allocator = Global> {
-    root: Link<K, V, A>,
+    root: Subtree<K, V, A>,
     alloc: A,
 }
 
@@ -26,12 +26,12 @@ impl<K: Ord + Copy, V: Share, A: Allocator> Model for Map<K, V, A> {
 
     ghost Value = { List (K × V) };
 
-    ghost use Rattle.chr_map.specs.Entries.{link_entries};
+    ghost use Rattle.chr_map.specs.Entries.{subtree_entries};
     ghost use Rattle.chr_map.specs.Order.{Ascends};
 
-    ghost view = { λ map. link_entries map.root };
+    ghost view = { λ map. subtree_entries map.root };
 
-    ghost invariant = { λ map. Ascends K.cmp (link_entries map.root) };
+    ghost invariant = { λ map. Ascends K.cmp (subtree_entries map.root) };
 }
 
 impl<K: Ord + Copy, V: Share, A: Allocator + Copy> Map<K, V, A> {
@@ -79,18 +79,18 @@ impl<K: Ord + Copy, V: Share, A: Allocator + Copy> Map<K, V, A> {
 
 impl<K: Ord + Copy, V: Share, A: Allocator> Map<K, V, A> {
     /// All entries, to be walked in order.
-    pub fn entries(&self) -> Part<'_, K, V, A>
+    pub fn entries(&self) -> Span<'_, K, V, A>
         ensures value { result ≡ self.now }
         ensures ascending { Ascends K.cmp self.now }
     {
-        Part::new(&self.root)
+        Span::new(&self.root)
     }
 }
 
 impl<K: Ord + Copy, V: Share, A: Allocator + Copy> Share for Map<K, V, A> {
     fn share(&self) -> Result<Map<K, V, A>, Memory> {
         Ok(Map {
-            root: share_link(&self.root)?,
+            root: share_subtree(&self.root)?,
             alloc: self.alloc,
         })
     }

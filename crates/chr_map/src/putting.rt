@@ -1,42 +1,42 @@
 //! Putting values into trees.
 ghost use Rattle.std.specs.Prelude.{◌≡◌, ◌<◌, ◌≤◌, ◌++◌, ◌∷◌, [], IfOk, OnErr, OnOk};
 ghost use Rattle.std.specs.Bool.{OnFalse, OnTrue};
-ghost use Rattle.chr_map.specs.Entries.{link_entries, node_entries};
+ghost use Rattle.chr_map.specs.Entries.{subtree_entries, node_entries};
 ghost use Rattle.chr_map.specs.Order.{Ascends, entry_put};
-ghost use Rattle.chr_map.specs.Places.{entries_at, slot_count, with_tree};
+ghost use Rattle.chr_map.specs.Places.{entries_at, branch_count, with_tree};
 ghost use Rattle.chr_map.specs.Taking.{IsCut, with_up};
 
-use crate::node::{Entry, Link, Node, Slot, count};
+use crate::node::{Branch, Node, Subtree, Taken, count};
 use crate::{Memory, Share};
 use std::alloc::Allocator;
 use std::sync::Arc;
 
-/// As many slots as a node is to have. One that has more is cut in two.
-const MAX_SLOTS: usize = 15;
+/// As many branches as a node is to have. One that has more is cut in two.
+const MAX_BRANCHES: usize = 15;
 
-/// As many slots as stay in a node that is cut.
+/// As many branches as stay in a node that is cut.
 const HALF: usize = 8;
 
 /// Puts a value at a key. A refused call leaves the entries as they were.
 pub(crate) fn put<K: Ord + Copy, V: Share, A: Allocator + Copy>(
-    link: &mut Link<K, V, A>,
+    subtree: &mut Subtree<K, V, A>,
     alloc: A,
     key: &K,
     value: V,
 ) -> Result<(), Memory>
-    ensures ok { OnOk result (Ascends K.cmp (link_entries link.old) → link_entries link.new
-        ≡ entry_put K.cmp (link_entries link.old) key.now value) }
-    ensures err { OnErr result (link_entries link.new ≡ link_entries link.old) }
+    ensures ok { OnOk result (Ascends K.cmp (subtree_entries subtree.old) → subtree_entries subtree.new
+        ≡ entry_put K.cmp (subtree_entries subtree.old) key.now value) }
+    ensures err { OnErr result (subtree_entries subtree.new ≡ subtree_entries subtree.old) }
 {
-    match link {
+    match subtree {
         None => {
             let node = single(alloc, *key, value)?;
-            *link = Some(Arc::new(alloc, node)?);
+            *subtree = Some(Arc::new(alloc, node)?);
             Ok(())
         }
         Some(node) => {
             put_below(Arc::make_mut(node)?, alloc, key, value)?;
-            raise(link, alloc);
+            raise(subtree, alloc);
             Ok(())
         }
     }
@@ -50,34 +50,34 @@ fn single<K: Copy, V: Share, A: Allocator + Copy>(
 ) -> Result<Node<K, V, A>, Memory>
     ensures { IfOk result (λ node. node_entries node ≡ (key, value) ∷ []) }
 {
-    let mut slots = Vec::new(alloc);
-    slots.push(Slot {
+    let mut branches = Vec::new(alloc);
+    branches.push(Branch {
         key,
         value,
         after: None,
     })?;
     Ok(Node {
         first: None,
-        slots,
+        branches,
         size: 1,
     })
 }
 
-/// Puts a value at a key in a tree below. A slot that does not fit there is handed up, and belongs behind that tree. A refused call leaves
+/// Puts a value at a key in a tree below. A branch that does not fit there is handed up, and belongs behind that tree. A refused call leaves
 /// the entries as they were.
 #[cycle(put)]
 fn put_in_tree<K: Ord + Copy, V: Share, A: Allocator + Copy>(
-    link: &mut Link<K, V, A>,
+    subtree: &mut Subtree<K, V, A>,
     alloc: A,
     key: &K,
     value: V,
-) -> Result<Option<Slot<K, V, Link<K, V, A>>>, Memory>
-    ensures ok { IfOk result (λ up. Ascends K.cmp (link_entries link.old) → with_up (link_entries link.new) up
-        ≡ entry_put K.cmp (link_entries link.old) key.now value) }
-    ensures err { OnErr result (link_entries link.new ≡ link_entries link.old) }
+) -> Result<Option<Branch<K, V, Subtree<K, V, A>>>, Memory>
+    ensures ok { IfOk result (λ up. Ascends K.cmp (subtree_entries subtree.old) → with_up (subtree_entries subtree.new) up
+        ≡ entry_put K.cmp (subtree_entries subtree.old) key.now value) }
+    ensures err { OnErr result (subtree_entries subtree.new ≡ subtree_entries subtree.old) }
 {
-    match link {
-        None => Ok(Some(Slot {
+    match subtree {
+        None => Ok(Some(Branch {
             key: *key,
             value,
             after: None,
@@ -103,7 +103,7 @@ fn put_below<K: Ord + Copy, V: Share, A: Allocator + Copy>(
 {
     match node.place(key) {
         Ok(place) => {
-            node.slots[place].value = value;
+            node.branches[place].value = value;
             Ok(())
         }
         Err(place) => put_at(node, place, alloc, key, value),
@@ -119,7 +119,7 @@ fn put_at<K: Ord + Copy, V: Share, A: Allocator + Copy>(
     key: &K,
     value: V,
 ) -> Result<(), Memory>
-    requires { place ≤ slot_count node.old }
+    requires { place ≤ branch_count node.old }
     ensures ok { OnOk result (Ascends K.cmp (entries_at node.old place) → node_entries node.new
         ≡ with_tree node.old place (entry_put K.cmp (entries_at node.old place) key.now value)) }
     ensures err { OnErr result (node_entries node.new ≡ node_entries node.old) }
@@ -128,7 +128,7 @@ fn put_at<K: Ord + Copy, V: Share, A: Allocator + Copy>(
     if let None = node.tree(place) {
         node.add(
             place,
-            Slot {
+            Branch {
                 key: *key,
                 value,
                 after: None,
@@ -145,14 +145,14 @@ fn put_at<K: Ord + Copy, V: Share, A: Allocator + Copy>(
     Ok(())
 }
 
-/// Cuts a node that has too many slots, unless there is no memory for it. What comes off is handed up in a slot.
+/// Cuts a node that has too many branches, unless there is no memory for it. What comes off is handed up in a branch.
 fn cut<K: Copy, V: Share, A: Allocator + Copy>(
     node: &mut Node<K, V, A>,
     alloc: A,
-) -> Option<Slot<K, V, Link<K, V, A>>>
+) -> Option<Branch<K, V, Subtree<K, V, A>>>
     ensures { with_up (node_entries node.new) result ≡ node_entries node.old }
 {
-    if node.slots.len() <= MAX_SLOTS {
+    if node.branches.len() <= MAX_BRANCHES {
         return None;
     }
     let mut after = match empty(alloc) {
@@ -164,7 +164,7 @@ fn cut<K: Copy, V: Share, A: Allocator + Copy>(
         Err(_) => return None,
     };
     let middle = cut_off(node, right)?;
-    Some(Slot {
+    Some(Branch {
         key: middle.key,
         value: middle.value,
         after: Some(after),
@@ -173,95 +173,95 @@ fn cut<K: Copy, V: Share, A: Allocator + Copy>(
 
 /// A node with no entry.
 fn empty<K: Copy, V: Share, A: Allocator + Copy>(alloc: A) -> Result<Arc<Node<K, V, A>, A>, Memory>
-    ensures { IfOk result (λ node. link_entries (Some node) ≡ []) }
+    ensures { IfOk result (λ node. subtree_entries (Some node) ≡ []) }
 {
     let node = Node {
         first: None,
-        slots: Vec::new(alloc),
+        branches: Vec::new(alloc),
         size: 0,
     };
     Ok(Arc::new(alloc, node)?)
 }
 
-/// Moves what stands behind the middle slot into another node, in place of all that this had.
+/// Moves what stands behind the middle branch into another node, in place of all that this had.
 fn cut_off<K: Copy, V: Share, A: Allocator + Copy>(
     node: &mut Node<K, V, A>,
     right: &mut Node<K, V, A>,
-) -> Option<Entry<K, V>>
-    requires { HALF < slot_count node.old }
+) -> Option<Taken<K, V>>
+    requires { HALF < branch_count node.old }
     ensures { IsCut node.old node.new right.new result }
 {
-    let mut slots = match node.slots.split_off(HALF) {
-        Ok(slots) => slots,
+    let mut branches = match node.branches.split_off(HALF) {
+        Ok(branches) => branches,
         Err(_) => return None,
     };
-    let middle = slots.remove(0);
-    let size = count(&middle.after, &slots);
+    let middle = branches.remove(0);
+    let size = count(&middle.after, &branches);
     node.size = node.size.wrapping_sub(size).wrapping_sub(1);
     *right = Node {
         first: middle.after,
-        slots,
+        branches,
         size,
     };
-    Some(Entry {
+    Some(Taken {
         key: middle.key,
         value: middle.value,
     })
 }
 
-/// Gives a tree whose top has too many slots a new top, unless there is no memory for it.
-fn raise<K: Copy, V: Share, A: Allocator + Copy>(link: &mut Link<K, V, A>, alloc: A)
-    ensures { link_entries link.new ≡ link_entries link.old }
+/// Gives a tree whose top has too many branches a new top, unless there is no memory for it.
+fn raise<K: Copy, V: Share, A: Allocator + Copy>(subtree: &mut Subtree<K, V, A>, alloc: A)
+    ensures { subtree_entries subtree.new ≡ subtree_entries subtree.old }
 {
-    if is_full(link) {
+    if is_full(subtree) {
         if let Ok(mut top) = empty(alloc) {
             if let Ok(node) = Arc::make_mut(&mut top) {
-                if raise_to(node, link, alloc) {
-                    *link = Some(top);
+                if raise_to(node, subtree, alloc) {
+                    *subtree = Some(top);
                 }
             }
         }
     }
 }
 
-/// Whether the top of a tree has too many slots.
-fn is_full<K: Copy, V: Share, A: Allocator + Copy>(link: &Link<K, V, A>) -> bool {
-    match link {
+/// Whether the top of a tree has too many branches.
+fn is_full<K: Copy, V: Share, A: Allocator + Copy>(subtree: &Subtree<K, V, A>) -> bool {
+    match subtree {
         None => false,
-        Some(node) => node.slots.len() > MAX_SLOTS,
+        Some(node) => node.branches.len() > MAX_BRANCHES,
     }
 }
 
 /// Cuts the top of a tree in two, and makes another node, with no entry, the top of both. Where it says no, the tree is as it was.
 fn raise_to<K: Copy, V: Share, A: Allocator + Copy>(
     top: &mut Node<K, V, A>,
-    link: &mut Link<K, V, A>,
+    subtree: &mut Subtree<K, V, A>,
     alloc: A,
 ) -> bool
     requires { node_entries top.old ≡ [] }
-    ensures yes { OnTrue result (node_entries top.new ≡ link_entries link.old) }
-    ensures no { OnFalse result (link_entries link.new ≡ link_entries link.old) }
+    ensures yes { OnTrue result (node_entries top.new ≡ subtree_entries subtree.old) }
+    ensures no { OnFalse result (subtree_entries subtree.new ≡ subtree_entries subtree.old) }
 {
     if top.reserve().is_err() {
         return false;
     }
-    let slot = match cut_tree(link, alloc) {
+    let branch = match cut_tree(subtree, alloc) {
         None => return false,
-        Some(slot) => slot,
+        Some(branch) => branch,
     };
-    top.swap_tree(0, link);
-    top.add(0, slot);
+    top.swap_tree(0, subtree);
+    top.add(0, branch);
     true
 }
 
-/// Cuts the top of a tree, if it has too many slots.
+/// Cuts the top of a tree, if it has too many branches.
 fn cut_tree<K: Copy, V: Share, A: Allocator + Copy>(
-    link: &mut Link<K, V, A>,
+    subtree: &mut Subtree<K, V, A>,
     alloc: A,
-) -> Option<Slot<K, V, Link<K, V, A>>>
-    ensures { with_up (link_entries link.new) result ≡ link_entries link.old }
+) -> Option<Branch<K, V, Subtree<K, V, A>>>
+    ensures { with_up (subtree_entries subtree.new) result ≡ subtree_entries subtree.old }
 {
-    match link {
+    match subtree {
         None => None,
         Some(node) => match Arc::make_mut(node) {
             Ok(node) => cut(node, alloc),

@@ -1,11 +1,11 @@
 //! Taking entries out of trees.
 ghost use Rattle.std.specs.Prelude.{◌≡◌, ◌<◌, ◌≤◌, [], ◌++◌, IfOk, OnErr, OnOk, drop};
-ghost use Rattle.chr_map.specs.Entries.{link_entries, node_entries};
+ghost use Rattle.chr_map.specs.Entries.{subtree_entries, node_entries};
 ghost use Rattle.chr_map.specs.Order.{Ascends, entry_removed};
-ghost use Rattle.chr_map.specs.Places.{entries_at, entries_before, entries_behind, slot_count, with_tree};
+ghost use Rattle.chr_map.specs.Places.{entries_at, entries_before, entries_behind, branch_count, with_tree};
 ghost use Rattle.chr_map.specs.Taking.{HasLast, left_entries};
 
-use crate::node::{Entry, Link, Node};
+use crate::node::{Node, Subtree, Taken};
 use crate::{Memory, Share};
 use std::alloc::Allocator;
 use std::mem;
@@ -17,14 +17,14 @@ pub(crate) enum Left<K: Drop, V: Drop, A: Allocator> {
     /// The node, changed.
     Node,
     /// Another tree.
-    Tree(Link<K, V, A>),
+    Tree(Subtree<K, V, A>),
 }
 
-/// What stands in the place of a changed node: a node without slots gives way to the tree that it has.
+/// What stands in the place of a changed node: a node without branches gives way to the tree that it has.
 fn rest<K: Drop, V: Drop, A: Allocator>(node: &mut Node<K, V, A>) -> Left<K, V, A>
     ensures { left_entries result node.new ≡ node_entries node.old }
 {
-    if node.slots.is_empty() {
+    if node.branches.is_empty() {
         Left::Tree(mem::replace(&mut node.first, None))
     } else {
         Left::Node
@@ -34,18 +34,18 @@ fn rest<K: Drop, V: Drop, A: Allocator>(node: &mut Node<K, V, A>) -> Left<K, V, 
 /// Takes out a key. A refused call leaves the entries as they were.
 #[cycle(take_out)]
 pub(crate) fn take_out<K: Ord + Copy, V: Share, A: Allocator + Copy>(
-    link: &mut Link<K, V, A>,
+    subtree: &mut Subtree<K, V, A>,
     key: &K,
 ) -> Result<(), Memory>
-    ensures ok { OnOk result (Ascends K.cmp (link_entries link.old) → link_entries link.new
-        ≡ entry_removed K.cmp (link_entries link.old) key.now) }
-    ensures err { OnErr result (link_entries link.new ≡ link_entries link.old) }
+    ensures ok { OnOk result (Ascends K.cmp (subtree_entries subtree.old) → subtree_entries subtree.new
+        ≡ entry_removed K.cmp (subtree_entries subtree.old) key.now) }
+    ensures err { OnErr result (subtree_entries subtree.new ≡ subtree_entries subtree.old) }
 {
-    match link {
+    match subtree {
         None => Ok(()),
         Some(node) => {
             if let Left::Tree(tree) = take_below(Arc::make_mut(node)?, key)? {
-                *link = tree;
+                *subtree = tree;
             }
             Ok(())
         }
@@ -77,7 +77,7 @@ fn take_in<K: Ord + Copy, V: Share, A: Allocator + Copy>(
     place: usize,
     key: &K,
 ) -> Result<(), Memory>
-    requires { place ≤ slot_count node.old }
+    requires { place ≤ branch_count node.old }
     ensures ok { OnOk result (Ascends K.cmp (entries_at node.old place) → node_entries node.new
         ≡ with_tree node.old place (entry_removed K.cmp (entries_at node.old place) key.now)) }
     ensures err { OnErr result (node_entries node.new ≡ node_entries node.old) }
@@ -89,12 +89,12 @@ fn take_in<K: Ord + Copy, V: Share, A: Allocator + Copy>(
     answer
 }
 
-/// Takes out the entry of a slot. The last entry of the tree in front of it comes into its place, where there is one.
+/// Takes out the entry of a branch. The last entry of the tree in front of it comes into its place, where there is one.
 fn take_top<K: Copy, V: Share, A: Allocator + Copy>(
     node: &mut Node<K, V, A>,
     place: usize,
 ) -> Result<Left<K, V, A>, Memory>
-    requires { place < slot_count node.old }
+    requires { place < branch_count node.old }
     ensures ok { IfOk result (λ rest. left_entries rest node.new ≡ entries_before node.old place
         ++ (entries_at node.old place ++ drop 1 (entries_behind node.old place))) }
     ensures err { OnErr result (node_entries node.new ≡ node_entries node.old) }
@@ -109,7 +109,7 @@ fn take_top<K: Copy, V: Share, A: Allocator + Copy>(
             Ok(Left::Node)
         }
         None => {
-            node.take_slot(place);
+            node.take_branch(place);
             Ok(rest(node))
         }
     }
@@ -118,18 +118,18 @@ fn take_top<K: Copy, V: Share, A: Allocator + Copy>(
 /// Takes out the greatest entry. A refused call leaves the entries as they were.
 #[cycle(take_last)]
 fn take_last<K: Copy, V: Share, A: Allocator + Copy>(
-    link: &mut Link<K, V, A>,
-) -> Result<Option<Entry<K, V>>, Memory>
-    ensures ok { IfOk result (λ taken. HasLast (link_entries link.old) taken (link_entries link.new)) }
-    ensures err { OnErr result (link_entries link.new ≡ link_entries link.old) }
+    subtree: &mut Subtree<K, V, A>,
+) -> Result<Option<Taken<K, V>>, Memory>
+    ensures ok { IfOk result (λ taken. HasLast (subtree_entries subtree.old) taken (subtree_entries subtree.new)) }
+    ensures err { OnErr result (subtree_entries subtree.new ≡ subtree_entries subtree.old) }
 {
-    match link {
+    match subtree {
         None => Ok(None),
         Some(node) => {
             let node_mut = Arc::make_mut(node)?;
             let last = take_last_below(node_mut)?;
             if let Left::Tree(tree) = rest(node_mut) {
-                *link = tree;
+                *subtree = tree;
             }
             Ok(last)
         }
@@ -139,11 +139,11 @@ fn take_last<K: Copy, V: Share, A: Allocator + Copy>(
 #[cycle(take_last)]
 fn take_last_below<K: Copy, V: Share, A: Allocator + Copy>(
     node: &mut Node<K, V, A>,
-) -> Result<Option<Entry<K, V>>, Memory>
+) -> Result<Option<Taken<K, V>>, Memory>
     ensures ok { IfOk result (λ taken. HasLast (node_entries node.old) taken (node_entries node.new)) }
     ensures err { OnErr result (node_entries node.new ≡ node_entries node.old) }
 {
-    let place = node.slots.len();
+    let place = node.branches.len();
     let mut tree = None;
     node.swap_tree(place, &mut tree);
     let last = take_last(&mut tree);
@@ -154,15 +154,15 @@ fn take_last_below<K: Copy, V: Share, A: Allocator + Copy>(
     }
 }
 
-/// Takes out the entry of the last slot, behind which there is no entry.
-fn pop<K: Drop, V: Drop, A: Allocator>(node: &mut Node<K, V, A>) -> Option<Entry<K, V>>
-    requires { entries_at node.old (slot_count node.old) ≡ [] }
+/// Takes out the entry of the last branch, behind which there is no entry.
+fn pop<K: Drop, V: Drop, A: Allocator>(node: &mut Node<K, V, A>) -> Option<Taken<K, V>>
+    requires { entries_at node.old (branch_count node.old) ≡ [] }
     ensures { HasLast (node_entries node.old) result (node_entries node.new) }
 {
-    let slot = node.slots.pop()?;
+    let branch = node.branches.pop()?;
     node.size = node.size.wrapping_sub(1);
-    Some(Entry {
-        key: slot.key,
-        value: slot.value,
+    Some(Taken {
+        key: branch.key,
+        value: branch.value,
     })
 }

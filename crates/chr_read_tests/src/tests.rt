@@ -23,6 +23,27 @@ const REFUSED: ReadError = ReadError {
     column: 0,
 };
 
+/// Whether a text was read, with as many growths as the meter allowed. Then it has that number of parts; else a growth was refused.
+fn is_read(
+    rt: &impl Abort,
+    meter: &Refusing<Global>,
+    left: u64,
+    answer: Result<usize, ReadError>,
+    parts: usize,
+) -> bool {
+    assert_eq!(rt; meter.asked() > left, answer.is_err(), "{left}");
+    match answer {
+        Ok(read) => {
+            assert_eq!(rt; read, parts);
+            true
+        }
+        Err(error) => {
+            assert_eq!(rt; error, REFUSED);
+            false
+        }
+    }
+}
+
 /// Whether `read_program` goes through with `left` growths.
 ///
 /// For any allocator, here and below: proofs for the meter as the allocator would take much longer.
@@ -33,18 +54,8 @@ fn is_program_read<M: Allocator + Copy>(
     left: u64,
 ) -> bool {
     meter.allow(left);
-    let answer = read_program(alloc, PROGRAM.as_bytes());
-    assert_eq!(rt; meter.asked() > left, answer.is_err(), "{left}");
-    match answer {
-        Ok(program) => {
-            assert_eq!(rt; program.parts.len(), 5);
-            true
-        }
-        Err(error) => {
-            assert_eq!(rt; error, REFUSED);
-            false
-        }
-    }
+    let answer = read_program(alloc, PROGRAM.as_bytes()).map(|program| program.parts.len());
+    is_read(rt, meter, left, answer, 5)
 }
 
 /// As `is_program_read`, of `read_query`.
@@ -55,18 +66,8 @@ fn is_query_read<M: Allocator + Copy>(
     left: u64,
 ) -> bool {
     meter.allow(left);
-    let answer = read_query(alloc, QUERY.as_bytes());
-    assert_eq!(rt; meter.asked() > left, answer.is_err(), "{left}");
-    match answer {
-        Ok(query) => {
-            assert_eq!(rt; query.items.len(), 3);
-            true
-        }
-        Err(error) => {
-            assert_eq!(rt; error, REFUSED);
-            false
-        }
-    }
+    let answer = read_query(alloc, QUERY.as_bytes()).map(|query| query.items.len());
+    is_read(rt, meter, left, answer, 3)
 }
 
 #[test]

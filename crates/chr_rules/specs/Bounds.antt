@@ -34,5 +34,5 @@ IsGoalBelow-prop n fail = Unit-prop
 pub IsHeadBelow-prop : (n : ℕ) (h : Head) → IsProp (IsHeadBelow n h)
 IsHeadBelow-prop n h = AreBelow-prop n h.atom.args
 
--- the set for `by { Prim.hlevel bounds }` after a ghost field that says `AreBounded`
-pub ruleset bounds = (IsHeadBelow-prop, IsTestBelow-prop, IsGoalBelow-prop, props)
+-- the set for `by { Prim.hlevel bounds }` after a ghost field that says what is bounded
+pub ruleset bounds = (IsBelow-prop, AreBelow-prop, IsHeadBelow-prop, IsTestBelow-prop, IsGoalBelow-prop, props)

@@ -1,9 +1,10 @@
 //! The program `chr`: what it reads, what it writes, and its exit status.
 ghost use Rattle.std.specs.Prelude.{◌≡◌, map, option_map};
 ghost use Rattle.std.specs.String.{string_bytes};
-ghost use Rattle.chr_run.specs.Command.{IsCommand, RunsWords, Shows, effect};
+ghost use Rattle.chr_run.specs.Command.{IsCommand, RunsTexts, RunsWords, Shows, effect};
 ghost use Rattle.chr_run.specs.Output.{AppendsPart};
 ghost use Rattle.chr_run.specs.Reports.{IsWritten, options_view, refusal_text, status_code};
+ghost use Rattle.chr_run.specs.Sources.{program_in, query_in};
 
 mod replaying;
 mod reporting;
@@ -12,7 +13,7 @@ mod streams;
 
 use self::replaying::replay_words;
 use self::reporting::{Options, report};
-use self::source::{read_source, say_missing};
+use self::source::{Source, read_source, say_missing};
 use self::streams::Streams;
 use crate::error::{RunError, TextError};
 use crate::output::write_bytes;
@@ -52,6 +53,34 @@ fn refuse<E: Write>(error: &mut E, refusal: TextError) -> u8
     REFUSED
 }
 
+/// The run of the program and the query that were read, and what follows it.
+fn run_source<R: Threads + Wait + Sync, O: Creates, I, W: Write, E: Write>(
+    rt: &R,
+    alloc: Global,
+    source: &Source<'_>,
+    options: Options<'_>,
+    streams: Streams<'_, W, E, I, O>,
+) -> u8
+    ensures { RunsTexts (IsWritten (O.fresh streams.entry.files.now) O.Sink.contents) (program_in source.now)
+        (query_in source.now) (options_view options.entry)
+        (effect (W.contents streams.entry.output.now) (W.contents streams.exit.0.now)
+        (E.contents streams.entry.error.now) (E.contents streams.exit.1.0.now) result) }
+{
+    let Streams {
+        output,
+        error,
+        files,
+        ..
+    } = streams;
+    let (query, program) = source.texts();
+    let budget = options.budget.unwrap_or(BUDGET);
+    let workers = options.workers.unwrap_or(0);
+    match run_text(rt, alloc, program, query, budget, workers, output) {
+        Ok(run) => report(alloc, files, &run, options, error),
+        Err(refusal) => refuse(error, refusal),
+    }
+}
+
 /// The run that the words ask for, and what follows it; or why there is none.
 fn run_words<R: Threads + Wait + Sync, O: Opens + Creates, I: Read, W: Write, E: Write>(
     rt: &R,
@@ -67,25 +96,11 @@ fn run_words<R: Threads + Wait + Sync, O: Opens + Creates, I: Read, W: Write, E:
         (effect (W.contents streams.entry.output.now) (W.contents streams.exit.0.now)
         (E.contents streams.entry.error.now) (E.contents streams.exit.1.0.now) result) }
 {
-    let Streams {
-        output,
-        error,
-        input,
-        files,
-    } = streams;
-    match read_source(alloc, program, query, files, input) {
+    match read_source(alloc, program, query, streams.files, streams.input) {
+        Ok(source) => run_source(rt, alloc, &source, options, streams),
         Err(missing) => {
-            say_missing(error, missing);
+            say_missing(streams.error, missing);
             REFUSED
-        }
-        Ok(source) => {
-            let (query, program) = source.texts();
-            let budget = options.budget.unwrap_or(BUDGET);
-            let workers = options.workers.unwrap_or(0);
-            match run_text(rt, alloc, program, query, budget, workers, output) {
-                Ok(run) => report(alloc, files, &run, options, error),
-                Err(refusal) => refuse(error, refusal),
-            }
         }
     }
 }

@@ -123,7 +123,10 @@ fn say_event<E: Write>(error: &mut E, place: u64, word: &'static str)
 {
     let mut number = Buffer::new();
     let number = number.format(place);
-    say(error, &["chr: schedule event ", number, ": ", word, "\n"]);
+    say(
+        error,
+        &["chr: ", "schedule event ", number, ": ", word, "\n"],
+    );
 }
 
 /// Says why a schedule is not replayed.

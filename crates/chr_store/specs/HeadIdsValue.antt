@@ -1,5 +1,6 @@
 -- The identities at the heads of a rule, in their places.
 use Rattle.std.specs.Prelude.{◌≡◌, ℕ, ◌≤◌, List, [], ◌∷◌, ◌++◌, drop, length, map, take}
+use Rattle.chr_semantics.specs.declared.limits.TheConstants.{MAX_HEADS}
 use Rattle.std.proofs.Common.{◌∙◌, ap, arith, refl, suc, sym, take-append-drop, length-take-le}
 use Rattle.chr_store.specs.Numbers.{numbers}
 use Rattle.chr_store.specs.declared.id.Id.{Id}
@@ -14,8 +15,8 @@ padded ns = map (λ (n : ℕ). record { 0 = n }) ns ++ drop (length ns) blanks
 
 -- the first n places have identities, and the others are blank
 pub record ArePlaced (n : ℕ) (places : List Id) : Type 0 where
-  pub few : n ≤ 8
-  pub size : length places ≡ 8
+  pub few : n ≤ MAX_HEADS
+  pub size : length places ≡ MAX_HEADS
   pub blank : drop n places ≡ drop n blanks
 
 again : (xs : List Id) → map (λ (n : ℕ). record { 0 = n }) (numbers xs) ≡ xs

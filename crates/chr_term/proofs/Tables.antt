@@ -12,7 +12,7 @@ use Rattle.std.proofs.lemmas.Option.{get_or_from_slice_get, slice_get-get_or, sl
 use Rattle.std.proofs.lemmas.Slice.Eq.{bytes_eq-Decides}
 use Rattle.indexmap.specs.IndexSet.{insert_key}
 use Rattle.chr_semantics.specs.Names.{Names, symbol_of, with_symbol}
-use Rattle.chr_term.specs.declared.names.Entry.{Entry}
+use Rattle.chr_term.specs.declared.names.StoredSymbol.{StoredSymbol}
 use Rattle.chr_term.specs.Entries.{entry_eq, entry_name, entry_names, IsTable}
 use Rattle.chr_term.specs.Texts.{with_text}
 use Rattle.chr_term.proofs.Positions.{position-map, position-none, position-none_at, position-at, is_some-position}
@@ -34,10 +34,10 @@ same_place texts i k once li lk same = elim (cases_order k i) [
   | inr (inr gt) ↦ absurd (bytes_differ _ _ (apart_from_distinct bytes_eq texts i k [] once gt lk) (sym same))
 ]
 
-entry_same : (a b : Entry) → entry_eq a b ≡ true → a ≡ b
+entry_same : (a b : StoredSymbol) → entry_eq a b ≡ true → a ≡ b
 entry_same a b h = let p = and_parts (a.text == b.text) (a.arity == b.arity) h in let t : a.text ≡ b.text = eqb-true _ _ p.0 in let n : a.arity ≡ b.arity = eqb-true _ _ p.1 in λ i. record { text = t i; arity = n i }
 
-entry_refl : (a : Entry) → entry_eq a a ≡ true
+entry_refl : (a : StoredSymbol) → entry_eq a a ≡ true
 entry_refl a = and_from (a.text == a.text) (a.arity == a.arity) (eq-eqb _ _ refl) (eq-eqb _ _ refl)
 
 map_agrees : {X Y : Type 0} (f g : X → Y) (xs : List X) → ((k : ℕ) (d : X) → k < length xs → f (get_or xs k d) ≡ g (get_or xs k d)) → map f xs ≡ map g xs
@@ -48,14 +48,14 @@ mapped_some : {X Y : Type 0} (f : X → Y) (o : Option X) (y : Y) → option_map
 mapped_some f None y h = absurd (cc)
 mapped_some f (Some x) y h = (x, refl, cc)
 
-module _ (texts : List (List ℕ)) (entries : List Entry) (is : IsTable texts entries) where
+module _ (texts : List (List ℕ)) (entries : List StoredSymbol) (is : IsTable texts entries) where
   -- an entry is found among the entries where its name and arity are found among the names
-  pub symbol_of_entry : (e : Entry) → e.text < length texts → position (entry_eq e) entries ≡ symbol_of (entry_names texts entries) (get_or texts e.text []) e.arity
+  pub symbol_of_entry : (e : StoredSymbol) → e.text < length texts → position (entry_eq e) entries ≡ symbol_of (entry_names texts entries) (get_or texts e.text []) e.arity
   symbol_of_entry e lt = position-map (entry_eq e) _ (entry_name texts) entries (λ k d lk. agrees (get_or entries k d) (is.within k d lk))
     where
-      agrees : (x : Entry) → x.text < length texts → entry_eq e x ≡ (bytes_eq (get_or texts x.text []) (get_or texts e.text []) && x.arity == e.arity)
+      agrees : (x : StoredSymbol) → x.text < length texts → entry_eq e x ≡ (bytes_eq (get_or texts x.text []) (get_or texts e.text []) && x.arity == e.arity)
       agrees x lx = both_ways _ _
-          (λ same. let s = entry_same e x same in and_from _ _ ((bytes_eq-Decides _ _).1 (ap (λ (y : Entry). get_or texts y.text []) (sym s))) (eq-eqb _ _ (ap (λ (y : Entry). y.arity) (sym s))))
+          (λ same. let s = entry_same e x same in and_from _ _ ((bytes_eq-Decides _ _).1 (ap (λ (y : StoredSymbol). get_or texts y.text []) (sym s))) (eq-eqb _ _ (ap (λ (y : StoredSymbol). y.arity) (sym s))))
           (λ same. let p = and_parts (bytes_eq (get_or texts x.text []) (get_or texts e.text [])) (x.arity == e.arity) same in
           and_from _ _ (eq-eqb _ _ (sym (same_place texts e.text x.text is.texts_once lt lx (bytes_same _ _ p.0)))) (eq-eqb _ _ (sym (eqb-true _ _ p.1))))
 
@@ -63,10 +63,10 @@ module _ (texts : List (List ℕ)) (entries : List Entry) (is : IsTable texts en
   pub symbol_of_absent : (name : List ℕ) (arity : ℕ) → position (bytes_eq name) texts ≡ None → symbol_of (entry_names texts entries) name arity ≡ None
   symbol_of_absent name arity none = sym (position-map (λ e. false) _ (entry_name texts) entries (λ k d lk. sym (fails (get_or entries k d) (is.within k d lk)))) ∙ position-none (λ e. false) entries (λ k d lk. refl)
     where
-      fails : (x : Entry) → x.text < length texts → (bytes_eq (get_or texts x.text []) name && x.arity == arity) ≡ false
+      fails : (x : StoredSymbol) → x.text < length texts → (bytes_eq (get_or texts x.text []) name && x.arity == arity) ≡ false
       fails x lx = false_from_ne_true (bytes_eq (get_or texts x.text []) name && x.arity == arity) (λ h. bytes_differ name (get_or texts x.text []) (position-none_at (bytes_eq name) texts x.text [] none lx) (sym (bytes_same (get_or texts x.text []) name (and_parts (bytes_eq (get_or texts x.text []) name) (x.arity == arity) h).0)))
 
-  entry_at : (k : ℕ) (e : Entry) → slice_get entries k ≡ Some e → position (entry_eq e) entries ≡ Some k
+  entry_at : (k : ℕ) (e : StoredSymbol) → slice_get entries k ≡ Some e → position (entry_eq e) entries ≡ Some k
   entry_at k e at =
       let lt : k < length entries = slice_get_within entries k e at in
       let here : get_or entries k e ≡ e = get_or_from_slice_get entries k e e at in
@@ -79,11 +79,11 @@ module _ (texts : List (List ℕ)) (entries : List Entry) (is : IsTable texts en
   symbol_of_at k name arity at =
       let found = mapped_some (entry_name texts) (slice_get entries k) (name, arity) (sym (slice_get-map (entry_name texts) entries k) ∙ at) in
       let e = found.0 in
-      let lt : e.text < length texts = subst (λ (x : Entry). x.text < length texts) (get_or_from_slice_get entries k e e found.1) (is.within k e (slice_get_within entries k e found.1)) in
+      let lt : e.text < length texts = subst (λ (x : StoredSymbol). x.text < length texts) (get_or_from_slice_get entries k e e found.1) (is.within k e (slice_get_within entries k e found.1)) in
       sym (ap (λ (n : List ℕ × ℕ). symbol_of (entry_names texts entries) n.0 n.1) found.2) ∙ sym (symbol_of_entry e lt) ∙ entry_at k e found.1
 
   -- one more entry is one more symbol, where it is new
-  pub entry_names-insert_key : (e : Entry) → e.text < length texts → entry_names texts (insert_key entry_eq entries e) ≡ with_symbol (entry_names texts entries) (get_or texts e.text []) e.arity
+  pub entry_names-insert_key : (e : StoredSymbol) → e.text < length texts → entry_names texts (insert_key entry_eq entries e) ≡ with_symbol (entry_names texts entries) (get_or texts e.text []) e.arity
   entry_names-insert_key e lt = pushed (list_any (entry_eq e) entries) ∙ ap (λ b. cond b (entry_names texts entries) (entry_names texts entries ++ entry_name texts e ∷ [])) (sym (is_some-position (entry_eq e) entries) ∙ ap is_some (symbol_of_entry e lt))
     where
       pushed : (b : Bool) → entry_names texts (if b then entries else entries ++ e ∷ []) ≡ cond b (entry_names texts entries) (entry_names texts entries ++ entry_name texts e ∷ [])
@@ -91,12 +91,12 @@ module _ (texts : List (List ℕ)) (entries : List Entry) (is : IsTable texts en
       pushed false = map-append (entry_name texts) entries (e ∷ [])
 
   -- and the table stays one
-  pub IsTable-insert_key : (e : Entry) → e.text < length texts → length entries < 4294967295 → IsDistinct entry_eq (insert_key entry_eq entries e) → IsTable texts (insert_key entry_eq entries e)
+  pub IsTable-insert_key : (e : StoredSymbol) → e.text < length texts → length entries < 4294967295 → IsDistinct entry_eq (insert_key entry_eq entries e) → IsTable texts (insert_key entry_eq entries e)
   IsTable-insert_key e lt few once = by (list_any (entry_eq e) entries) once
     where
       by : (b : Bool) → IsDistinct entry_eq (if b then entries else entries ++ e ∷ []) → IsTable texts (if b then entries else entries ++ e ∷ [])
       by true o = is
-      by false o = record { within = All-push (λ (x : Entry). x.text < length texts) entries e is.within lt; few = omega (arith, length-append entries (e ∷ [])); texts_once = is.texts_once; entries_once = o }
+      by false o = record { within = All-push (λ (x : StoredSymbol). x.text < length texts) entries e is.within lt; few = omega (arith, length-append entries (e ∷ [])); texts_once = is.texts_once; entries_once = o }
 
   -- one more text changes no name
   pub entry_names-with_text : (text : List ℕ) → entry_names (with_text texts text) entries ≡ entry_names texts entries
@@ -114,16 +114,16 @@ module _ (texts : List (List ℕ)) (entries : List Entry) (is : IsTable texts en
       by true e = is
       by false e = record { within = (λ k d lk. let lt = is.within k d lk in omega (arith, length-append texts (text ∷ []))); few = is.few; texts_once = IsDistinct-push nat_list_eq_equiv texts text is.texts_once e; entries_once = is.entries_once }
 
-pub length-entries : (texts : List (List ℕ)) (entries : List Entry) (names : Names) → entry_names texts entries ≡ names → length entries ≡ length names
+pub length-entries : (texts : List (List ℕ)) (entries : List StoredSymbol) (names : Names) → entry_names texts entries ≡ names → length entries ≡ length names
 length-entries texts entries names shows = omega (arith, length-map entries (entry_name texts), ap length shows)
 
 -- the empty table
-pub IsTable-empty : (texts : List (List ℕ)) (entries : List Entry) → texts ≡ [] → entries ≡ [] → IsTable texts entries
+pub IsTable-empty : (texts : List (List ℕ)) (entries : List StoredSymbol) → texts ≡ [] → entries ≡ [] → IsTable texts entries
 unfolding IsDistinct
 IsTable-empty texts entries no_texts no_entries = rw (no_texts, no_entries) (record { within = λ k d lt. absurd (omega (arith, lt)); few = omega arith; texts_once = tt; entries_once = tt })
 
 -- an entry that stands at a place, by whichever equal one, is a name that stands there
-pub slice_get-entry_names : (texts : List (List ℕ)) (entries : List Entry) (e x : Entry) (k : ℕ) → slice_get entries k ≡ Some x → entry_eq e x ≡ true → slice_get (entry_names texts entries) k ≡ Some (entry_name texts e)
+pub slice_get-entry_names : (texts : List (List ℕ)) (entries : List StoredSymbol) (e x : StoredSymbol) (k : ℕ) → slice_get entries k ≡ Some x → entry_eq e x ≡ true → slice_get (entry_names texts entries) k ≡ Some (entry_name texts e)
 slice_get-entry_names texts entries e x k at same = slice_get-map (entry_name texts) entries k ∙ ap (option_map (entry_name texts)) (at ∙ ap Some (sym (entry_same e x same)))
 
 -- where a text is found, it stands
@@ -132,11 +132,11 @@ slice_get-position texts text i found =
     let p = position-Some (bytes_eq text) texts i [] found in
     slice_get-get_or texts i [] p.0 ∙ ap Some (sym (bytes_same _ _ p.1))
 
-module _ (texts : List (List ℕ)) (entries : List Entry) (is : IsTable texts entries) (names : Names) (shows : entry_names texts entries ≡ names) where
+module _ (texts : List (List ℕ)) (entries : List StoredSymbol) (is : IsTable texts entries) (names : Names) (shows : entry_names texts entries ≡ names) where
   pub find_absent : (name : List ℕ) (arity : ℕ) → position (bytes_eq name) texts ≡ None → symbol_of names name arity ≡ None
   find_absent name arity none = ap (λ n. symbol_of n name arity) (sym shows) ∙ symbol_of_absent texts entries is name arity none
 
-  pub find_entry : (name : List ℕ) (e : Entry) → slice_get texts e.text ≡ Some name → position (entry_eq e) entries ≡ symbol_of names name e.arity
+  pub find_entry : (name : List ℕ) (e : StoredSymbol) → slice_get texts e.text ≡ Some name → position (entry_eq e) entries ≡ symbol_of names name e.arity
   find_entry name e at =
       symbol_of_entry texts entries is e (slice_get_within texts e.text name at) ∙ ap (λ t. symbol_of (entry_names texts entries) t e.arity) (get_or_from_slice_get texts e.text name [] at) ∙ ap (λ n. symbol_of n name e.arity) shows
 
@@ -144,7 +144,7 @@ module _ (texts : List (List ℕ)) (entries : List Entry) (is : IsTable texts en
   find_at k name arity at = ap (λ n. symbol_of n name arity) (sym shows) ∙ symbol_of_at texts entries is k name arity (ap (λ n. slice_get n k) shows ∙ at)
 
 -- a table with one more text and one more entry
-module _ (texts : List (List ℕ)) (entries : List Entry) (is : IsTable texts entries) (name : List ℕ) (e : Entry) (texts' : List (List ℕ)) (entries' : List Entry)
+module _ (texts : List (List ℕ)) (entries : List StoredSymbol) (is : IsTable texts entries) (name : List ℕ) (e : StoredSymbol) (texts' : List (List ℕ)) (entries' : List StoredSymbol)
     (more_texts : texts' ≡ with_text texts name) (more_entries : entries' ≡ insert_key entry_eq entries e) (at : slice_get texts' e.text ≡ Some name) where
   wider : IsTable texts' entries
   wider = subst (λ t. IsTable t entries) (sym more_texts) (IsTable-with_text texts entries is name)
@@ -159,6 +159,6 @@ module _ (texts : List (List ℕ)) (entries : List Entry) (is : IsTable texts en
       ∙ ap (λ t. with_symbol (entry_names texts' entries) t e.arity) (get_or_from_slice_get texts' e.text name [] at)
       ∙ ap (λ n. with_symbol n name e.arity) (ap (λ t. entry_names t entries) more_texts ∙ entry_names-with_text texts entries is name ∙ shows)
 
-  pub symbol_of-interned : (x : Entry) (k : ℕ) → slice_get entries' k ≡ Some x → entry_eq e x ≡ true → IsTable texts' entries' → symbol_of (entry_names texts' entries') name e.arity ≡ Some k
+  pub symbol_of-interned : (x : StoredSymbol) (k : ℕ) → slice_get entries' k ≡ Some x → entry_eq e x ≡ true → IsTable texts' entries' → symbol_of (entry_names texts' entries') name e.arity ≡ Some k
   symbol_of-interned x k stands same table =
       symbol_of_at texts' entries' table k name e.arity (slice_get-entry_names texts' entries' e x k stands same ∙ ap (λ t. Some (t, e.arity)) (get_or_from_slice_get texts' e.text name [] at))

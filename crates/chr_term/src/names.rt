@@ -13,7 +13,7 @@ pub type FoldState = BuildHasherDefault<FoldHasher>;
 
 /// A symbol as it is stored: the place of its name among the texts, and its arity.
 #[derive(Clone, Copy, PartialEq, Eq, Hash, Debug, Drop)]
-struct Entry {
+struct StoredSymbol {
     text: usize,
     arity: usize,
 }
@@ -24,7 +24,7 @@ pub struct Names<A: Allocator = Global> {
     /// Each name once, however many arities it has.
     texts: IndexSet<String<A>, FoldState, A>,
     /// The symbols, each at the place that is its number.
-    entries: IndexSet<Entry, FoldState, A>,
+    entries: IndexSet<StoredSymbol, FoldState, A>,
     alloc: A,
 }
 
@@ -85,7 +85,7 @@ impl<A: Allocator + Copy> Names<A> {
     {
         // A text that has no symbol yet is not seen, so the symbol may still be refused.
         let text = place_of(self.alloc, &mut self.texts, name)?;
-        let (place, _) = self.entries.insert_full(Entry { text, arity })?;
+        let (place, _) = self.entries.insert_full(StoredSymbol { text, arity })?;
         Ok(Sym(place as u32))
     }
 }
@@ -129,7 +129,7 @@ impl<A: Allocator> Names<A> {
             option_map (λ sym. sym.0) result ≡ Some k }
     {
         let text = self.texts.get_index_of(name)?;
-        let place = self.entries.get_index_of(&Entry { text, arity })?;
+        let place = self.entries.get_index_of(&StoredSymbol { text, arity })?;
         Some(Sym(place as u32))
     }
 }

@@ -40,6 +40,9 @@ pub fn write_number<O: Allocator>(number: u64, out: &mut Vec<u8, O>) -> Result<(
     ensures ok { OnOk result (out.new.items ≡ out.old.items ++ decimal number) }
     ensures kept { IsExtension out.old.items out.new.items }
 {
+    if number < 10 {
+        return write_byte(b'0' + number as u8, out);
+    }
     let mut buffer = Buffer::new();
     write_bytes(buffer.format(number).as_bytes(), out)
 }

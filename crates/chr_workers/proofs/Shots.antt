@@ -10,7 +10,7 @@ use Rattle.chr_store.specs.contracts.row.Row as Row
 use Rattle.chr_map.specs.contracts.pointer.Pointer as Pointer
 use Rattle.chr_map.proofs.pointer.Pointer.TheSendSync as pointer_laws
 use Rattle.chr_map.proofs.node.Node.TheLaws.TheKnot as node_laws
-use Rattle.chr_map.proofs.node.Slot.TheSendSync as slot_laws
+use Rattle.chr_map.proofs.node.Branch.TheSendSync as branch_laws
 use Rattle.chr_term.proofs.term.Sym.TheSendSync as sym_laws
 use Rattle.chr_store.proofs.id.Id.TheSendSync as id_laws
 use Rattle.std.specs.contracts.sync.Arc as Arc
@@ -80,10 +80,10 @@ module _ (A : RattleType) (g : Ghosts A.Denot) (s : IsSend A) (y : IsSync A) (f 
   -- trees of keys and values
   module _ (K V : RattleType) (ks : IsSend K) (ky : IsSync K) (vs : IsSend V) (vy : IsSync V) where
     pub node : IsSync (Node.the_field K V A g).row
-    node = node_laws.both_sync-Node K V A g (λ h hs hy. search (crosses, sendable) depth 20) (λ h hs hy. search (crosses, sendable) depth 20) (λ h hs hy. search (crosses, slot_laws.the_field_send, sendable) depth 20) (λ h hs hy. search (crosses, slot_laws.the_field_sync, sendable) depth 20) (search sendable) (search sendable)
+    node = node_laws.both_sync-Node K V A g (λ h hs hy. search (crosses, sendable) depth 20) (λ h hs hy. search (crosses, sendable) depth 20) (λ h hs hy. search (crosses, branch_laws.the_field_send, sendable) depth 20) (λ h hs hy. search (crosses, branch_laws.the_field_sync, sendable) depth 20) (search sendable) (search sendable)
 
     pub node_send : IsSend (Node.the_field K V A g).row
-    node_send = node_laws.both_send-Node K V A g (λ h hs hy. search (crosses, sendable) depth 20) (λ h hs hy. search (crosses, sendable) depth 20) (λ h hs hy. search (crosses, slot_laws.the_field_send, sendable) depth 20) (λ h hs hy. search (crosses, slot_laws.the_field_sync, sendable) depth 20) (search sendable) (search sendable)
+    node_send = node_laws.both_send-Node K V A g (λ h hs hy. search (crosses, sendable) depth 20) (λ h hs hy. search (crosses, sendable) depth 20) (λ h hs hy. search (crosses, branch_laws.the_field_send, sendable) depth 20) (λ h hs hy. search (crosses, branch_laws.the_field_sync, sendable) depth 20) (search sendable) (search sendable)
 
     pub node_row : IsSync (Node.the_row K V A g)
     node_row = recorded_sync _ _ _ (Node.the_type K V A g).to_one node
@@ -94,13 +94,13 @@ module _ (A : RattleType) (g : Ghosts A.Denot) (s : IsSend A) (y : IsSync A) (f 
     pub arc : IsSync (Arc.the_row (Node.the_row K V A g) A g)
     arc = let a = node_row in let b = node_row_send in search (crosses, sendable) depth 20
 
-    pub link : IsSync (Option.the_field (Arc.the_row (Node.the_row K V A g) A g)).row
-    link = let a : IsSync (Arc.the_field (Node.the_row K V A g) A g).row = arc in let b = arc in search (sendable) depth 20
+    pub subtree : IsSync (Option.the_field (Arc.the_row (Node.the_row K V A g) A g)).row
+    subtree = let a : IsSync (Arc.the_field (Node.the_row K V A g) A g).row = arc in let b = arc in search (sendable) depth 20
 
     -- a map from the keys to the values, whatever the order of the keys
     module _ (o : ord.Ghosts K.Denot) (e : eq.Ghosts K.Denot) (l : partial.Ghosts K.Denot) where
       pub map : IsSync (Map.the_row K V A o e l g)
-      map = let root = link in let below = arc in search (sendable) depth 20
+      map = let root = subtree in let below = arc in search (sendable) depth 20
 
       pub map_field : IsSync (Map.the_field K V A o e l g).row
       map_field = map
@@ -162,12 +162,12 @@ module _ (A : RattleType) (g : Ghosts A.Denot) (s : IsSend A) (y : IsSync A) (f 
     pub arc_send : IsSend (Arc.the_row (Node.the_row K V A g) A g)
     arc_send = let a = node_row K V ks ky vs vy in let b = node_row_send K V ks ky vs vy in search (crosses, sendable) depth 20
 
-    pub link_send : IsSend (Option.the_field (Arc.the_row (Node.the_row K V A g) A g)).row
-    link_send = let a : IsSend (Arc.the_field (Node.the_row K V A g) A g).row = arc_send in let b = arc_send in search (sendable) depth 20
+    pub subtree_send : IsSend (Option.the_field (Arc.the_row (Node.the_row K V A g) A g)).row
+    subtree_send = let a : IsSend (Arc.the_field (Node.the_row K V A g) A g).row = arc_send in let b = arc_send in search (sendable) depth 20
 
     module _ (o : ord.Ghosts K.Denot) (e : eq.Ghosts K.Denot) (l : partial.Ghosts K.Denot) where
       pub map_send : IsSend (Map.the_row K V A o e l g)
-      map_send = let root = link_send in let below = arc_send in search (sendable) depth 20
+      map_send = let root = subtree_send in let below = arc_send in search (sendable) depth 20
 
       pub map_field_send : IsSend (Map.the_field K V A o e l g).row
       map_field_send = map_send

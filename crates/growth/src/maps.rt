@@ -1,7 +1,7 @@
 //! The calls of a map: keys put in order and in another one, looked up, walked over and taken out; and keys put one by one, each behind a
 //! map that was kept.
 use crate::times::print_each;
-use chr_map::{Map, Memory, Part, Pointer, Share};
+use chr_map::{Map, Memory, Pointer, Share, Span};
 use std::alloc::Global;
 use std::io;
 use std::time::{Duration, Instant};
@@ -50,11 +50,11 @@ fn looked_up(map: &Numbers, size: u64, step: u64) -> u64 {
 }
 
 /// The sum of the values, on a walk over the map of at most `levels` levels.
-fn walked(part: &Part<'_, u64, Pointer<u64>>, levels: u32) -> u64 {
+fn walked(span: &Span<'_, u64, Pointer<u64>>, levels: u32) -> u64 {
     if levels == 0 {
         return 0;
     }
-    match part.middle() {
+    match span.middle() {
         None => 0,
         Some(middle) => {
             let sum = walked(&middle.before, levels - 1).wrapping_add(*middle.value.value());

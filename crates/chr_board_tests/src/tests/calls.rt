@@ -5,7 +5,7 @@ ghost use Rattle.chr_rules.specs.ProgramView.{rules_of};
 ghost use Rattle.chr_rules.specs.RuleView.{query_view};
 ghost use Rattle.chr_semantics.specs.Bounds.{IsQueryBounded};
 ghost use Rattle.chr_shelf.specs.Seat.{index_of, place_of, ticket_of};
-ghost use Rattle.chr_board.specs.RowView.{slip_view};
+ghost use Rattle.chr_board.specs.OfferedView.{slip_view};
 
 use super::*;
 use refusing_alloc::{Refusing, Turn, refused_in_turn};

@@ -195,7 +195,7 @@ fn fill<J: RunName, A: Allocator + Copy>(
 
 /// What is asked of a core.
 #[derive(Drop)]
-enum Asked<A: Allocator> {
+enum Exercise<A: Allocator> {
     Calls,
     /// The growths of a step, to whose search an answer came or not.
     Growths(bool),
@@ -210,18 +210,18 @@ fn answer_to<J: RunName, A: Allocator + Copy>(
     program: &Program<A>,
     shelf: &Shelf<A>,
     core: &mut Core<'_, J, A>,
-    asked: Asked<A>,
+    asked: Exercise<A>,
 ) -> Result<u64, CoreError>
     requires name { shelf.now ≡ J.shelf }
     requires rules { rules_of program.now ≡ J.rules }
 {
     match asked {
-        Asked::Calls => play(rt, scene, program, shelf, core)?,
-        Asked::Growths(comes) => {
+        Exercise::Calls => play(rt, scene, program, shelf, core)?,
+        Exercise::Growths(comes) => {
             return growths_of_step(rt, scene, program, shelf, core, comes);
         }
-        Asked::Stranger(snapshot) => assert_stranger(rt, scene, program, shelf, core, snapshot)?,
-        Asked::Full => fill(rt, shelf, core)?,
+        Exercise::Stranger(snapshot) => assert_stranger(rt, scene, program, shelf, core, snapshot)?,
+        Exercise::Full => fill(rt, shelf, core)?,
     }
     Ok(0)
 }
@@ -255,7 +255,7 @@ fn ask_named<J: RunName, A: Allocator + Copy>(
     shelf: &Shelf<A>,
     query: Query<A>,
     spare: Query<A>,
-    asked: Asked<A>,
+    asked: Exercise<A>,
 ) -> Result<u64, CoreError>
     requires query { IsQueryBounded (query_view query) }
     requires spare { IsQueryBounded (query_view spare) }
@@ -274,7 +274,7 @@ fn ask<A: Allocator + Copy>(
     shelf: &Shelf<A>,
     query: Query<A>,
     spare: Query<A>,
-    asked: Asked<A>,
+    asked: Exercise<A>,
 ) -> Result<u64, CoreError>
     requires query { IsQueryBounded (query_view query) }
     requires spare { IsQueryBounded (query_view spare) }
@@ -310,14 +310,14 @@ fn asked_of<A: Allocator + Copy>(
     program: &Program<A>,
     query: Query<A>,
     question: Question,
-) -> Result<Asked<A>, Memory>
+) -> Result<Exercise<A>, Memory>
     requires { IsQueryBounded (query_view query) }
 {
     match question {
-        Question::Calls => Ok(Asked::Calls),
-        Question::Growths(comes) => Ok(Asked::Growths(comes)),
-        Question::Full => Ok(Asked::Full),
-        Question::Stranger => Ok(Asked::Stranger(snapshot_of(alloc, program, query)?)),
+        Question::Calls => Ok(Exercise::Calls),
+        Question::Growths(comes) => Ok(Exercise::Growths(comes)),
+        Question::Full => Ok(Exercise::Full),
+        Question::Stranger => Ok(Exercise::Stranger(snapshot_of(alloc, program, query)?)),
     }
 }
 

@@ -6,6 +6,6 @@ use Rattle.chr_base.proofs.heads.build_fired.Goals as goal
 
 pub returns : goal.returns
 returns g c =
-    IfOk-weaker c.build_body.result _ _
+    IfOk-weaker c.goals.result _ _
     (λ built body t same standing m fit. body t (subst (λ (o : Option Subst). AgreesWith c.match_heads.new.matching (unwrap_or o [])) (sym fit) (c.match_heads.ensures t same standing m fit)))
-    c.build_body.ensures.body
+    c.goals.ensures.body

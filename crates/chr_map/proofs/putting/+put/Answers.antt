@@ -2,9 +2,9 @@ use Rattle.std.proofs.Common.{◌<◌, ◌++◌, length, refl, arith}
 use Rattle.chr_map.specs.Order.{entry_put, on_first}
 use Rattle.chr_map.specs.Places.{entries_at, entries_before, entries_behind}
 use Rattle.chr_map.proofs.Between.{put_between, put_first}
-use Rattle.chr_map.proofs.Changed.{changed_up, done_between, done_first, put_back_same, slot_set}
+use Rattle.chr_map.proofs.Changed.{changed_up, done_between, done_first, put_back_same, branch_set}
 use Rattle.chr_map.proofs.Clauses.{err_holds, ok_leads}
-use Rattle.chr_map.proofs.Parts.{parts, same_swaps}
+use Rattle.chr_map.proofs.Parts.{spans, same_swaps}
 use Rattle.chr_map.proofs.putting.+put.Goals as goal
 
 pub put_at-returns-in_err-up-clause-err : goal.put_at-returns-in_err-up-clause-err
@@ -21,10 +21,10 @@ pub put_below-returns-in-Ok-clause-ok : goal.put_below-returns-in-Ok-clause-ok
 put_below-returns-in-Ok-clause-ok g t c =
     let n = c.args.node.now in
     let i = c.in-Ok.place in
-    let lt : i < length (parts n).slots.items = omega (arith, c.in-Ok.ensures.slot, (parts n).slots.ok.0) in
+    let lt : i < length (spans n).branches.items = omega (arith, c.in-Ok.ensures.branch, (spans n).branches.ok.0) in
     done_first g.K.Ord.cmp n i (λ es. entry_put g.K.Ord.cmp es c.args.key.now c.args.value) (on_first (λ e. (e.0, c.args.value)) (entries_behind n i)) _
     (λ up. put_first g.K.Ord.cmp g.met.K.Ord.total c.args.key.now c.args.value (entries_before n i ++ entries_at n i) (entries_behind n i) up c.in-Ok.ensures.found)
-    (slot_set n (λ e. (e.0, c.args.value)) _ i c.index_mut.result.now _ lt c.index_mut.ensures.value refl refl)
+    (branch_set n (λ e. (e.0, c.args.value)) _ i c.index_mut.result.now _ lt c.index_mut.ensures.value refl refl)
 
 pub put_below-returns-in-Err-clause-ok : goal.put_below-returns-in-Err-clause-ok
 put_below-returns-in-Err-clause-ok g t c =

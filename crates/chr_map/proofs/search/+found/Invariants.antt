@@ -1,5 +1,5 @@
-use Rattle.chr_map.specs.Entries.{link_seen}
+use Rattle.chr_map.specs.Entries.{subtree_seen}
 use Rattle.chr_map.proofs.search.+found.Given as goal
 
 abbrev pub decreases-found : goal.decreases-found
-decreases-found g l = (link_seen l.link.now).nodes
+decreases-found g l = (subtree_seen l.subtree.now).nodes

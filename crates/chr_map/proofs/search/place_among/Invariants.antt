@@ -6,9 +6,9 @@ use Rattle.chr_map.proofs.search.place_among.Given as goal
 abbrev pub invariant-loop-low : goal.invariant-loop-low
 invariant-loop-low g l = record {
   in_order : l.low ≤ l.high;
-  inside : l.high ≤ length l.slots.items;
-  greater : IsGreater g.K.Ord.cmp l.key l.slots.items l.low;
-  less : Compares g.K.Ord.cmp l.key Less l.slots.items l.high;
+  inside : l.high ≤ length l.branches.items;
+  greater : IsGreater g.K.Ord.cmp l.key l.branches.items l.low;
+  less : Compares g.K.Ord.cmp l.key Less l.branches.items l.high;
 }
 
 abbrev pub decreases-loop-low : goal.decreases-loop-low

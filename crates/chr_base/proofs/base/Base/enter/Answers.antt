@@ -23,8 +23,8 @@ invariant_of-self-2 g c =
     record {
       agrees = subst (λ (s : Subst). Agrees m (entries_view c.put.new.self) s (atom_at b.table) b.is_stale) (sym c.fresh.ensures.subst)
           (subst (λ (h : Entries). Agrees m h b.bindings.subst (atom_at b.table) b.is_stale) (sym is)
-          (agrees_entered _ _ _ _ _ b.agrees fired.rule fired.ids c.requires.alive c.requires.is_new));
-      lends = subst (λ (h : Entries). Lends m h c.note.new.firings) (sym is) (lends_noted _ _ _ _ _ b.agrees b.firings b.lends fired c.note.new.firings c.requires.is_new c.note.ensures);
+          (agrees_entered _ _ _ _ _ b.agrees fired.rule fired.ids c.requires.can.alive c.requires.can.is_new));
+      lends = subst (λ (h : Entries). Lends m h c.note.new.firings) (sym is) (lends_noted _ _ _ _ _ b.agrees b.firings b.lends fired c.note.new.firings c.requires.can.is_new c.note.ensures);
       ahead = ahead_fired (rules_of b.program.now) (base_view b) [] c.fresh.new.self.len (ascends_agrees _ _ _ _ _ b.agrees) _ fired.rule fired.ids b.bookmarks.items
           (λ k. record { store = m; entries = is k; subst = c.fresh.ensures.subst k; next_var = c.fresh.new.self.len })
           b.ahead;

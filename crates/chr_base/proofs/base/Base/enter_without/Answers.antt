@@ -29,10 +29,10 @@ invariant_of-self-2 g c =
       agrees = subst (λ (s : Subst). Agrees (store_view c.remove.new.self) (entries_view c.put.new.self) s (atom_at c.remove-2.new.self) b.is_stale) (sym c.fresh.ensures.subst)
           (subst (λ (h : Entries). Agrees (store_view c.remove.new.self) h b.bindings.subst (atom_at c.remove-2.new.self) b.is_stale) (sym is)
           (subst (λ (m : Store). Agrees m entries b.bindings.subst (atom_at c.remove-2.new.self) b.is_stale) (sym less)
-          (agrees_removed _ _ _ _ _ (agrees_entered _ _ _ _ _ b.agrees fired.rule fired.ids c.requires.alive c.requires.is_new) id there.0 there.1 (atom_at c.remove-2.new.self) c.remove-2.ensures.atoms)));
+          (agrees_removed _ _ _ _ _ (agrees_entered _ _ _ _ _ b.agrees fired.rule fired.ids c.requires.can.alive c.requires.can.is_new) id there.0 there.1 (atom_at c.remove-2.new.self) c.remove-2.ensures.atoms)));
       lends = subst (λ (h : Entries). Lends (store_view c.remove.new.self) h b.firings) (sym is)
           (subst (λ (m : Store). Lends m entries b.firings) (sym less)
-          (lends_gone _ _ _ _ _ b.agrees b.firings b.lends fired id there.0 c.requires.is_new there.1 c.requires.among));
+          (lends_gone _ _ _ _ _ b.agrees b.firings b.lends fired id there.0 c.requires.can.is_new there.1 c.requires.among));
       ahead = ahead_fired (rules_of b.program.now) (base_view b) (id ∷ []) c.fresh.new.self.len (ascends_agrees _ _ _ _ _ b.agrees) _ fired.rule fired.ids b.bookmarks.items
           (λ k. record { store = less k; entries = is k; subst = c.fresh.ensures.subst k; next_var = c.fresh.new.self.len })
           b.ahead;

@@ -2,7 +2,7 @@ use Rattle.std.proofs.Common.{◌≡◌, List, [], arith, length, subst}
 use Rattle.chr_semantics.specs.Join.{Joined}
 use Rattle.chr_find.specs.Finding.{rule_of}
 use Rattle.chr_find.specs.Finds.{Finds}
-use Rattle.chr_find.specs.Gate.{free, passed}
+use Rattle.chr_find.specs.Threshold.{free, passed}
 use Rattle.chr_find.proofs.OwnFirst.{free_first}
 use Rattle.chr_find.proofs.OwnSearch.{own_head}
 use Rattle.chr_find.proofs.RuleHeads.{heads_length}
@@ -17,7 +17,7 @@ returns g c =
     let rule = rule_of s in
     let h = g.P.FiringHistory.history c.args.past.now in
     let counted : length rule.heads ≡ length s.rule.now.heads.items = heads_length s.rule.now.heads.items s.rule.now.passive.items in
-    let x = own_head s.rule.now s.place c.requires.searchable in
+    let x = own_head s.rule.now s.place s.searchable in
     ok_more _ _ c.found.result
     (λ found f rows has a lives.
     let w = own_shown t s.id.0 rows c.requires.own has in

@@ -2,7 +2,7 @@ use Rattle.std.proofs.Common.{List, [], subst}
 use Rattle.chr_semantics.specs.Join.{Joined}
 use Rattle.chr_find.specs.Finding.{rule_of}
 use Rattle.chr_find.specs.Finds.{Finds}
-use Rattle.chr_find.specs.Gate.{on, passed}
+use Rattle.chr_find.specs.Threshold.{on, passed}
 use Rattle.chr_find.specs.Joins.{IsQuiet}
 use Rattle.chr_find.specs.PlanView.{lookups_of}
 use Rattle.chr_find.specs.Shown.{ForRows}
@@ -21,7 +21,7 @@ returns g c =
     let h = g.P.FiringHistory.history c.args.past.now in
     let from = c.args.cursor.now.from in
     let after = c.args.cursor.now.after in
-    let x = own_head s.rule.now s.place c.requires.searchable in
+    let x = own_head s.rule.now s.place s.searchable in
     let quiet = subst (λ (p : Plan g.row.A.Denot). ForRows (lookups_of p) t.index.rows (λ rows. IsQuiet rows rule.heads s.place s.id.0 from c.quiet_from-quiet.result)) c.value-plan.ensures c.quiet_from-quiet.ensures in
     ok_more _ _ c.found.result
     (λ found f rows has a lives spent.

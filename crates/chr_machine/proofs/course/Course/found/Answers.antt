@@ -16,10 +16,10 @@ returns-then-not-alive-clause-found g c =
     let s = c.args.at.now in
     dead_found (course_of c.args.self.now) s c.args.active.now c.requires.at (ap (λ (st : Store). is_some (atom_of st.rows s.id.0)) (sym c.store.ensures) ∙ (sym c.alive.ensures ∙ c.if-not-alive.true))
 
-pub search-requires-clause-of_program : goal.search-requires-clause-of_program
-search-requires-clause-of_program g c =
+pub search-requires : goal.search-requires
+search-requires g c =
     let x = c.args.active.now in
-    occurrence_rule (course_of c.args.self.now).rules x.sym.0 x.occurrence (occurrence_of c.args.at.now) c.requires.at.occurs
+    record { of_program = occurrence_rule (course_of c.args.self.now).rules x.sym.0 x.occurrence (occurrence_of c.args.at.now) c.requires.at.occurs }
 
 pub returns-in-Missing-clause-found : goal.returns-in-Missing-clause-found
 returns-in-Missing-clause-found g c =

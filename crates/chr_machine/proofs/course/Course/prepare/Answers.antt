@@ -13,7 +13,7 @@ returns-clause-same g c = c.draft.ensures.same ∙ over_is c.args.self.now c.fre
 
 pub returns-clause-ok : goal.returns-clause-ok
 returns-clause-ok g c =
-    let s = c.args.at.now in
+    let s = c.args.at in
     let x = c.args.active.now in
     let r = rule_view s.rule.now in
     let f = subst (λ (k : CourseModel). IsFiring k s x.occurrence (atom_at x) c.args.ids.now) (sym (returns-clause-same g c)) c.requires.is in

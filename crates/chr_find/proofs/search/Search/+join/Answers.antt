@@ -1,0 +1,186 @@
+use Rattle.std.proofs.Common.{◌≡◌, ◌∙◌, ◌<◌, ◌∷◌, ◌++◌, [], Bool, List, Some, ap, arith, false, get_or, length, refl, subst, sym, take, true, vec_len, ℕ}
+use Rattle.std.proofs.lemmas.Bool.{eq-eqb, ne_eqb}
+use Rattle.chr_semantics.specs.Bounds.{AreBelow}
+use Rattle.chr_rules.specs.RuleView.{rule_view}
+use Rattle.chr_semantics.proofs.Lists.{All-got}
+use Rattle.chr_semantics.specs.Match as semantics
+use Rattle.chr_semantics.specs.Program.{Head, Atom}
+use Rattle.chr_semantics.specs.declared.limits.TheConstants.{MAX_RULE_VARIABLES}
+use Rattle.chr_semantics.specs.Match.{fit_atom}
+use Rattle.chr_store.specs.Rows.{row_atom}
+use Rattle.chr_store.specs.declared.row.Row.{Row}
+use Rattle.chr_find.specs.declared.bucket.IndexKey.{IndexKey}
+use Rattle.chr_term.specs.TermView.{atom_view}
+use Rattle.chr_find.specs.Enough.{TakesAs}
+use Rattle.chr_find.specs.Joins.{WalkIs}
+use Rattle.chr_find.specs.PlanView.{lookups_of}
+use Rattle.chr_find.specs.IndexKeys.{in_bucket}
+use Rattle.chr_find.specs.SearchIs.{WalkFinds, WalkLeads, threshold_at, if_found}
+use Rattle.chr_bind.specs.Matching.{IsSame}
+use Rattle.chr_bind.proofs.Marked.{marks_covered}
+use Rattle.chr_find.specs.Shown.{walk}
+use Rattle.chr_find.proofs.HeadFits.{head_takes}
+use Rattle.chr_find.proofs.JoinEnds.{at_own, from_walk}
+use Rattle.chr_find.proofs.JoinSteps.{row_out, row_taken}
+use Rattle.chr_find.proofs.RuleHeads.{head_at, heads_length}
+use Rattle.chr_find.proofs.SearchParts.{head_there, join_longer, level_less, longer_length, ok_more}
+use Rattle.chr_find.proofs.Visits.{finds_nothing, found_after, found_before, found_past, found_there}
+use Rattle.chr_find.proofs.Walk.{walk_shown}
+use Rattle.chr_find.proofs.WalkSpans.{span_greater, span_less}
+use Rattle.chr_find.proofs.search.Search.+join.Goals as goal
+
+pub join-returns-then-level-self : goal.join-returns-then-level-self
+join-returns-then-level-self g t c =
+    let s = c.args.self.now in
+    let p = c.args.prefix.now in
+    let rule = rule_view s.rule.now in
+    let x : (x : Head) × _ = head_there rule.heads (length p.partners) (omega (arith, heads_length s.rule.now.heads.items s.rule.now.passive.items, c.if-level-len.false, c.len.ensures, c.len-level.ensures.len)) in
+    ok_more _ _ c.join.result
+    (λ found j. (
+      λ rows shown.
+          at_own rows (g.P.FiringHistory.history s.past.now) s.number (rule_view s.rule.now) s.place s.own.0 (length p.partners) p.partners c.args.matching.now s.from s.quiet (threshold_at (g.P.FiringHistory.history s.past.now) s p) x.0 x.1 c.longer.result.partners (if_found found c.join.new.reached.partners) c.args.reached.now.tries c.join.new.reached.tries
+          c.longer.ensures.partners (eq-eqb (length p.partners) s.place (sym c.len-level.ensures.len ∙ c.if-level-self.true))
+          (join_longer rows (g.P.FiringHistory.history s.past.now) s.number rule s.place s.own.0 (length p.partners) (length c.longer.result.partners) c.longer.result.partners c.args.matching.now s.from s.quiet c.longer.result.mode s.after.now _ (if_found found c.join.new.reached.partners) c.args.reached.now.tries c.join.new.reached.tries (longer_length p.partners c.longer.result.partners _ c.longer.ensures.partners) c.longer.ensures.threshold (j.0 rows shown)),
+      j.1,
+    ))
+    c.join.ensures
+
+pub join-visit-requires : goal.join-visit-requires
+join-visit-requires g t c κs within =
+    let s = c.args.self.now in
+    let l : (length c.args.prefix.now.partners) < vec_len s.rule.now.heads = omega (arith, c.if-level-len.false, c.len.ensures, c.len-level.ensures.len) in
+    let entries : length c.entries.result ≡ length s.rows.now = ap length c.entries.ensures.value in
+    let smaller = level_less (vec_len s.rule.now.heads) (length c.args.prefix.now.partners) (length s.rows.now) (length c.narrowed-span.result) l (omega (arith, entries, c.narrowed-span.ensures.short)) in
+    (omega (arith, smaller, c.decreases), (within.0, (within.1, ((omega arith), (l, (c.least-least.ensures.bound, c.least-least.ensures.quiet))))))
+
+pub join-returns : goal.join-returns
+join-returns g t c =
+    let s = c.args.self.now in
+    let p = c.args.prefix.now in
+    let lt : (length p.partners) < length s.rule.now.heads.items = omega (arith, c.if-level-len.false, c.len.ensures, c.len-level.ensures.len) in
+    let x = head_at s.rule.now.heads.items s.rule.now.passive.items (length p.partners) c.index.result.now lt (c.index.ensures ∙ ap (λ (k : ℕ). get_or s.rule.now.heads.items k c.index.result.now) c.len-level.ensures.len) in
+    ok_more _ _ c.visit.result
+    (λ found w. (
+      λ rows shown.
+          from_walk rows (g.P.FiringHistory.history s.past.now) s.number (rule_view s.rule.now) s.place s.own.0 (length p.partners) p.partners c.args.matching.now s.from s.quiet (threshold_at (g.P.FiringHistory.history s.past.now) s p) x.0 x.1 (λ row. in_bucket (lookups_of s.plan.now row.1.sym) row.1 c.bucket_for-bucket.result) (if_found found c.visit.new.reached.partners) c.args.reached.now.tries c.visit.new.reached.tries
+          (ne_eqb (length p.partners) s.place (λ e. c.if-level-self.false (c.len-level.ensures.len ∙ e)))
+          (λ m agrees row out. ap (λ (h : Atom). fit_atom h row.1 m) (x.2 ∙ ap (atom_view c.index.result.now.0) (sym c.as_slice.ensures.value)) ∙ c.bucket_for-bucket.ensures m agrees row out)
+          (subst (λ (walked : List semantics.Row). WalkIs rows (g.P.FiringHistory.history s.past.now) s.number (rule_view s.rule.now) s.place s.own.0 (length p.partners) p.partners c.args.matching.now s.from s.quiet (threshold_at (g.P.FiringHistory.history s.past.now) s p) x.0.atom walked (if_found found c.visit.new.reached.partners) c.args.reached.now.tries c.visit.new.reached.tries)
+          (c.narrowed-span.ensures.rows ∙ (ap (walk c.bucket_for-bucket.result) c.entries.ensures.value ∙ walk_shown (lookups_of s.plan.now) c.bucket_for-bucket.result s.rows.now rows c.entries.ensures.ascending shown.rises shown.shows)) (w.0 x.0 x.1 rows shown)),
+      w.1,
+    ))
+    c.visit.ensures
+
+pub join_row-takes-requires : goal.join_row-takes-requires
+join_row-takes-requires g t c =
+    let s = c.args.self.now in
+    let x = head_at s.rule.now.heads.items s.rule.now.passive.items (length c.args.prefix.now.partners) c.index-head.result.now (omega (arith, c.requires)) (c.index-head.ensures ∙ ap (λ (k : ℕ). get_or s.rule.now.heads.items k c.index-head.result.now) c.len.ensures.len) in
+    (omega arith, subst (λ (h : Atom). AreBelow MAX_RULE_VARIABLES h.args) x.2 (All-got (λ (h : Head). AreBelow MAX_RULE_VARIABLES h.atom.args) (rule_view s.rule.now).heads (length c.args.prefix.now.partners) x.0 x.1 s.searchable.small.below))
+
+pub join_row-returns-then-takes : goal.join_row-returns-then-takes
+join_row-returns-then-takes g t c =
+    let s = c.args.self.now in
+    let p = c.args.prefix.now in
+    let row : semantics.Row = (c.args.id.0, row_atom c.args.row.now) in
+    ok_more _ _ c.join.result
+    (λ found j. (
+      λ x at rows shown.
+          let taken : TakesAs true (s.own.0 ∷ p.partners) x.atom row c.args.matching.now c.takes.new.matching =
+          head_takes s.rule.now.heads.items s.rule.now.passive.items (length p.partners) c.index-head.result.now x (omega (arith, c.requires)) (c.index-head.ensures ∙ ap (λ (k : ℕ). get_or s.rule.now.heads.items k c.index-head.result.now) c.len.ensures.len) at c.takes.result true c.if-takes.true c.args.matching.now c.takes.new.matching (s.own.0 ∷ p.partners) row c.takes.ensures.takes in
+          row_taken rows (g.P.FiringHistory.history s.past.now) s.number (rule_view s.rule.now) s.place s.own.0 (length p.partners) p.partners c.args.matching.now s.from s.quiet (threshold_at (g.P.FiringHistory.history s.past.now) s p) x.atom row c.longer.result.partners c.takes.new.matching (if_found found c.join.new.reached.partners) c.args.reached.now.tries c.join.new.reached.tries
+          c.longer.ensures.partners taken
+          (join_longer rows (g.P.FiringHistory.history s.past.now) s.number (rule_view s.rule.now) s.place s.own.0 (length p.partners) (length c.longer.result.partners) c.longer.result.partners c.takes.new.matching s.from s.quiet c.longer.result.mode s.after.now _ (if_found found c.join.new.reached.partners) c.args.reached.now.tries c.join.new.reached.tries (longer_length p.partners c.longer.result.partners _ c.longer.ensures.partners) c.longer.ensures.threshold (j.0 rows shown)),
+      λ none x u is. j.1 none x ∙ c.takes.ensures.kept x u is,
+    ))
+    c.join.ensures
+
+pub join_row-returns-else-takes : goal.join_row-returns-else-takes
+join_row-returns-else-takes g t c = (
+  λ x at rows shown.
+      let s = c.args.self.now in
+      let p = c.args.prefix.now in
+      let row : semantics.Row = (c.args.id.0, row_atom c.args.row.now) in
+      let out : TakesAs false (s.own.0 ∷ p.partners) x.atom row c.args.matching.now c.takes.new.matching =
+      head_takes s.rule.now.heads.items s.rule.now.passive.items (length p.partners) c.index-head.result.now x (omega (arith, c.requires)) (c.index-head.ensures ∙ ap (λ (k : ℕ). get_or s.rule.now.heads.items k c.index-head.result.now) c.len.ensures.len) at c.takes.result false c.if-takes.false c.args.matching.now c.takes.new.matching (s.own.0 ∷ p.partners) row c.takes.ensures.takes in
+      row_out rows (g.P.FiringHistory.history s.past.now) s.number (rule_view s.rule.now) s.place s.own.0 (length p.partners) p.partners c.args.matching.now s.from s.quiet (threshold_at (g.P.FiringHistory.history s.past.now) s p) x.atom row c.takes.new.matching c.args.reached.now.tries (omega arith) out,
+  λ none. c.takes.ensures.kept,
+)
+
+pub try_row-back_to-requires : goal.try_row-back_to-requires
+try_row-back_to-requires g t c = ((omega arith), marks_covered c.args.matching.now c.join_row.new.matching c.marks-marks.result c.marks-marks.ensures (c.in_ok-join_row.ensures.1 c.if-branch.false))
+
+pub try_row-returns : goal.try_row-returns
+try_row-returns g t c = (
+  subst (λ (b : Bool). WalkFinds (g.P.FiringHistory.history c.args.self.now.past.now) c.args.self.now c.args.prefix.now c.args.matching.now ((c.args.id.0, row_atom c.args.row.now) ∷ []) (if_found b c.join_row.new.reached.partners) c.args.reached.now.tries c.join_row.new.reached.tries) c.if-branch.false c.in_ok-join_row.ensures.0,
+  λ none. c.back_to.ensures c.args.matching.now c.marks-marks.ensures (c.in_ok-join_row.ensures.1 c.if-branch.false),
+)
+
+pub visit-returns-in-None : goal.visit-returns-in-None
+visit-returns-in-None g t c =
+    let s = c.args.self.now in (
+      finds_nothing (g.P.FiringHistory.history s.past.now) s c.args.prefix.now c.args.matching.now (walk c.args.bucket.now c.args.span.now) c.args.reached.now.tries (ap (walk c.args.bucket.now) c.in-None.ensures.none) (omega arith),
+      λ none x. refl,
+    )
+
+pub visit-returns-in-Less : goal.visit-returns-in-Less
+visit-returns-in-Less g t c =
+    let s = c.args.self.now in
+    let m : IndexKey × Row g.row.A.Denot = (c.in-Some.middle.key.now, c.in-Some.middle.value.now) in
+    let e = span_less c.args.bucket.now c.args.span.now c.in-Some.middle.before m c.in-Some.middle.after c.in-Some.ensures.some c.in-Some.ensures.ascending (sym c.cmp.ensures ∙ c.in-Less.is) in
+    ok_more _ _ c.visit.result
+    (λ found w. subst (λ walked. WalkLeads (g.P.FiringHistory.history s.past.now) s c.args.prefix.now walked c.args.matching.now c.visit.new.matching c.args.reached.now c.visit.new.reached found) (sym e) w)
+    c.visit.ensures
+
+pub visit-returns-in-Greater : goal.visit-returns-in-Greater
+visit-returns-in-Greater g t c =
+    let s = c.args.self.now in
+    let m : IndexKey × Row g.row.A.Denot = (c.in-Some.middle.key.now, c.in-Some.middle.value.now) in
+    let e = span_greater c.args.bucket.now c.args.span.now c.in-Some.middle.before m c.in-Some.middle.after c.in-Some.ensures.some c.in-Some.ensures.ascending (sym c.cmp.ensures ∙ c.in-Greater.is) in
+    ok_more _ _ c.visit-in-Greater.result
+    (λ found w. subst (λ walked. WalkLeads (g.P.FiringHistory.history s.past.now) s c.args.prefix.now walked c.args.matching.now c.visit-in-Greater.new.matching c.args.reached.now c.visit-in-Greater.new.reached found) (sym e) w)
+    c.visit-in-Greater.ensures
+
+pub visit-returns-then-id-least : goal.visit-returns-then-id-least
+visit-returns-then-id-least g t c =
+    let s = c.args.self.now in
+    ok_more _ _ c.visit-then-id-least.result
+    (λ found w. (
+      found_past (g.P.FiringHistory.history s.past.now) s c.args.prefix.now c.args.bucket.now c.args.span.now c.in-Some.middle.before (c.in-Some.middle.key.now, c.in-Some.middle.value.now) c.in-Some.middle.after c.in-Some.ensures.some (sym c.cmp.ensures ∙ c.in-Equal.is)
+          c.args.matching.now c.args.least (if_found found c.visit-then-id-least.new.reached.partners) c.args.reached.now.tries c.visit-then-id-least.new.reached.tries c.in-Some.ensures.ascending c.if-id-least.true (omega arith) c.requires.bound c.requires.quiet w.0,
+      w.1,
+    ))
+    c.visit-then-id-least.ensures
+
+-- found before the middle
+pub visit-returns-then-branch : goal.visit-returns-then-branch
+visit-returns-then-branch g t c =
+    let s = c.args.self.now in (
+      found_before (g.P.FiringHistory.history s.past.now) s c.args.prefix.now c.args.bucket.now c.args.span.now c.in-Some.middle.before (c.in-Some.middle.key.now, c.in-Some.middle.value.now) c.in-Some.middle.after c.in-Some.ensures.some (sym c.cmp.ensures ∙ c.in-Equal.is)
+          c.args.matching.now c.in_ok-visit-in-Equal.field-0 c.visit-in-Equal.new.reached.partners c.args.reached.now.tries c.visit-in-Equal.new.reached.tries c.if-branch.true c.in_ok-visit-in-Equal.ensures.0,
+      λ none. absurd (let no : true ≡ false = none in cc),
+    )
+
+-- at the middle
+pub visit-returns-then-branch-2 : goal.visit-returns-then-branch-2
+visit-returns-then-branch-2 g t c =
+    let s = c.args.self.now in (
+      found_there (g.P.FiringHistory.history s.past.now) s c.args.prefix.now c.args.bucket.now c.args.span.now c.in-Some.middle.before (c.in-Some.middle.key.now, c.in-Some.middle.value.now) c.in-Some.middle.after c.in-Some.ensures.some (sym c.cmp.ensures ∙ c.in-Equal.is)
+          c.args.matching.now c.visit-in-Equal.new.matching c.in_ok-visit-in-Equal.field-0 c.in_ok-try_row-in-Equal.field-0 c.visit-in-Equal.new.reached.partners c.try_row.new.reached.partners c.args.reached.now.tries c.visit-in-Equal.new.reached.tries c.try_row.new.reached.tries
+          c.in-Some.middle.value.now refl c.if-branch.false c.if-branch-2.true c.in_ok-visit-in-Equal.ensures.0 (c.in_ok-visit-in-Equal.ensures.1 c.if-branch.false) c.in_ok-try_row-in-Equal.ensures.0,
+      λ none. absurd (let no : true ≡ false = none in cc),
+    )
+
+-- after it, or not at all
+pub visit-returns-else-branch-2 : goal.visit-returns-else-branch-2
+visit-returns-else-branch-2 g t c =
+    let s = c.args.self.now in
+    let same : IsSame c.args.matching.now c.visit-in-Equal.new.matching = c.in_ok-visit-in-Equal.ensures.1 c.if-branch.false in
+    let still : IsSame c.visit-in-Equal.new.matching c.try_row.new.matching = c.in_ok-try_row-in-Equal.ensures.1 c.if-branch-2.false in
+    ok_more _ _ c.visit-in-Equal-2.result
+    (λ found w. (
+      found_after (g.P.FiringHistory.history s.past.now) s c.args.prefix.now c.args.bucket.now c.args.span.now c.in-Some.middle.before (c.in-Some.middle.key.now, c.in-Some.middle.value.now) c.in-Some.middle.after c.in-Some.ensures.some (sym c.cmp.ensures ∙ c.in-Equal.is)
+          c.args.matching.now c.visit-in-Equal.new.matching c.try_row.new.matching c.in_ok-visit-in-Equal.field-0 c.in_ok-try_row-in-Equal.field-0 c.visit-in-Equal.new.reached.partners c.try_row.new.reached.partners (if_found found c.visit-in-Equal-2.new.reached.partners) c.args.reached.now.tries c.visit-in-Equal.new.reached.tries c.try_row.new.reached.tries c.visit-in-Equal-2.new.reached.tries
+          c.in-Some.middle.value.now refl c.if-branch.false c.if-branch-2.false c.in_ok-visit-in-Equal.ensures.0 same c.in_ok-try_row-in-Equal.ensures.0 still w.0,
+      λ none x. w.1 none x ∙ (still x ∙ same x),
+    ))
+    c.visit-in-Equal-2.ensures
