@@ -2,3 +2,4 @@ pub mod Phases
 pub mod Keeps
 pub mod Marks
 pub mod Slips
+pub mod Picks

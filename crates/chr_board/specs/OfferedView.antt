@@ -1,5 +1,5 @@
 -- The offered tasks, the slips and the totals of a desk, as the definitions see them.
-use Rattle.std.specs.Prelude.{◌-◌, ℕ, Bool, List, length, map, Option, option_map, slice_get}
+use Rattle.std.specs.Prelude.{ℕ, Bool, List, map}
 use Rattle.chr_semantics.specs.Desk as semantics
 use Rattle.chr_semantics.specs.Desk.{Serial, is_waiting, is_out, is_given_up, is_posted, is_drained}
 use Rattle.chr_shelf.specs.declared.answer.Answer.{Answer}
@@ -45,10 +45,6 @@ totals_view t = record {
   waiting = t.waiting;
   left = t.left;
 }
-
--- the place of the round that was offered last
-abbrev pub newest_place : List Serial → Option ℕ
-newest_place ss = option_map (λ s. s.place) (slice_get ss (length ss - 1))
 
 module _ {J A : Type 0} {G : Ghosts J} where
   -- the place and the index of the task that an answer is of

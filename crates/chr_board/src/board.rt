@@ -1,57 +1,136 @@
 //! A desk that threads share.
-ghost use Rattle.std.specs.Prelude.{◌≡◌, IfOk, OnErr};
+ghost use Rattle.std.specs.Prelude.{◌≡◌, ◌≤◌, ◌<◌, IfOk, IfSome, OnErr};
 ghost use Rattle.chr_shelf.specs.Seat.{index_of, place_of, ticket_of};
-ghost use Rattle.chr_board.specs.OfferedView.{slip_view};
 ghost use Rattle.chr_board.specs.Drained.{HasMore};
+ghost use Rattle.chr_board.specs.OfferedView.{slip_view};
 
 use crate::Memory;
-use crate::desk::Desk;
+use crate::desk::{Desk, Picked};
 use crate::error::BoardError;
-use crate::searches::Searches;
+use crate::searches::{RoundTask, Searches};
 use crate::slip::Slip;
 use crate::totals::Totals;
 use chr_find::Task;
 use chr_shelf::{Answer, RunName};
 use std::alloc::{Allocator, Global};
-use std::sync::{Condvar, Mutex, Wait};
+use std::sync::{Condvar, Mutex, MutexGuard, Wait};
 
-/// A desk behind a lock, with a signal for those who wait for a task, and the searches that have begun behind another. Nobody holds a lock
-/// while searching.
+/// What a board has behind its lock.
+#[derive(Drop)]
+struct State<J: RunName, A: Allocator> {
+    desk: Desk<J, A>,
+    searches: Searches<A>,
+    /// How many wait for a task.
+    waiting: usize,
+}
+
+impl<J: RunName, A: Allocator + Copy> State<J, A> {
+    /// Takes in the tasks of a round, which are named.
+    fn offer(&mut self, place: usize, tasks: Vec<RoundTask, A>) -> Result<u64, BoardError> {
+        let Ok(count) = u32::try_from(tasks.len()) else {
+            return Err(BoardError::TooManyTasks);
+        };
+        self.desk.check(count)?;
+        if self.searches.room(tasks.len()).is_err() {
+            return Err(BoardError::Memory);
+        }
+        let first = self.desk.offer(place, count)?;
+        self.searches.begin_round(place, tasks);
+        Ok(first)
+    }
+
+    /// Hands out a task that is worth a search, which begins: its slip, the task itself where it was named, and how many were given up.
+    fn take_fresh(&mut self, most: u32) -> (Picked, Option<Task>)
+        ensures few { result.0.passed ≤ most }
+        ensures taken { IfSome result.0.slip (λ slip. result.0.passed < most) }
+    {
+        let picked = self.desk.take_fresh(&self.searches, most);
+        let task = match &picked.slip {
+            None => None,
+            Some(slip) => self.searches.task_at(slip.index),
+        };
+        if let Some(task) = task {
+            let _is_noted = self.searches.begin(task).is_ok();
+        }
+        (picked, task)
+    }
+}
+
+/// A desk behind a lock, with the searches for its tasks, and a signal for those who wait for a task. Nobody holds the lock while searching.
 #[derive(Drop)]
 pub struct Board<J: RunName, A: Allocator = Global> {
-    desk: Mutex<Desk<J, A>>,
+    state: Mutex<State<J, A>>,
     changed: Condvar,
-    searches: Mutex<Searches<A>>,
+    alloc: A,
 }
 
 impl<J: RunName, A: Allocator + Copy> Board<J, A> {
     /// An open board without a task.
     pub fn new(alloc: A) -> Board<J, A> {
         Board {
-            desk: Mutex::new(Desk::new(alloc)),
+            state: Mutex::new(State {
+                desk: Desk::new(alloc),
+                searches: Searches::new(alloc),
+                waiting: 0,
+            }),
             changed: Condvar::new(),
-            searches: Mutex::new(Searches::new(alloc)),
+            alloc,
         }
     }
 
-    /// `Desk::offer`, which wakes those who wait for a task.
+    /// `Desk::offer`, which wakes those who wait for a task. Nothing is known of the tasks, so that each is worth a search.
     pub fn offer(&self, rt: &impl Wait, place: usize, tasks: u32) -> Result<u64, BoardError> {
-        let offered = self.desk.lock(rt).offer(place, tasks);
+        let mut state = self.state.lock(rt);
+        let first = state.desk.offer(place, tasks)?;
+        state.searches.begin_round(place, Vec::new(self.alloc));
+        drop(state);
         self.changed.notify_all();
-        offered
+        Ok(first)
+    }
+
+    /// `Desk::offer` of these tasks, from index 0 on. It wakes as many of those who wait as there are tasks that are worth a search.
+    pub fn offer_round(
+        &self,
+        rt: &impl Wait,
+        place: usize,
+        tasks: Vec<RoundTask, A>,
+    ) -> Result<u64, BoardError> {
+        let mut state = self.state.lock(rt);
+        let first = state.offer(place, tasks)?;
+        let wanted = state.searches.fresh_tasks().min(state.waiting);
+        drop(state);
+        for _ in 0..wanted {
+            self.changed.notify_one();
+        }
+        Ok(first)
+    }
+
+    /// The lock, once a task waits or the board is closed.
+    fn wait<'b>(&'b self, rt: &impl Wait) -> MutexGuard<'b, State<J, A>> {
+        let mut state = self.state.lock(rt);
+        if !state.desk.is_idle() {
+            return state;
+        }
+        state.waiting = state.waiting.saturating_add(1);
+        let mut state = self
+            .changed
+            .wait_while(rt, state, |state| state.desk.is_idle());
+        state.waiting = state.waiting.saturating_sub(1);
+        state
     }
 
     /// `Desk::take`, which waits for a task. There is none once the board is closed.
     pub fn take_task(&self, rt: &impl Wait) -> Option<Slip> {
-        let mut desk = self
-            .changed
-            .wait_while(rt, self.desk.lock(rt), |desk| desk.is_idle());
-        desk.take()
+        self.wait(rt).desk.take()
     }
 
-    /// `Desk::newest`.
-    pub fn newest(&self, rt: &impl Wait) -> Option<usize> {
-        self.desk.lock(rt).newest()
+    /// `Desk::take_fresh`, which waits for a task: its slip, and the task itself where it was named. With no slip and none given up, the board
+    /// is closed, or `most` is 0.
+    pub fn take_fresh(&self, rt: &impl Wait, most: u32) -> (Picked, Option<Task>)
+        ensures few { result.0.passed ≤ most }
+        ensures taken { IfSome result.0.slip (λ slip. result.0.passed < most) }
+    {
+        self.wait(rt).take_fresh(most)
     }
 
     /// `Desk::post`.
@@ -59,12 +138,21 @@ impl<J: RunName, A: Allocator + Copy> Board<J, A> {
         requires place { place_of (ticket_of answer) ≡ (slip_view slip).place }
         requires index { index_of answer ≡ (slip_view slip).index }
     {
-        self.desk.lock(rt).post(slip, answer);
+        self.state.lock(rt).desk.post(slip, answer);
     }
 
     /// `Desk::give_up`.
     pub fn give_up(&self, rt: &impl Wait, slip: Slip) {
-        self.desk.lock(rt).give_up(slip);
+        self.state.lock(rt).desk.give_up(slip);
+    }
+
+    /// `Desk::give_up` of a task whose search had begun, which may begin again.
+    pub fn abandon(&self, rt: &impl Wait, slip: Slip, task: Option<Task>) {
+        let mut state = self.state.lock(rt);
+        if let Some(task) = task {
+            state.searches.end(task);
+        }
+        state.desk.give_up(slip);
     }
 
     /// `Desk::drain`. The tasks of the answers may be searched again. After a refusal the list is as before.
@@ -73,31 +161,27 @@ impl<J: RunName, A: Allocator + Copy> Board<J, A> {
         ensures err { OnErr result (into.new.items ≡ into.old.items) }
     {
         let before = into.len();
-        let count = self.desk.lock(rt).drain(into)?;
+        let mut state = self.state.lock(rt);
+        let count = state.desk.drain(into)?;
         for answer in into.iter().skip(before) {
-            self.end(rt, answer.task());
+            state.searches.end(answer.task());
         }
         Ok(count)
     }
 
-    /// Whether the search for a task may begin: nobody has begun it whose answer was not drained yet.
-    pub(crate) fn begin(&self, rt: &impl Wait, task: Task) -> bool {
-        self.searches.lock(rt).begin(task)
-    }
-
-    /// Ends a search that was begun.
-    pub(crate) fn end(&self, rt: &impl Wait, task: Task) {
-        self.searches.lock(rt).end(task);
+    /// The coordinator begins the search for a task, or has ended its own: a worker begins none for that task meanwhile.
+    pub fn set_own(&self, rt: &impl Wait, own: Option<Task>) {
+        self.state.lock(rt).searches.set_own(own);
     }
 
     /// `Desk::close`, which wakes those who wait for a task.
     pub fn close(&self, rt: &impl Wait) {
-        self.desk.lock(rt).close();
+        self.state.lock(rt).desk.close();
         self.changed.notify_all();
     }
 
     /// `Desk::totals`.
     pub fn totals(&self, rt: &impl Wait) -> Totals {
-        self.desk.lock(rt).totals()
+        self.state.lock(rt).desk.totals()
     }
 }

@@ -1,20 +1,39 @@
 //! A desk: the tasks that a run has offered, and the answers to them.
 ghost use Rattle.std.proofs.Props.{props};
-ghost use Rattle.std.specs.Prelude.{◌≡◌, ◌≤◌, ◌+◌, ◌++◌, IfErr, IfNone, IfOk, IfSome, None, OnErr, OnOk, Some, length, map, true, vec_capacity, vec_len};
+ghost use Rattle.std.specs.Prelude.{◌≡◌, ◌≤◌, ◌+◌, ◌++◌, IfErr, IfNone, IfOk, IfSome, None, OnErr, OnOk, Some, ◌<◌, length, map, true, vec_capacity, vec_len};
 ghost use Rattle.chr_semantics.specs.Desk.{after_close, after_drain, answers, holds_slip, next_serial, offer_refusal, offered, open_desk, taken, totals, with_post, without_answer};
+ghost use Rattle.chr_semantics.specs.declared.limits.TheConstants.{MAX_OFFERED_TASKS};
 ghost use Rattle.chr_shelf.specs.Seat.{index_of, place_of, ticket_of};
-ghost use Rattle.chr_board.specs.OfferedView.{newest_place, offered_view, seat_of, slip_view, totals_view};
+ghost use Rattle.chr_board.specs.OfferedView.{offered_view, seat_of, slip_view, totals_view};
 ghost use Rattle.chr_board.specs.Errors.{refusal_of};
 ghost use Rattle.chr_board.specs.IsDesk.{IsDesk};
+ghost use Rattle.chr_board.specs.Picking.{IsNext, IsPicked, pick};
+ghost use Rattle.chr_board.specs.Searching.{is_fresh};
 
 use crate::Memory;
 use crate::error::BoardError;
 use crate::offered_task::{OfferedTask, Phase, count, mark_drained, move_to, push_tasks};
+use crate::searches::Searches;
 use crate::slip::Slip;
 use crate::totals::Totals;
 use chr_semantics::limits::MAX_OFFERED_TASKS;
 use chr_shelf::{Answer, RunName};
 use std::alloc::{Allocator, Global};
+
+/// What a desk hands out.
+enum Next {
+    /// No task waits.
+    Nothing,
+    /// The task was given up.
+    Stale,
+    Fresh(Slip),
+}
+
+/// A task that was handed out, where one was, and how many were given up before it.
+pub struct Picked {
+    pub slip: Option<Slip>,
+    pub passed: u32,
+}
 
 /// The tasks of a run that were offered to workers, each under a serial of its own, with the answers that were not drained yet. There is room
 /// for every answer that may still come, so that handing out and answering take no memory.
@@ -47,14 +66,6 @@ impl<J: RunName, A: Allocator> Desk<J, A> {
                 task.phase == Phase::Out && task.place == slip.place && task.index == slip.index
             }
         }
-    }
-
-    /// The place of the round that was offered last.
-    pub fn newest(&self) -> Option<usize>
-        ensures { result ≡ newest_place (desk_view self.now).serials }
-    {
-        let task = self.offered.get(self.offered.len().saturating_sub(1))?;
-        Some(task.place)
     }
 
     /// How far all tasks have come, in numbers.
@@ -105,6 +116,21 @@ impl<J: RunName, A: Allocator + Copy> Desk<J, A> {
         }
     }
 
+    /// Why tasks are not taken in, whatever memory there is.
+    pub(crate) fn check(&self, tasks: u32) -> Result<(), BoardError>
+        ensures ok { OnOk result (offer_refusal (desk_view self.now) tasks ≡ None) }
+        ensures few { OnOk result (length (desk_view self.now).serials + tasks ≤ MAX_OFFERED_TASKS) }
+        ensures why { IfErr result (λ error. offer_refusal (desk_view self.now) tasks ≡ refusal_of error) }
+    {
+        if self.closed {
+            return Err(BoardError::Closed);
+        }
+        if tasks as usize > MAX_OFFERED_TASKS - self.offered.len() {
+            return Err(BoardError::TooManyTasks);
+        }
+        Ok(())
+    }
+
     /// Makes room for more tasks, and for their answers.
     fn room(&mut self, tasks: usize) -> Result<(), Memory>
         requires { self.old.owed + tasks ≤ 18446744073709551615 }
@@ -129,13 +155,8 @@ impl<J: RunName, A: Allocator + Copy> Desk<J, A> {
         ensures err { OnErr result (desk_view self.new ≡ desk_view self.old) }
         ensures why { IfErr result (λ error. offer_refusal (desk_view self.old) tasks ≡ refusal_of error) }
     {
-        if self.closed {
-            return Err(BoardError::Closed);
-        }
+        self.check(tasks)?;
         let first = self.offered.len();
-        if tasks as usize > MAX_OFFERED_TASKS - first {
-            return Err(BoardError::TooManyTasks);
-        }
         match self.room(tasks as usize) {
             Err(_) => Err(BoardError::Memory),
             Ok(()) => {
@@ -168,6 +189,44 @@ impl<J: RunName, A: Allocator + Copy> Desk<J, A> {
             place,
             index,
         })
+    }
+
+    /// Hands out the next task, or gives it up where a search for it is not worth while.
+    fn take_next(&mut self, searches: &Searches<A>) -> Next
+        ensures { IsNext (is_fresh searches.now) (desk_view self.old) (desk_view self.new) result }
+    {
+        let Some(slip) = self.take() else {
+            return Next::Nothing;
+        };
+        if searches.is_fresh(slip.place, slip.index) {
+            return Next::Fresh(slip);
+        }
+        self.give_up(slip);
+        Next::Stale
+    }
+
+    /// Hands out the next task for which a search is worth while. Those before it are given up, `most` of them at the most.
+    pub(crate) fn take_fresh(&mut self, searches: &Searches<A>, most: u32) -> Picked
+        ensures picked { IsPicked (pick (is_fresh searches.now) most (desk_view self.old)) (desk_view self.new) result }
+        ensures few { result.passed ≤ most }
+        ensures taken { IfSome result.slip (λ slip. result.passed < most) }
+    {
+        for passed in 0..most {
+            match self.take_next(searches) {
+                Next::Nothing => return Picked { slip: None, passed },
+                Next::Stale => {}
+                Next::Fresh(slip) => {
+                    return Picked {
+                        slip: Some(slip),
+                        passed,
+                    };
+                }
+            }
+        }
+        Picked {
+            slip: None,
+            passed: most,
+        }
     }
 
     /// Takes the answer to a task that was handed out. Nothing changes where the slip is not one of this desk.

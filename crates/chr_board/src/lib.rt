@@ -12,8 +12,9 @@ mod worker;
 
 pub use board::Board;
 pub use chr_term::Memory;
-pub use desk::Desk;
+pub use desk::{Desk, Picked};
 pub use error::BoardError;
+pub use searches::RoundTask;
 pub use slip::Slip;
 pub use totals::Totals;
 pub use worker::{Gate, Point, Tally, work};

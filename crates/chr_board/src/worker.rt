@@ -4,10 +4,11 @@ ghost use Rattle.chr_rules.specs.ProgramView.{rules_of};
 ghost use Rattle.chr_shelf.specs.Seat.{place_of};
 
 use crate::board::Board;
+use crate::desk::Picked;
 use crate::slip::Slip;
 use chr_find::Task;
 use chr_rules::Program;
-use chr_shelf::{RunName, Shelf, Ticket, solve};
+use chr_shelf::{RunName, Shelf, solve};
 use std::alloc::Allocator;
 use std::sync::Wait;
 
@@ -35,39 +36,7 @@ pub struct Tally {
     pub given_up: u32,
 }
 
-/// Whether the round of the slip is still the one that was offered last.
-fn is_newest<J: RunName, A: Allocator + Copy>(
-    rt: &impl Wait,
-    board: &Board<J, A>,
-    slip: &Slip,
-) -> bool {
-    board.newest(rt) == Some(slip.place())
-}
-
-/// The ticket of a slip's round, and the task, where its search may begin now: the round is still the one that was offered last, the task stands
-/// in it, and nobody else has begun to search for it.
-fn begun<J: RunName, A: Allocator + Copy>(
-    rt: &impl Wait,
-    shelf: &Shelf<A>,
-    board: &Board<J, A>,
-    slip: &Slip,
-) -> Option<(Ticket<J, A>, Task)>
-    requires name { shelf.now ≡ J.shelf }
-    ensures { IfSome result (λ found. place_of found.0 ≡ slip.now.place) }
-{
-    if !is_newest(rt, board, slip) {
-        return None;
-    }
-    let ticket = shelf.ticket::<J>(slip.place())?;
-    let task = *shelf.see(&ticket).tasks().get(slip.index() as usize)?;
-    if board.begin(rt, task) {
-        Some((ticket, task))
-    } else {
-        None
-    }
-}
-
-/// Searches for a task and posts the answer; or gives it up. Whether it was posted.
+/// Searches for the task of a slip and posts the answer; or gives it up. Whether it was posted.
 fn answer<J: RunName, A: Allocator + Copy, G: Gate>(
     rt: &impl Wait,
     program: &Program<A>,
@@ -75,12 +44,13 @@ fn answer<J: RunName, A: Allocator + Copy, G: Gate>(
     board: &Board<J, A>,
     gate: &G,
     slip: Slip,
+    task: Option<Task>,
 ) -> bool
     requires name { shelf.now ≡ J.shelf }
     requires rules { rules_of program.now ≡ J.rules }
 {
-    let Some((ticket, task)) = begun(rt, shelf, board, &slip) else {
-        board.give_up(rt, slip);
+    let Some(ticket) = shelf.ticket::<J>(slip.place()) else {
+        board.abandon(rt, slip, task);
         return false;
     };
     gate.at(Point::Begins(slip.serial()));
@@ -91,16 +61,15 @@ fn answer<J: RunName, A: Allocator + Copy, G: Gate>(
             true
         }
         Err(_) => {
-            board.end(rt, task);
-            board.give_up(rt, slip);
+            board.abandon(rt, slip, task);
             false
         }
     }
 }
 
-/// Answers tasks until the board is closed, or 4,294,967,295 of them were taken. A task is given up whose round is not the one that was
-/// offered last, whose snapshot is not found, for which another search has begun whose answer was not drained yet, or whose search lacks
-/// memory.
+/// Answers tasks until the board is closed, or 4,294,967,295 of them were taken. A task is given up that is not worth a search: its round is
+/// not the one that was offered last, its kept answer was good at the offer, another search for it has begun whose answer was not drained yet,
+/// or the coordinator makes it. So is one whose snapshot is not found, or whose search lacks memory.
 pub fn work<J: RunName, A: Allocator + Copy, G: Gate, R: Wait>(
     rt: &R,
     program: &Program<A>,
@@ -115,16 +84,25 @@ pub fn work<J: RunName, A: Allocator + Copy, G: Gate, R: Wait>(
     let mut posted = 0u32;
     let mut given_up = 0u32;
     for _ in rt.forever() {
-        if posted >= u32::MAX - given_up {
+        let most = u32::MAX - given_up - posted;
+        if most == 0 {
             break;
         }
-        let Some(slip) = board.take_task(rt) else {
-            break;
-        };
-        if answer(rt, program, shelf, board, gate, slip) {
-            posted += 1;
-        } else {
-            given_up += 1;
+        let (Picked { slip, passed }, task) = board.take_fresh(rt, most);
+        given_up += passed;
+        match slip {
+            None => {
+                if passed == 0 {
+                    break;
+                }
+            }
+            Some(slip) => {
+                if answer(rt, program, shelf, board, gate, slip, task) {
+                    posted += 1;
+                } else {
+                    given_up += 1;
+                }
+            }
         }
     }
     Tally {

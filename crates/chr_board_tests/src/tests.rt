@@ -16,6 +16,7 @@ use std::sync::Wait;
 use std::test::Fail;
 
 mod calls;
+mod fresh;
 mod repeats;
 
 /// A snapshot of the state after six steps.
@@ -29,6 +30,19 @@ fn snapshot_of<A: Allocator + Copy>(
     let mut machine = Machine::start(alloc, program, query)?;
     machine.run_alone(6)?;
     machine.snapshot()
+}
+
+/// A round of these tasks, of which none is good as it was kept.
+fn round_of<A: Allocator + Copy>(alloc: A, tasks: &[Task]) -> Result<Vec<RoundTask, A>, Memory> {
+    let mut round = Vec::new(alloc);
+    for task in tasks {
+        let task = *task;
+        round.push(RoundTask {
+            task,
+            is_good: false,
+        })?;
+    }
+    Ok(round)
 }
 
 /// These are the answers to the tasks of that place with these indices.

@@ -13,7 +13,7 @@ ghost use Rattle.chr_machine.specs.Model.{state_in};
 ghost use Rattle.chr_machine.specs.NeedView.{need, search_of};
 
 use crate::Memory;
-use crate::sharing::{absorb, has_place, show};
+use crate::sharing::{absorb, has_place, show, step_beside};
 use chr_board::{Board, Gate, Point};
 use chr_core::{Core, CoreError, Counts, Event, Machine, Need, Outcome, Stepped};
 use chr_find::Task;
@@ -107,7 +107,7 @@ impl<'p, J: RunName, A: Allocator + Copy> Coordinator<'p, J, A> {
         if !has_place(&self.core, task) {
             return;
         }
-        match show(rt, &mut self.core, shelf, board) {
+        match show(rt, self.alloc, &mut self.core, shelf, board) {
             Ok(()) => {}
             Err(error) => {
                 self.is_full = error == CoreError::ShelfFull;
@@ -168,7 +168,8 @@ impl<'p, J: RunName, A: Allocator + Copy> Coordinator<'p, J, A> {
             Need::Plain => self.core.step(),
             Need::Search(task) => {
                 self.prepare(rt, shelf, board, gate, task)?;
-                self.core.step()
+                let has_workers = self.workers > 0;
+                step_beside(rt, &mut self.core, board, has_workers, task)
             }
         }
     }

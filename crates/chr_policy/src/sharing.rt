@@ -7,11 +7,12 @@ ghost use Rattle.chr_find.specs.SnapshotView.{task_view};
 ghost use Rattle.chr_machine.specs.NeedView.{need, search_of};
 ghost use Rattle.chr_core.specs.CoreView.{IsAsBefore, IsSameRun, events_of, machine_in, progress_of, start_of};
 ghost use Rattle.chr_core.specs.ErrorView.{is_full};
+ghost use Rattle.chr_core.specs.Stepping.{IsStep};
 ghost use Rattle.chr_policy.specs.Standing.{Keeps};
 
 use crate::Memory;
-use chr_board::Board;
-use chr_core::{Core, CoreError};
+use chr_board::{Board, RoundTask};
+use chr_core::{Core, CoreError, Stepped};
 use chr_find::Task;
 use chr_shelf::{RunName, Shelf};
 use std::alloc::Allocator;
@@ -29,10 +30,37 @@ pub(crate) fn has_place<J: RunName, A: Allocator + Copy>(core: &Core<'_, J, A>, 
     core.machine().has_other_tasks(task)
 }
 
+/// Offers the tasks of the round at a place of the shelf.
+fn offer<J: RunName, A: Allocator + Copy>(
+    rt: &impl Wait,
+    alloc: A,
+    shelf: &Shelf<A>,
+    board: &Board<J, A>,
+    place: usize,
+) -> Result<(), Memory>
+    requires name { shelf.now ≡ J.shelf }
+{
+    let Some(ticket) = shelf.ticket::<J>(place) else {
+        return Ok(());
+    };
+    let tasks = shelf.see(&ticket).tasks();
+    let mut round = Vec::with_capacity(alloc, tasks.len())?;
+    for task in tasks {
+        let task = *task;
+        round.push(RoundTask {
+            task,
+            is_good: false,
+        })?;
+    }
+    let _offered = board.offer_round(rt, place, round).is_ok();
+    Ok(())
+}
+
 /// Publishes a round and offers its tasks. Where the board refuses them, they are never offered. After a refusal all is as before, but that
 /// room may have been made.
 pub(crate) fn show<J: RunName, A: Allocator + Copy>(
     rt: &impl Wait,
+    alloc: A,
     core: &mut Core<'_, J, A>,
     shelf: &Shelf<A>,
     board: &Board<J, A>,
@@ -44,9 +72,30 @@ pub(crate) fn show<J: RunName, A: Allocator + Copy>(
     ensures err { OnErr result (IsAsBefore core.old core.new) }
     ensures why { IfErr result (λ error. is_full error ≡ nat_le MAX_ROUNDS (length (progress_of core.old).rounds)) }
 {
-    let (place, tasks) = core.publish(rt, shelf)?;
-    let _offered = board.offer(rt, place, tasks).is_ok();
+    let (place, _tasks) = core.publish(rt, shelf)?;
+    let _offered = offer(rt, alloc, shelf, board, place).is_ok();
     Ok(())
+}
+
+/// Makes the step that needs the search of a task. Where the core searches itself, beside workers, none of them begins that search meanwhile.
+pub(crate) fn step_beside<J: RunName, A: Allocator + Copy>(
+    rt: &impl Wait,
+    core: &mut Core<'_, J, A>,
+    board: &Board<J, A>,
+    has_workers: bool,
+    task: Task,
+) -> Result<Stepped, Memory>
+    ensures { IsStep core.old core.new result }
+{
+    match has_workers && !core.serves() {
+        false => core.step(),
+        true => {
+            board.set_own(rt, Some(task));
+            let stepped = core.step();
+            board.set_own(rt, None);
+            stepped
+        }
+    }
 }
 
 /// Takes the answers that were posted. Where their list finds no memory, they stay on the board.

@@ -44,14 +44,28 @@ fn play_named<J: RunName + Send + Sync, A: Allocator + Copy + Send + Sync, R: Ab
     requires name { shelf.now ≡ J.shelf }
     requires rules { rules_of program.now ≡ J.rules }
 {
+    let [first, second] = [
+        Task {
+            goal: Id(3),
+            occurrence: 1,
+        },
+        Task {
+            goal: Id(2),
+            occurrence: 1,
+        },
+    ];
     let place = match shelf.put::<J>(rt, snapshot) {
         Ok(ticket) => ticket.place(),
         Err(_) => panic!(rt; "refused"),
     };
     let board = Board::<J, A>::new(alloc);
-    assert!(rt; board.offer(rt, place, 1) == Ok(0));
-    assert!(rt; board.offer(rt, place, 2) == Ok(1));
-    assert!(rt; board.offer(rt, place, 1) == Ok(3));
+    for round in [[first].as_slice(), &[first, second], &[first]] {
+        assert!(rt;
+            board
+                .offer_round(rt, place, round_of(alloc, round)?)
+                .is_ok()
+        );
+    }
     let gate = Draining {
         rt,
         alloc,

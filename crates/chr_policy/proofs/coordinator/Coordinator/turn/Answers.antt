@@ -26,4 +26,4 @@ returns-in_ok-prepare-in-Search-clause-rests g c =
     let at = progress p (start_of old.core) (events_of old.core) in
     let is_ready = subst (λ (w : ℕ). IsReady p (start_of ready.core) w ready.skipped at (events_of ready.core)) (sym same.workers_are) (subst (λ (r : Query). IsReady p (start r) old.workers ready.skipped at (events_of ready.core)) (sym same.query_is) c.in_ok-prepare-in-Search.ensures.ready) in
     let steps = ap (λ (m : Model). m.steps) same.machine_is in
-    at_rest_searched ready.core (record ready { core = c.step-in-Search.new.self }) (omega (arith, steps, c.requires.few)) c.step-in-Search.result c.step-in-Search.ensures.query (task_view c.in-Search.task) needs at is_ready (omega (arith, steps, c.prepare.ensures.few)) c.prepare.ensures.full c.step-in-Search.ensures.machine c.step-in-Search.ensures.events
+    at_rest_searched ready.core (record ready { core = c.step_beside.new.core }) (omega (arith, steps, c.requires.few)) c.step_beside.result c.step_beside.ensures.query (task_view c.in-Search.task) needs at is_ready (omega (arith, steps, c.prepare.ensures.few)) c.prepare.ensures.full c.step_beside.ensures.machine c.step_beside.ensures.events
