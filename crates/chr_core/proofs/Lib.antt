@@ -3,6 +3,7 @@ pub mod Allowed
 pub mod Arrived
 pub mod Few
 pub mod Found
+pub mod Good
 pub mod Guests
 pub mod Heads
 pub mod Keeps

@@ -44,6 +44,13 @@ none_pass f g (x ∷ xs) h = λ k. (h x (here x xs) k || none_pass f g xs (λ n 
         at true = refl
         at false = e
 
+-- the search that the next step needs is of a constraint that lives, with that occurrence
+pub needed_occurrence : (names : Names) (p : Program) (r : Query) (m : Model) → IsAt names p r m → (t : Task) → need m ≡ search_of t → HasOccurrence p (state_in m) t
+needed_occurrence names p r m at t needs =
+    subst (λ (s : State). HasOccurrence p s t) (sym at.run.state_is) (tells_law.needed p r m.steps t (
+    sym (λ k. needed_task (at.run.same.rules k) (at.run.state_is k)) ∙ (need_search (needed_task m.rules (state_in m)) m.status t needs).0
+    ))
+
 -- whether one was found tells whether the step is served
 pub served_is : (p : Program) (r : Query) (es : List Event) (c : Core) → Stands p (rise_by_calls p) (start r) es c → (t : Task) (x : Option ℕ)
     → IfSome x (λ n. ServesAt p (start r) c t n) → IfNone x (NoneServes p (start r) c t) → is_some x ≡ is_served p (start r) (progress p (start r) es) t
@@ -51,20 +58,15 @@ served_is p r es c stands t None some none = sym (is_own p (rise_by_calls p) (st
 served_is p r es c stands t (Some n) some none = sym (is_used p (rise_by_calls p) (start r) (progress p (start r) es) (length es) c stands t n some.answer some.there some.its some.serves)
 
 module _ (names : Names) (p : Program) (r : Query) (m : Model) (at : IsAt names p r m) (es : List Event) (c : Core) (stands : Stands p (rise_by_calls p) (start r) es c) (steps_are : c.steps ≡ m.steps)
-    (t : Task) (needs : need m ≡ search_of t) where
+    (t : Task) (has : HasOccurrence p (state_in m) t) where
   state_is : state_in m ≡ after p (start r) c.steps
   state_is = at.run.state_is ∙ ap (after p (start r)) (sym steps_are)
 
   rules_are : m.rules ≡ p
   rules_are = at.run.same.rules
 
-  pub needed_is : needed_task p (after p (start r) c.steps) ≡ Some t
-  needed_is =
-      sym (λ k. needed_task (rules_are k) (state_is k))
-      ∙ (need_search (needed_task m.rules (state_in m)) m.status t needs).0
-
   pub occ : HasOccurrence p (after p (start r) c.steps) t
-  occ = tells_law.needed p r c.steps t needed_is
+  occ = subst (λ (s : State). HasOccurrence p s t) state_is has
 
   -- the constraint of the task is in the store
   pub atom_there : atom_of m.base.store.rows t.0 ≡ Some occ.atom
@@ -134,8 +136,8 @@ module _ (names : Names) (p : Program) (r : Query) (m : Model) (at : IsAt names 
     none_found (Some n) rows h = tt
 
   -- an answer that serves is what the search of the step finds
-  pub answers : (n : ℕ) (w : ServesAt p (start r) c t n) → Answers m w.answer.ids
-  answers n w = record {
+  pub answers : need m ≡ search_of t → (n : ℕ) (w : ServesAt p (start r) c t n) → Answers m w.answer.ids
+  answers needs n w = record {
     task = t;
     needs = needs;
     finds = tells_law.finds p (rise_by_calls p) r es c t n w.answer stands occ w.there w.its w.serves ∙ sym (λ k. first (rules_are k) (rows (state_is k)) (state_is k).history t.0 t.1);

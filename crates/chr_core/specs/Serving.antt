@@ -1,18 +1,18 @@
--- Whether a kept answer serves a search.
-use Rattle.std.specs.Prelude.{◌≡◌, ◌+◌, ◌==◌, ◌&&◌, ℕ, Bool, false, true, Some, slice_get}
+-- Whether a kept answer serves a search, or is still good.
+use Rattle.std.specs.Prelude.{◌≡◌, ◌+◌, ◌==◌, ◌&&◌, ℕ, Bool, false, true, Option, Some, option_and_then, slice_get}
 use Rattle.std.specs.List.{list_any}
 use Rattle.chr_semantics.specs.Footprint.{marks_added}
-use Rattle.chr_semantics.specs.Program.{Atom, Program}
+use Rattle.chr_semantics.specs.Program.{Atom, Occurrence, Program, occurrence}
 use Rattle.chr_semantics.specs.Schedule.{Progress, is_served, same_goal}
 use Rattle.chr_semantics.specs.Search.{atom_of, has_number}
 use Rattle.chr_semantics.specs.State.{State}
-use Rattle.chr_semantics.specs.Tasks.{Task, same_task}
+use Rattle.chr_semantics.specs.Tasks.{Task, guest, same_task}
 use Rattle.chr_semantics.specs.Touch.{footprint_at}
 use Rattle.chr_laws.specs.Kept.{Answered, passes, serves_at}
 use Rattle.chr_laws.specs.Rounds.{ats}
 use Rattle.chr_laws.specs.Stands.{Core, goal_kept, sum_kept}
-use Rattle.chr_laws.specs.Sums.{sum_of}
-use Rattle.chr_machine.specs.Model.{Model}
+use Rattle.chr_laws.specs.Sums.{sum_of, task_atom}
+use Rattle.chr_machine.specs.Model.{Model, state_in}
 use Rattle.chr_machine.specs.NeedView.{Needed, ended, plain, search_of}
 use Rattle.chr_core.specs.Marks.{mark_stamp}
 
@@ -45,6 +45,16 @@ pub record IsAsked (m : Model) (t : Task) (a : Atom) (touches own : ℕ) : Type 
   pub living : atom_of m.base.store.rows t.0 ≡ Some a
   pub touches_are : touches ≡ sum_of (mark_stamp m.base.store m.base.entries) (footprint_at m.rules t.1 (Some a))
   pub own_are : own ≡ sum_of (marks_added a.sym) (footprint_at m.rules t.1 (Some a))
+
+-- what the guest's task at an occurrence asks for while it waits: its Activate has added nothing yet
+pub record IsWaiting (m : Model) (number : ℕ) (a : Atom) (touches own : ℕ) : Type 0 where
+  pub waits : guest (state_in m) ≡ Some a
+  pub touches_are : touches ≡ sum_of (mark_stamp m.base.store m.base.entries) (footprint_at m.rules number (Some a))
+  pub own_are : own ≡ 0
+
+-- the occurrence of a task, by its constraint, which for the next identity is the guest
+abbrev pub task_occurrence : Program → State → Task → Option Occurrence
+task_occurrence p s t = option_and_then (λ (a : Atom). occurrence p a.sym t.1) (task_atom s t)
 
 -- whether a kept answer serves what the next step needs
 abbrev pub served_by : Program → State → Progress → Needed → Bool

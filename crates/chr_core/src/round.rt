@@ -3,6 +3,7 @@ ghost use Rattle.std.specs.Prelude.{◌≡◌, ◌<◌, ◌==◌, IfOk, Some, fa
 ghost use Rattle.chr_semantics.specs.Schedule.{same_goal};
 ghost use Rattle.chr_semantics.specs.Snapshot as semantics;
 ghost use Rattle.chr_semantics.specs.State.{resolved_atom};
+ghost use Rattle.chr_term.specs.TermView.{atom_view};
 ghost use Rattle.chr_store.specs.Rows.{row_atom};
 ghost use Rattle.chr_find.specs.SnapshotView.{IsSnapshot};
 ghost use Rattle.chr_machine.specs.MachineView.{machine_view};
@@ -15,7 +16,7 @@ use chr_bind::Bindings;
 use chr_find::Snapshot;
 use chr_machine::Machine;
 use chr_store::{Id, Row};
-use chr_term::{Args, Sym};
+use chr_term::{Args, Sym, Term};
 use std::alloc::Allocator;
 
 /// A round: the transitions before it, the next identity there, its guest with the bindings applied, how often the footprint of each task
@@ -111,14 +112,14 @@ impl<A: Allocator> Round<A> {
     }
 
     /// Whether the guest is this constraint under bindings.
-    pub(crate) fn has_guest(&self, bindings: &Bindings<A>, row: &Row<A>) -> bool
+    pub(crate) fn has_guest(&self, bindings: &Bindings<A>, sym: Sym, args: &[Term<A>]) -> bool
         ensures { result ≡ same_goal (round_view self.now).guest
-            (Some (resolved_atom bindings.now.subst (row_atom row.now))) }
+            (Some (resolved_atom bindings.now.subst (atom_view sym args.now))) }
     {
         match &self.guest {
             None => false,
-            Some((sym, args)) => {
-                *sym == row.sym && bindings.resolve_to(row.args.as_slice(), args.as_slice())
+            Some((kept_sym, kept_args)) => {
+                *kept_sym == sym && bindings.resolve_to(args, kept_args.as_slice())
             }
         }
     }

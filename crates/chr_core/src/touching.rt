@@ -1,11 +1,12 @@
 //! How often the footprints of tasks were touched.
-ghost use Rattle.std.specs.Prelude.{◌≡◌, IfOk, map, option_map};
+ghost use Rattle.std.specs.Prelude.{◌≡◌, IfOk, is_some, map, option_map};
 ghost use Rattle.chr_semantics.specs.Program.{Atom};
 ghost use Rattle.chr_laws.specs.Sums.{task_atom};
 ghost use Rattle.chr_find.specs.SnapshotView.{task_view, tasks_view};
 ghost use Rattle.chr_machine.specs.MachineView.{machine_view};
 ghost use Rattle.chr_machine.specs.Model.{state_in};
 ghost use Rattle.chr_core.specs.RoundView.{touches_at};
+ghost use Rattle.chr_core.specs.Serving.{task_occurrence};
 
 use crate::Memory;
 use crate::stamps::touches;
@@ -29,6 +30,17 @@ fn symbol_of<A: Allocator + Copy>(machine: &Machine<A>, task: Task) -> Option<Sy
             None => None,
             Some(row) => Some(row.sym),
         }
+    }
+}
+
+/// Whether the constraint of a task is there, and its symbol has that occurrence.
+pub(crate) fn has_occurrence<A: Allocator + Copy>(machine: &Machine<A>, task: Task) -> bool
+    ensures { let m = machine_view machine.now in
+        result ≡ is_some (task_occurrence m.rules (state_in m) (task_view task)) }
+{
+    match symbol_of(machine, task) {
+        None => false,
+        Some(sym) => machine.program().occurrence(sym, task.occurrence).is_some(),
     }
 }
 

@@ -14,5 +14,6 @@ pub mod Steps
 pub mod Sums
 pub mod SumsLaw
 pub mod Tells
+pub mod GoodLaw
 pub mod Terms
 pub mod Unifiers

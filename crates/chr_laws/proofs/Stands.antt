@@ -4,7 +4,7 @@ use Rattle.std.proofs.lemmas.List.{length-append, length-map}
 use Rattle.std.specs.List.{list_any}
 use Rattle.std.specs.Prelude.{nat_lt, slice_get}
 use Rattle.chr_semantics.specs.Program.{Program}
-use Rattle.chr_semantics.specs.Schedule.{Event, Progress, Took, arrive, double, is_late, is_served, kept, late, move, next, progress, publish, serves, took, with_step, with_took}
+use Rattle.chr_semantics.specs.Schedule.{Event, Progress, Took, arrive, double, is_served, kept, late, move, next, progress, publish, serves, took, with_step, with_took}
 use Rattle.chr_semantics.specs.Stamps.{Rise}
 use Rattle.chr_semantics.specs.State.{State}
 use Rattle.chr_semantics.specs.Step.{after}
@@ -12,7 +12,7 @@ use Rattle.chr_semantics.specs.Tasks.{Task, needed_task, same_task}
 use Rattle.chr_semantics.specs.declared.limits.TheConstants.{KEPT_ROUNDS}
 use Rattle.chr_semantics.proofs.AppendedLaw.{appended_law}
 use Rattle.chr_laws.specs.Kept.{Answered, ArePast, ArePlaced, AreSpots, at_of, passes, serves_at}
-use Rattle.chr_laws.specs.Rounds.{IsRound, Round, ats, flag_at}
+use Rattle.chr_laws.specs.Rounds.{Round, ats, flag_at}
 use Rattle.chr_laws.specs.Stands.{Core, Stands, StandsAt, StandsLaw}
 use Rattle.chr_laws.proofs.Holds.{holds_law}
 use Rattle.chr_laws.proofs.Served.{served_law}

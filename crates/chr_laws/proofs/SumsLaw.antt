@@ -39,6 +39,25 @@ stored p s t h e not_next = at (atom_of s.store t.0) refl (left _ _ e not_next)
     at None is k = cc
     at (Some b) is k = below_next 0 s.next_id t.0 s.store b h.ascends is
 
+-- no stamp of the footprint has risen exactly where the sums are equal
+pub untouched_sums : (p : Program) (rise : Rise) → IsRise p rise → (r : Query) (k m : ℕ) (xs : List Mark) → list_all (λ x. touched p (start r) k x == touched p (start r) (k + m) x) xs ≡ (sum_of (stamp p rise (start r) k) xs == sum_of (stamp p rise (start r) (k + m)) xs)
+untouched_sums p rise w r k m xs =
+    let f = stamp p rise (start r) k in
+    let g = stamp p rise (start r) (k + m) in
+    bools_agree _ _
+    (λ e. eq-eqb (sum_of f xs) (sum_of g xs) (sums_equal f g xs ((stamps_by_call_law.untouched p rise w r k m xs).1 ((stamps_law.untouched p (start r) k m xs).0 e))))
+    (λ e. (stamps_law.untouched p (start r) k m xs).1 ((stamps_by_call_law.untouched p rise w r k m xs).0
+    (each_equal f g xs (none_behind p rise (start r) k m) (eqb-true (sum_of f xs) (sum_of g xs) e))))
+
+-- the marks of a guest's task are those of the same goal later
+pub guest_marks : (p : Program) (s : State) (t : Task) (b : Atom) (o : Occurrence) (g : Option Atom) → guest s ≡ g → (t.0 == s.next_id) ≡ true → occurrence p b.sym t.1 ≡ Some o
+    → same_goal (option_map (resolved_atom s.subst) g) (Some b) ≡ true → marks_at p s t ≡ footprint_of (Some o)
+guest_marks p s t b o None e next is h = cc
+guest_marks p s t b o (Some c) e next is h =
+    let syms : c.sym ≡ b.sym = ap (λ (d : Atom). d.sym) (same_atom_true (resolved_atom s.subst c) b h) in
+    ap (λ (x : Bool). footprint_at p t.1 (cond x (guest s) (atom_of s.store t.0))) next
+    ∙ ap (footprint_at p t.1) e ∙ ap (λ (f : ℕ). footprint_of (occurrence p f t.1)) syms ∙ ap footprint_of is
+
 module _ (p : Program) (rise : Rise) (w : IsRise p rise) (r : Query) (k m : ℕ) (t : Task) (a : Atom) (o : Occurrence)
     (lives_then : atom_of (after p (start r) (k + m)).store t.0 ≡ Some a) (is : occurrence p a.sym t.1 ≡ Some o) where
   sound : IsSound (after p (start r) k)
@@ -49,15 +68,6 @@ module _ (p : Program) (rise : Rise) (w : IsRise p rise) (r : Query) (k m : ℕ)
 
   lives_after : atom_of (after p (after p (start r) k) m).store t.0 ≡ Some a
   lives_after = ap (λ (u : State). atom_of u.store t.0) (sym (after-add p (start r) k m)) ∙ lives_then
-
-  -- no stamp of the footprint has risen exactly where the sums are equal
-  untouched_sums : list_all (λ x. touched p (start r) k x == touched p (start r) (k + m) x) (footprint_of (Some o)) ≡ (sum_of (stamp p rise (start r) k) (footprint_of (Some o)) == sum_of (stamp p rise (start r) (k + m)) (footprint_of (Some o)))
-  untouched_sums = bools_agree _ _
-      (λ e. eq-eqb (sum_of (stamp p rise (start r) k) (footprint_of (Some o))) (sum_of (stamp p rise (start r) (k + m)) (footprint_of (Some o)))
-      (sums_equal (stamp p rise (start r) k) (stamp p rise (start r) (k + m)) (footprint_of (Some o)) ((stamps_by_call_law.untouched p rise w r k m (footprint_of (Some o))).1 ((stamps_law.untouched p (start r) k m (footprint_of (Some o))).0 e))))
-      (λ e. (stamps_law.untouched p (start r) k m (footprint_of (Some o))).1 ((stamps_by_call_law.untouched p rise w r k m (footprint_of (Some o))).0
-      (each_equal (stamp p rise (start r) k) (stamp p rise (start r) (k + m)) (footprint_of (Some o)) (none_behind p rise (start r) k m)
-      (eqb-true (sum_of (stamp p rise (start r) k) (footprint_of (Some o))) (sum_of (stamp p rise (start r) (k + m)) (footprint_of (Some o))) e))))
 
   row_marks : t.0 < (after p (start r) k).next_id → (t.0 == (after p (start r) k).next_id) ≡ false → marks_at p (after p (start r) k) t ≡ footprint_of (Some o)
   row_marks below not_next =
@@ -72,7 +82,7 @@ module _ (p : Program) (rise : Rise) (w : IsRise p rise) (r : Query) (k m : ℕ)
       let below = stored p (after p (start r) k) t sound is_task not_next in
       second _ (serves_guest p (start r) k (k + m) t) (serves_row p (start r) k (k + m) t) not_next
       ∙ ap (list_all (λ x. touched p (start r) k x == touched p (start r) (k + m) x)) now_footprint
-      ∙ untouched_sums
+      ∙ untouched_sums p rise w r k m (footprint_of (Some o))
       ∙ ap (λ (xs : List Mark). sum_of (stamp p rise (start r) k) xs == sum_of (stamp p rise (start r) (k + m)) (footprint_of (Some o))) (sym (row_marks below not_next))
 
   -- one transition alone has touched the footprint exactly where the sum has risen by what an Activate adds
@@ -98,16 +108,6 @@ module _ (p : Program) (rise : Rise) (w : IsRise p rise) (r : Query) (k m : ℕ)
       let one = law.0 (each_equal (λ x. f x + marks_added a.sym x) g (footprint_of (Some o)) (none_behind_added p rise w (start r) k m a sound there) (both ∙ same)) in
       eq-eqb (before + 1) behind (omega (arith, one, parts)))
 
-  guest_marks : (g : Option Atom) → guest (after p (start r) k) ≡ g → (t.0 == (after p (start r) k).next_id) ≡ true
-      → same_goal (option_map (resolved_atom (after p (start r) k).subst) g) (Some (resolved_atom (after p (start r) (k + m)).subst a)) ≡ true
-      → marks_at p (after p (start r) k) t ≡ footprint_of (Some o)
-  guest_marks None e next h = cc
-  guest_marks (Some c) e next h =
-      let same = same_atom_true (resolved_atom (after p (start r) k).subst c) (resolved_atom (after p (start r) (k + m)).subst a) h in
-      let syms : c.sym ≡ a.sym = ap (λ (b : Atom). b.sym) same in
-      ap (λ (b : Bool). footprint_at p t.1 (cond b (guest (after p (start r) k)) (atom_of (after p (start r) k).store t.0))) next
-      ∙ ap (footprint_at p t.1) e ∙ ap (λ (f : ℕ). footprint_of (occurrence p f t.1)) syms ∙ ap footprint_of is
-
   with_goal : (b : Bool) → (t.0 == (after p (start r) k).next_id) ≡ true
       → same_goal (guest_goal (after p (start r) k)) (Some (resolved_atom (after p (start r) (k + m)).subst a)) ≡ b
       → (b && touched_any p (start r) k (footprint_of (Some o)) + 1 == touched_any p (start r) (k + m) (footprint_of (Some o)))
@@ -116,7 +116,7 @@ module _ (p : Program) (rise : Rise) (w : IsRise p rise) (r : Query) (k m : ℕ)
   with_goal true next h =
       once_sums next
       ∙ ap (λ (xs : List Mark). sum_of (stamp p rise (start r) k) xs + sum_of (marks_added a.sym) (footprint_of (Some o)) == sum_of (stamp p rise (start r) (k + m)) (footprint_of (Some o)))
-      (sym (guest_marks (guest (after p (start r) k)) refl next h))
+      (sym (guest_marks p (after p (start r) k) t (resolved_atom (after p (start r) (k + m)).subst a) o (guest (after p (start r) k)) refl next is h))
 
   pub guest_serves : (t.0 == (after p (start r) k).next_id) ≡ true
       → cond (t.0 == (after p (start r) k).next_id) (serves_guest p (start r) k (k + m) t) (serves_row p (start r) k (k + m) t)

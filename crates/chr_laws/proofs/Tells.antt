@@ -64,13 +64,13 @@ all_of f (x ∷ xs) n h k = let r = and_parts (f x) (list_all f xs) h in at (n =
 
 module _ (p : Program) (rise : Rise) (r : Query) (es : List Event) (c : Core) (t : Task) (n : ℕ) (k : Answered)
     (h : Stands p rise (start r) es c) (there : slice_get c.answers n ≡ Some k) (its : same_task t k.task ≡ true) where
-  abbrev at : ℕ
+  abbrev pub at : ℕ
   at = at_of (ats c.rounds) k
 
-  task_is : t ≡ k.task
+  pub task_is : t ≡ k.task
   task_is = same_task_true t k.task its
 
-  below : k.round < length (ats c.rounds)
+  pub below : k.round < length (ats c.rounds)
   below = (placed_at p (start r) (ats c.rounds) c.answers n k h.holds.placed there).0
 
   task_there : slice_get (tasks p (after p (start r) at)) k.index ≡ Some t
@@ -82,7 +82,7 @@ module _ (p : Program) (rise : Rise) (r : Query) (es : List Event) (c : Core) (t
       let e = h.steps_are in
       omega (arith, l, e)
 
-  steps_parts : c.steps ≡ at + (c.steps - at)
+  pub steps_parts : c.steps ≡ at + (c.steps - at)
   steps_parts = let l = past in omega (arith, l)
 
   here : serves_at p (start r) (ats c.rounds) c.steps c.answers t n ≡ serves p (start r) at c.steps t
@@ -100,14 +100,14 @@ module _ (p : Program) (rise : Rise) (r : Query) (es : List Event) (c : Core) (t
   at_is : round.at ≡ at
   at_is = sym (ap (λ (x : Option ℕ). unwrap_or x 0) (slice_get-map (λ (d : Round). d.at) c.rounds k.round ∙ ap (option_map (λ (d : Round). d.at)) round_there))
 
-  sum_is : sum_kept c.rounds k ≡ task_sum p rise (start r) at t
+  pub sum_is : sum_kept c.rounds k ≡ task_sum p rise (start r) at t
   sum_is =
       ap (sum_in k.index) round_there
       ∙ ap (λ (xs : List ℕ). unwrap_or (slice_get xs k.index) 0) round_is.sums_are
       ∙ ap (λ (m : ℕ). unwrap_or (slice_get (map (task_sum p rise (start r) m) (tasks p (after p (start r) m))) k.index) 0) at_is
       ∙ ap (λ (x : Option ℕ). unwrap_or x 0) (slice_get-map (task_sum p rise (start r) at) (tasks p (after p (start r) at)) k.index ∙ ap (option_map (task_sum p rise (start r) at)) task_there)
 
-  goal_is : goal_kept c.rounds k ≡ guest_goal (after p (start r) at)
+  pub goal_is : goal_kept c.rounds k ≡ guest_goal (after p (start r) at)
   goal_is = ap goal_in round_there ∙ round_is.guest_is ∙ ap (λ (m : ℕ). guest_goal (after p (start r) m)) at_is
 
   module _ (w : IsRise p rise) (occ : HasOccurrence p (after p (start r) c.steps) t) where

@@ -3,3 +3,4 @@ pub mod Replay
 pub mod Rounds
 pub mod Stands
 pub mod Sums
+pub mod Good

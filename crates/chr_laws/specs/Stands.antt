@@ -3,7 +3,7 @@ use Rattle.std.specs.Prelude.{◌≡◌, ◌≤◌, ℕ, ◌+◌, true, false, c
 use Rattle.std.specs.List.{list_any}
 use Rattle.chr_semantics.specs.Footprint.{answer, marks_added}
 use Rattle.chr_semantics.specs.Program.{Atom, Occurrence, Program, Query, occurrence}
-use Rattle.chr_semantics.specs.Schedule.{Event, Progress, Took, arrive, double, kept, late, move, progress, publish, same_goal, serves, took}
+use Rattle.chr_semantics.specs.Schedule.{Event, Progress, arrive, double, kept, late, move, progress, publish, same_goal, took}
 use Rattle.chr_semantics.specs.Search.{atom_of, first, has_number}
 use Rattle.chr_semantics.specs.Stamps.{IsRise, Rise, stamp}
 use Rattle.chr_semantics.specs.State.{State, resolved_atom, rows, start}

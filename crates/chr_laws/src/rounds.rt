@@ -1,4 +1,5 @@
 //! The laws. Each function is empty, and its clause is the law.
+ghost use Rattle.chr_laws.specs.Good.{GoodLaw};
 ghost use Rattle.chr_laws.specs.Kept.{ServedLaw, SpotsLaw};
 ghost use Rattle.chr_laws.specs.Replay.{ReplayLaw};
 ghost use Rattle.chr_laws.specs.Rounds.{HoldsLaw};
@@ -13,6 +14,11 @@ pub fn living_law()
 /// Whether an answer serves is told by the stamps of its task's footprint, added up.
 pub fn sums_law()
     ensures { SumsLaw }
+{}
+
+/// Whether an answer to a guest's task is good while the guest waits is told by the same sums.
+pub fn good_law()
+    ensures { GoodLaw }
 {}
 
 /// Of the answers to one task of a stored constraint, the newest serves where any does.

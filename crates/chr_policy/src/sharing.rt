@@ -30,10 +30,11 @@ pub(crate) fn has_place<J: RunName, A: Allocator + Copy>(core: &Core<'_, J, A>, 
     core.machine().has_other_tasks(task)
 }
 
-/// Offers the tasks of the round at a place of the shelf.
+/// Offers the tasks of the round at a place of the shelf, and says of which of them the core keeps a good answer.
 fn offer<J: RunName, A: Allocator + Copy>(
     rt: &impl Wait,
     alloc: A,
+    core: &Core<'_, J, A>,
     shelf: &Shelf<A>,
     board: &Board<J, A>,
     place: usize,
@@ -47,10 +48,8 @@ fn offer<J: RunName, A: Allocator + Copy>(
     let mut round = Vec::with_capacity(alloc, tasks.len())?;
     for task in tasks {
         let task = *task;
-        round.push(RoundTask {
-            task,
-            is_good: false,
-        })?;
+        let is_good = core.is_good(task);
+        round.push(RoundTask { task, is_good })?;
     }
     let _offered = board.offer_round(rt, place, round).is_ok();
     Ok(())
@@ -73,7 +72,7 @@ pub(crate) fn show<J: RunName, A: Allocator + Copy>(
     ensures why { IfErr result (λ error. is_full error ≡ nat_le MAX_ROUNDS (length (progress_of core.old).rounds)) }
 {
     let (place, _tasks) = core.publish(rt, shelf)?;
-    let _offered = offer(rt, alloc, shelf, board, place).is_ok();
+    let _offered = offer(rt, alloc, core, shelf, board, place).is_ok();
     Ok(())
 }
 

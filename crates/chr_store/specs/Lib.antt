@@ -4,6 +4,7 @@ pub mod EntryIdsView
 pub mod FiredCode
 pub mod FiredLaws
 pub mod IdsValue
+pub mod KeyIdsView
 pub mod KeyView
 pub mod Rows
 pub mod SlotsView

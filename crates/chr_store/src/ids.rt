@@ -1,5 +1,5 @@
 //! Ascending lists of identities, which lose the least and the greatest at once.
-ghost use Rattle.std.specs.Prelude.{◌≡◌, ◌<◌, ◌≤◌, ◌-◌, ◌++◌, ◌∷◌, ◌==◌, [], All, IfNone, IfSome, OnOk, drop, filter, length, not, slice_index, vec_capacity, vec_len};
+ghost use Rattle.std.specs.Prelude.{◌≡◌, ◌<◌, ◌≤◌, ◌-◌, ◌++◌, ◌∷◌, ◌==◌, [], All, IfNone, IfOk, IfSome, OnOk, drop, filter, length, not, slice_index, vec_capacity, vec_len};
 ghost use Rattle.std.specs.List.Sorted.{IsStrictlyIncreasing};
 ghost use Rattle.chr_store.specs.Numbers.{numbers};
 
@@ -44,6 +44,16 @@ impl<A: Allocator> Ids<A> {
             items: Vec::new(alloc),
             start: 0,
         }
+    }
+
+    /// One identity, with room for one more.
+    pub(crate) fn beside(alloc: A, only: Id) -> Result<Ids<A>, Memory>
+        ensures ids { IfOk result (λ made. made.ids ≡ only.0 ∷ []) }
+        ensures spare { IfOk result (λ made. 0 < made.spare) }
+    {
+        let mut items = Vec::with_capacity(alloc, 2)?;
+        items.push_reserved(only);
+        Ok(Ids { items, start: 0 })
     }
 
     /// The identities, ascending.

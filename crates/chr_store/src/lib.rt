@@ -8,6 +8,7 @@ mod history;
 mod id;
 mod ids;
 mod key;
+mod key_ids;
 mod lists;
 mod row;
 mod rows;

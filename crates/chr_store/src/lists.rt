@@ -10,6 +10,7 @@ ghost use Rattle.chr_store.specs.Numbers.{numbers};
 use crate::id::Id;
 use crate::ids::Ids;
 use crate::key::Key;
+use crate::key_ids::KeyIds;
 use chr_term::{FoldState, Memory, Sym, Term, are_ground};
 use indexmap::IndexMap;
 use std::alloc::Allocator;
@@ -53,7 +54,7 @@ struct OfSymbol<A: Allocator> {
     /// Those whose first argument has no key.
     keyless: Ids<A>,
     /// Those whose first argument has a key, by that key.
-    keyed: IndexMap<Key, Ids<A>, FoldState, A>,
+    keyed: IndexMap<Key, KeyIds<A>, FoldState, A>,
 }
 
 impl<A: Allocator + Copy> OfSymbol<A> {
@@ -81,7 +82,7 @@ impl<A: Allocator + Copy> OfSymbol<A> {
         self.all.room()?;
         match key {
             None => self.keyless.room(),
-            Some(key) => self.keyed.entry(key)?.or_insert(Ids::new(alloc)).room(),
+            Some(key) => self.keyed.entry(key)?.or_insert(KeyIds::new()).room(alloc),
         }
     }
 }

@@ -1,13 +1,15 @@
-//! Runs beside none, one and more workers, and what came of the tasks: runs of long searches, which find nothing, and one of short searches.
+//! Runs beside none, one and more workers: what came of the tasks, and what a round cost. There are runs of long searches, which find nothing,
+//! one of long searches that find something, and one of short searches.
 ghost use Rattle.std.specs.Prelude.{IfOk};
 ghost use Rattle.chr_rules.specs.RuleView.{query_view};
 ghost use Rattle.chr_semantics.specs.Bounds.{IsQueryBounded};
 
-use crate::times::percent;
+use crate::times::{percent, share};
 use chr_machine::Status;
 use chr_read::read_query;
 use chr_rules::{Program, Query};
 use chr_run::{Gate, Point, Run, RunError, run};
+use chr_schedule::Event;
 use chr_texts::{Mistake, program_of};
 use std::alloc::{AllocError, Global};
 use std::fmt::Write;
@@ -34,6 +36,12 @@ const LARGEST: u64 = 3_333;
 
 /// More transitions than a run makes.
 const AMPLE: u64 = 1_000_000;
+
+/// How many numbers are searched for triples.
+const NUMBERS: u64 = 120;
+
+const TRIPLES: &str =
+    ":- chr_constraint n/1, triple/3. n(A), n(B), n(C) ==> A < B, B < C, C*C =:= A*A+B*B | triple(A,B,C).";
 
 const GCD: &str =
     ":- chr_constraint gcd/1. gcd(N) \\ gcd(M) <=> N > 0, M >= N | L is M - N, gcd(L).";
@@ -66,6 +74,16 @@ fn long_query(alloc: Global) -> Result<String, AllocError> {
     }
     for k in 0..CONSTRAINTS {
         write!(text, ", act({})", k.saturating_mul(2).saturating_add(1))?;
+    }
+    text.push_str(".")?;
+    Ok(text)
+}
+
+/// Numbers from 1 on.
+fn triples_query(alloc: Global) -> Result<String, AllocError> {
+    let mut text = String::from_str(alloc, "true")?;
+    for k in 1..=NUMBERS {
+        write!(text, ", n({k})")?;
     }
     text.push_str(".")?;
     Ok(text)
@@ -134,9 +152,15 @@ fn timed<R: AllocGlobal + Clock + Eprint + Threads + Wait + Sync>(
 
 fn print_counts(rt: &impl Eprint, run: &Run) -> io::Result<()> {
     let (counts, totals) = (run.counts, run.totals);
+    let searches = counts.used.saturating_add(counts.own);
     eprint!(rt;
-        "; searches: {} used, {} own; answers: {} kept, {} late, {} double",
-        counts.used, counts.own, counts.kept, counts.late, counts.double
+        "; {} of {searches} searches used an answer, {} percent; answers: {} kept, {} percent of them used, {} late, {} double",
+        counts.used,
+        share(counts.used, searches),
+        counts.kept,
+        share(counts.used, counts.kept),
+        counts.late,
+        counts.double
     )?;
     eprintln!(rt;
         "; tasks: {} offered, {} taken, {} posted, {} given up, {} drained, {} waiting, {} left; {} rounds refused",
@@ -149,6 +173,35 @@ fn print_counts(rt: &impl Eprint, run: &Run) -> io::Result<()> {
         totals.left,
         run.skipped
     )
+}
+
+/// How many rounds a run made.
+fn rounds_of(run: &Run) -> u64 {
+    let mut rounds: u64 = 0;
+    for event in run.schedule.as_slice() {
+        if *event == Event::Publish {
+            rounds = rounds.saturating_add(1);
+        }
+    }
+    rounds
+}
+
+/// Prints what a round cost, by how much longer the run took than with no worker: 0 where it took no longer.
+fn print_rounds(
+    rt: &impl Eprint,
+    (work, workers): (&str, u32),
+    (time, alone): (Duration, Duration),
+    run: &Run,
+) -> io::Result<()> {
+    let rounds = u128::from(rounds_of(run));
+    let more = time.as_nanos().saturating_sub(alone.as_nanos());
+    match rounds {
+        0 => Ok(()),
+        rounds => eprintln!(rt;
+            "{work}, workers {workers}: {rounds} rounds, {} ns more for each than with none",
+            more / rounds
+        ),
+    }
 }
 
 /// Prints how long each search of a run with no worker takes.
@@ -172,6 +225,7 @@ fn print_run(
         percent(time, alone)
     )?;
     print_counts(rt, run)?;
+    print_rounds(rt, (work, workers), (time, alone), run)?;
     if run.outcome.status != Status::Done {
         eprintln!(rt; "{work}, workers {workers}: the run did not end")?;
     }
@@ -260,6 +314,11 @@ fn all_long_searches<R: AllocGlobal + Clock + Eprint + Threads + Wait + Sync>(
     Ok(())
 }
 
+fn triples<R: AllocGlobal + Clock + Eprint + Threads + Wait + Sync>(rt: &R) -> io::Result<()> {
+    let query = triples_query(rt.alloc())?;
+    measured_texts(rt, "triples", TRIPLES, &query)
+}
+
 fn short_searches<R: AllocGlobal + Clock + Eprint + Threads + Wait + Sync>(
     rt: &R,
 ) -> io::Result<()> {
@@ -270,5 +329,6 @@ fn short_searches<R: AllocGlobal + Clock + Eprint + Threads + Wait + Sync>(
 /// Prints how long they take.
 pub fn grow<R: AllocGlobal + Clock + Eprint + Threads + Wait + Sync>(rt: &R) -> io::Result<()> {
     all_long_searches(rt)?;
+    triples(rt)?;
     short_searches(rt)
 }

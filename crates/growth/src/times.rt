@@ -2,6 +2,14 @@
 use std::io;
 use std::time::Duration;
 
+/// A number as a part of another one, in hundredths.
+pub fn share(part: u64, whole: u64) -> u64 {
+    match whole {
+        0 => 0,
+        whole => part.saturating_mul(100) / whole,
+    }
+}
+
 /// A time as a part of another one, in hundredths.
 pub fn percent(time: Duration, whole: Duration) -> u128 {
     match whole.as_micros() {

@@ -118,6 +118,7 @@ fn play<J: RunName, A: Allocator + Copy>(
     let place = publish(rt, scene, shelf, core)?;
     for wanted in [Took::Kept(0), Took::Double(0)] {
         let answer = solved::<J, A>(rt, program, shelf, place);
+        assert!(rt; core.is_good(answer.task()) == (wanted == Took::Double(0)));
         arrive(rt, scene, shelf, core, answer, wanted);
     }
     assert!(rt; core.serves());

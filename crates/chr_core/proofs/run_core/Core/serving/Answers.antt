@@ -3,7 +3,7 @@ use Rattle.chr_find.specs.SnapshotView.{task_view}
 use Rattle.chr_machine.specs.MachineView.{machine_view}
 use Rattle.chr_rules.specs.RuleView.{query_view}
 use Rattle.chr_schedule.specs.EventView.{event_view}
-use Rattle.chr_store.specs.Rows.{row_atom}
+use Rattle.chr_term.specs.TermView.{atom_view}
 use Rattle.chr_core.specs.AnswersView.{row_in}
 use Rattle.chr_core.specs.CoreView.{core_in}
 use Rattle.chr_core.specs.Serving.{row_passes}
@@ -17,7 +17,7 @@ returns-then-row_serves-clause-some g c =
     let p = g.J.RunName.rules in
     let m = machine_view core.machine in
     let asked = c.in_ok-asked.asked in
-    row_serves_at m.names p (query_view core.query) m core.at (map event_view core.events.items) (core_in core) core.stands refl (task_view c.args.task) c.requires (row_atom asked.row.now) asked.touches asked.own c.in_ok-asked.ensures.is
+    row_serves_at m.names p (query_view core.query) m core.at (map event_view core.events.items) (core_in core) core.stands refl (task_view c.args.task) c.requires (atom_view asked.sym asked.args.now) asked.touches asked.own c.in_ok-asked.ensures.some
     c.in-Some.position (sym c.row.ensures ∙ c.in-Some.is) (sym c.row_serves.ensures ∙ c.if-row_serves.true)
 
 pub returns-clause-some : goal.returns-clause-some
@@ -26,7 +26,7 @@ returns-clause-some g c =
     let p = g.J.RunName.rules in
     let m = machine_view core.machine in
     let asked = c.in_ok-asked.asked in
-    guest_found m.names p (query_view core.query) m core.at (map event_view core.events.items) (core_in core) core.stands refl (task_view c.args.task) c.requires (row_atom asked.row.now) asked.touches asked.own c.in_ok-asked.ensures.is
+    guest_found m.names p (query_view core.query) m core.at (map event_view core.events.items) (core_in core) core.stands refl (task_view c.args.task) c.requires (atom_view asked.sym asked.args.now) asked.touches asked.own c.in_ok-asked.ensures.some
     c.guest_serving.result c.guest_serving.ensures.some
 
 pub returns-clause-none : goal.returns-clause-none
@@ -40,5 +40,5 @@ returns-clause-none g c =
           subst (λ (k : ℕ). row_passes (core_in core) asked.touches k ≡ false) same (sym w.row_serves.ensures ∙ w.if-row_serves.false))
       | in_default w ↦ (let a = w.in_default.is in let b = c.row.ensures ∙ is in cc)
     ] in
-    none_found m.names p (query_view core.query) m core.at (map event_view core.events.items) (core_in core) core.stands refl (task_view c.args.task) c.requires (row_atom asked.row.now) asked.touches asked.own c.in_ok-asked.ensures.is
+    none_found m.names p (query_view core.query) m core.at (map event_view core.events.items) (core_in core) core.stands refl (task_view c.args.task) c.requires (atom_view asked.sym asked.args.now) asked.touches asked.own c.in_ok-asked.ensures.some
     c.guest_serving.result rows c.guest_serving.ensures.none

@@ -6,7 +6,7 @@ use Rattle.chr_rules.specs.RuleView.{query_view}
 use Rattle.chr_schedule.specs.EventView.{event_view}
 use Rattle.chr_machine.specs.MachineView.{machine_view}
 use Rattle.chr_core.specs.CoreView.{core_in}
-use Rattle.chr_core.proofs.Serves.{answers}
+use Rattle.chr_core.proofs.Serves.{answers, needed_occurrence}
 use Rattle.chr_core.proofs.AfterStep.{at_stepped, used_stepped}
 use Rattle.chr_core.proofs.run_core.Core.step_used.Goals as goal
 
@@ -29,4 +29,6 @@ step_answered-requires g c =
     let p = g.J.RunName.rules in
     let w = c.requires.serves in
     let ids_are = c.ids.ensures ∙ ap (option_and_then (λ (k : Answered). k.ids)) w.there in
-    rw ids_are (answers (machine_view old.machine).names p (query_view old.query) (machine_view old.machine) old.at (map event_view old.events.items) (core_in old) old.stands refl (task_view c.args.task) c.requires.ready.needs_are c.args.position w)
+    let m = machine_view old.machine in
+    let r = query_view old.query in
+    rw ids_are (answers m.names p r m old.at (map event_view old.events.items) (core_in old) old.stands refl (task_view c.args.task) (needed_occurrence m.names p r m old.at (task_view c.args.task) c.requires.ready.needs_are) c.requires.ready.needs_are c.args.position w)
