@@ -152,20 +152,11 @@ pub extended_term : (old new : List ℕ) (r t : Tree) → IsExtension old new �
 extended_term old new r t e h = subst (λ n. IsRenamed n r t) (sym e.whole)
     (record { same = sym (instance_below (length old) (old_variable old) (old_variable (old ++ e.more)) r (extended_at old e.more) h.below) ∙ h.same; below = below_more (length old) (length (old ++ e.more)) r (longer old e.more) h.below })
 
-some_unifier : (r q : Tree) (o : Option Subst) → apply [] r ≡ apply [] q → mgu [] r q ≡ o → true ≡ is_some o
+-- terms that are the same have a unifier
+pub some_unifier : (r q : Tree) (o : Option Subst) → apply [] r ≡ apply [] q → mgu [] r q ≡ o → true ≡ is_some o
 some_unifier r q None e m = absurd (mgu_none [] r q m (value_at []) (no_bindings (value_at [])) e)
 some_unifier r q (Some w) e m = refl
 
-module _ (names : List ℕ) (r q s t : Tree) (distinct : IsNames names) (left : IsRenamed names r s) (right : IsRenamed names q t) where
-  same_unifiable : is_some (mgu [] r q) ≡ is_some (mgu [] s t)
-  same_unifiable = renamed_unifiable names r q s t (names_once names distinct) left right
-
-  -- the renamed terms are the same, have a unifier, or have none: so have the terms
-  pub unifiable_same : apply [] r ≡ apply [] q → true ≡ is_some (mgu [] s t)
-  unifiable_same e = some_unifier r q (mgu [] r q) e refl ∙ same_unifiable
-
-  pub unifiable_bound : (w : Subst) → mgu [] r q ≡ Some w → true ≡ is_some (mgu [] s t)
-  unifiable_bound w e = sym (ap is_some e) ∙ same_unifiable
-
-  pub not_unifiable : mgu [] r q ≡ None → false ≡ is_some (mgu [] s t)
-  not_unifiable e = sym (ap is_some e) ∙ same_unifiable
+-- renamed terms have a unifier where the terms have one
+pub same_unifiable : (names : List ℕ) (r q s t : Tree) (distinct : IsNames names) (left : IsRenamed names r s) (right : IsRenamed names q t) → is_some (mgu [] r q) ≡ is_some (mgu [] s t)
+same_unifiable names r q s t distinct left right = renamed_unifiable names r q s t (names_once names distinct) left right

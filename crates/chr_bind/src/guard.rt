@@ -1,6 +1,7 @@
 //! Guards over what the variables of a rule are matched to.
 ghost use Rattle.std.specs.Prelude.{◌≡◌, IfOk, map};
 ghost use Rattle.chr_semantics.specs.Guard.{all_entailed, entailed, value_comparison_holds, is_int};
+ghost use Rattle.chr_semantics.specs.Program.{identical, is_ground as is_ground_test, is_integer, not_unifiable};
 ghost use Rattle.chr_semantics.specs.Subst.{Subst, apply, instances, value_at};
 ghost use Rattle.chr_semantics.specs.Value.{node_value, value as value_of, values};
 ghost use Rattle.chr_term.specs.TermView.{trees_view, view};
@@ -174,7 +175,7 @@ fn compares<A: Allocator>(
 }
 
 /// Whether the term is a whole number.
-fn is_integer<A: Allocator>(term: &Term<A>) -> bool
+fn is_whole_number<A: Allocator>(term: &Term<A>) -> bool
     ensures { result ≡ is_int (view term.now) }
 {
     match term {
@@ -182,6 +183,60 @@ fn is_integer<A: Allocator>(term: &Term<A>) -> bool
         Term::Int(_) => true,
         Term::Node(_, _) => false,
     }
+}
+
+/// Whether the terms are identical.
+fn are_identical<A: Allocator + Copy>(
+    alloc: A,
+    matching: &Match<'_, A>,
+    left: &Term<A>,
+    right: &Term<A>,
+) -> Result<bool, Memory>
+    ensures { IfOk result (λ so. (m : Subst) → AgreesWith matching.now m →
+        so ≡ entailed m (identical (view left.now) (view right.now))) }
+{
+    let left = instance_of(alloc, matching, left)?;
+    let right = instance_of(alloc, matching, right)?;
+    Ok(same(left.term(), right.term()))
+}
+
+/// Whether nothing makes the terms equal.
+fn are_not_unifiable<A: Allocator + Copy>(
+    alloc: A,
+    matching: &Match<'_, A>,
+    left: &Term<A>,
+    right: &Term<A>,
+) -> Result<bool, Memory>
+    ensures { IfOk result (λ so. (m : Subst) → AgreesWith matching.now m →
+        so ≡ entailed m (not_unifiable (view left.now) (view right.now))) }
+{
+    let left = instance_of(alloc, matching, left)?;
+    let right = instance_of(alloc, matching, right)?;
+    Ok(!are_unifiable(alloc, left.term(), right.term())?)
+}
+
+/// Whether the term is a whole number.
+fn is_integer_under<A: Allocator + Copy>(
+    alloc: A,
+    matching: &Match<'_, A>,
+    term: &Term<A>,
+) -> Result<bool, Memory>
+    ensures { IfOk result (λ so. (m : Subst) → AgreesWith matching.now m →
+        so ≡ entailed m (is_integer (view term.now))) }
+{
+    Ok(is_whole_number(instance_of(alloc, matching, term)?.term()))
+}
+
+/// Whether the term has no variable.
+fn is_ground_under<A: Allocator + Copy>(
+    alloc: A,
+    matching: &Match<'_, A>,
+    term: &Term<A>,
+) -> Result<bool, Memory>
+    ensures { IfOk result (λ so. (m : Subst) → AgreesWith matching.now m →
+        so ≡ entailed m (is_ground_test (view term.now))) }
+{
+    Ok(is_ground(instance_of(alloc, matching, term)?.term()))
 }
 
 /// Whether the test is entailed by the match.
@@ -194,24 +249,16 @@ pub fn holds<A: Allocator + Copy>(
         so ≡ entailed m (test_view test.now)) }
 {
     match test {
-        Test::Identical(left, right) => {
-            let left = instance_of(alloc, matching, left)?;
-            let right = instance_of(alloc, matching, right)?;
-            Ok(same(left.term(), right.term()))
-        }
-        Test::NotUnifiable(left, right) => {
-            let left = instance_of(alloc, matching, left)?;
-            let right = instance_of(alloc, matching, right)?;
-            Ok(!are_unifiable(alloc, left.term(), right.term())?)
-        }
+        Test::Identical(left, right) => are_identical(alloc, matching, left, right),
+        Test::NotUnifiable(left, right) => are_not_unifiable(alloc, matching, left, right),
         Test::Less(left, right) => Ok(compares(matching, Comparison::Less, left, right)),
         Test::Greater(left, right) => Ok(compares(matching, Comparison::Greater, left, right)),
         Test::AtMost(left, right) => Ok(compares(matching, Comparison::AtMost, left, right)),
         Test::AtLeast(left, right) => Ok(compares(matching, Comparison::AtLeast, left, right)),
         Test::Equals(left, right) => Ok(compares(matching, Comparison::Equals, left, right)),
         Test::Differs(left, right) => Ok(compares(matching, Comparison::Differs, left, right)),
-        Test::Integer(term) => Ok(is_integer(instance_of(alloc, matching, term)?.term())),
-        Test::Ground(term) => Ok(is_ground(instance_of(alloc, matching, term)?.term())),
+        Test::Integer(term) => is_integer_under(alloc, matching, term),
+        Test::Ground(term) => is_ground_under(alloc, matching, term),
     }
 }
 

@@ -1,5 +1,6 @@
 //! Whether two terms have a unifier, whatever numbers their variables have.
 ghost use Rattle.std.specs.Prelude.{◌≡◌, [], IfOk, OnOk, length, is_some, ℕ};
+ghost use Rattle.chr_semantics.specs.Bounds.{IsBelow};
 ghost use Rattle.chr_semantics.specs.Mgu.{mgu};
 ghost use Rattle.chr_term.specs.TermView.{trees_view, view};
 ghost use Rattle.chr_term.specs.Extension.{IsExtension};
@@ -15,6 +16,26 @@ use std::hash::{BuildHasherDefault, FoldHasher};
 /// The variables of some terms, each at the place that is its new number.
 type NewNumbers<A> = IndexSet<u64, BuildHasherDefault<FoldHasher>, A>;
 
+/// Whether terms have a unifier whose variables are numbered below a count.
+fn have_unifier<A: Allocator + Copy>(
+    alloc: A,
+    count: usize,
+    left: &Term<A>,
+    right: &Term<A>,
+) -> Result<bool, Memory>
+    requires left { IsBelow count (view left.now) }
+    requires right { IsBelow count (view right.now) }
+    ensures { IfOk result (λ so. so ≡ is_some (mgu [] (view left.now) (view right.now))) }
+{
+    let mut bindings = Bindings::new(alloc);
+    bindings.fresh(count)?;
+    match bindings.unify(left, right)? {
+        Unified::Same => Ok(true),
+        Unified::Bound => Ok(true),
+        Unified::Clash => Ok(false),
+    }
+}
+
 /// Whether the terms have a unifier. The work is that of their own variables alone.
 pub(crate) fn are_unifiable<A: Allocator + Copy>(
     alloc: A,
@@ -27,13 +48,7 @@ pub(crate) fn are_unifiable<A: Allocator + Copy>(
     let mut numbers = IndexSet::new(alloc);
     let left = renumber(alloc, &mut numbers, left)?;
     let right = renumber(alloc, &mut numbers, right)?;
-    let mut bindings = Bindings::new(alloc);
-    bindings.fresh(numbers.len())?;
-    match bindings.unify(&left, &right)? {
-        Unified::Same => Ok(true),
-        Unified::Bound => Ok(true),
-        Unified::Clash => Ok(false),
-    }
+    have_unifier(alloc, numbers.len(), &left, &right)
 }
 
 /// The term with its variables numbered anew.

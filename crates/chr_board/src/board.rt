@@ -13,7 +13,12 @@ use crate::totals::Totals;
 use chr_find::Task;
 use chr_shelf::{Answer, RunName};
 use std::alloc::{Allocator, Global};
+use std::hint::spin_loop;
+use std::sync::atomic::{AtomicBool, AtomicU64, Ordering};
 use std::sync::{Condvar, Mutex, MutexGuard, Wait};
+
+/// How often a worker that finds no task looks for news before it sleeps: to wake it takes longer than that.
+const LOOKS: u32 = 1_000;
 
 /// What a board has behind its lock.
 #[derive(Drop)]
@@ -61,6 +66,10 @@ impl<J: RunName, A: Allocator + Copy> State<J, A> {
 pub struct Board<J: RunName, A: Allocator = Global> {
     state: Mutex<State<J, A>>,
     changed: Condvar,
+    /// Counts the offers, and the closing.
+    news: AtomicU64,
+    /// Whether answers may be posted that were not drained: a drain of nothing needs no lock.
+    has_posts: AtomicBool,
     alloc: A,
 }
 
@@ -74,7 +83,24 @@ impl<J: RunName, A: Allocator + Copy> Board<J, A> {
                 waiting: 0,
             }),
             changed: Condvar::new(),
+            news: AtomicU64::new(0),
+            has_posts: AtomicBool::new(false),
             alloc,
+        }
+    }
+
+    /// Tells those who look for news that there is some.
+    fn tell(&self) {
+        let _before = self.news.fetch_add(1, Ordering::SeqCst);
+    }
+
+    /// Looks for news for a while.
+    fn look_out(&self, seen: u64) {
+        for _ in 0..LOOKS {
+            if self.news.load(Ordering::SeqCst) != seen {
+                return;
+            }
+            spin_loop();
         }
     }
 
@@ -84,6 +110,7 @@ impl<J: RunName, A: Allocator + Copy> Board<J, A> {
         let first = state.desk.offer(place, tasks)?;
         state.searches.begin_round(place, Vec::new(self.alloc));
         drop(state);
+        self.tell();
         self.changed.notify_all();
         Ok(first)
     }
@@ -99,6 +126,7 @@ impl<J: RunName, A: Allocator + Copy> Board<J, A> {
         let first = state.offer(place, tasks)?;
         let wanted = state.searches.fresh_tasks().min(state.waiting);
         drop(state);
+        self.tell();
         for _ in 0..wanted {
             self.changed.notify_one();
         }
@@ -107,10 +135,14 @@ impl<J: RunName, A: Allocator + Copy> Board<J, A> {
 
     /// The lock, once a task waits or the board is closed.
     fn wait<'b>(&'b self, rt: &impl Wait) -> MutexGuard<'b, State<J, A>> {
-        let mut state = self.state.lock(rt);
+        let seen = self.news.load(Ordering::SeqCst);
+        let state = self.state.lock(rt);
         if !state.desk.is_idle() {
             return state;
         }
+        drop(state);
+        self.look_out(seen);
+        let mut state = self.state.lock(rt);
         state.waiting = state.waiting.saturating_add(1);
         let mut state = self
             .changed
@@ -138,7 +170,9 @@ impl<J: RunName, A: Allocator + Copy> Board<J, A> {
         requires place { place_of (ticket_of answer) ≡ (slip_view slip).place }
         requires index { index_of answer ≡ (slip_view slip).index }
     {
-        self.state.lock(rt).desk.post(slip, answer);
+        let mut state = self.state.lock(rt);
+        state.desk.post(slip, answer);
+        self.has_posts.store(true, Ordering::SeqCst);
     }
 
     /// `Desk::give_up`.
@@ -160,9 +194,13 @@ impl<J: RunName, A: Allocator + Copy> Board<J, A> {
         ensures ok { IfOk result (λ count. HasMore count into.old.items into.new.items) }
         ensures err { OnErr result (into.new.items ≡ into.old.items) }
     {
+        if !self.has_posts.load(Ordering::SeqCst) {
+            return Ok(0);
+        }
         let before = into.len();
         let mut state = self.state.lock(rt);
         let count = state.desk.drain(into)?;
+        self.has_posts.store(false, Ordering::SeqCst);
         for answer in into.iter().skip(before) {
             state.searches.end(answer.task());
         }
@@ -177,6 +215,7 @@ impl<J: RunName, A: Allocator + Copy> Board<J, A> {
     /// `Desk::close`, which wakes those who wait for a task.
     pub fn close(&self, rt: &impl Wait) {
         self.state.lock(rt).desk.close();
+        self.tell();
         self.changed.notify_all();
     }
 

@@ -121,7 +121,7 @@ module _ (names : Names) (p : Program) (r : Query) (m : Model) (at : IsAt names 
       passes_same : (n : ℕ) → guest_passes c goal_now own touches n ≡ has_kept_good c (Some goal_now) sum_now n
       passes_same n = λ k. passes (λ z. same_goal (goal_kept c.rounds z) (Some goal_now) && same_sum (sum_kept c.rounds z) k) (slice_get c.answers n)
 
-      pub good_guest : (x : Option ℕ) → IfSome x (λ n. GuestPasses c t goal_now own touches n) → IfNone x (list_any (guest_passes c goal_now own touches) (c.guests t) ≡ false)
+      pub good_guest : (x : Option ℕ) → IfSome x (λ n. GuestPasses c (c.guests t) goal_now own touches n) → IfNone x (list_any (guest_passes c goal_now own touches) (c.guests t) ≡ false)
           → is_some x ≡ is_good p (start r) (progress p (start r) es) t
       good_guest None some none = sym (kept_good ∙ sym (any_same _ _ (c.guests t) passes_same) ∙ none)
       good_guest (Some n) some none = sym (kept_good ∙ sym (any_same _ _ (c.guests t) passes_same) ∙ one_passes (guest_passes c goal_now own touches) (c.guests t) n some.member some.passing)

@@ -115,7 +115,7 @@ module _ (names : Names) (p : Program) (r : Query) (m : Model) (at : IsAt names 
         let w = passing (λ (l : Answered). sum_kept c.rounds l == touches) (slice_get c.answers n) e in
         record { answer = w.0; there = w.1; its = (and_parts (same_task t w.0.task) (not (is_guests p (start r) (ats c.rounds) w.0)) (row_at p (rise_by_calls p) r es c t n w.0 stands is w.1)).0; serves = sym (row_serves n is) ∙ e }
 
-    pub guest_serves_at : (n : ℕ) → GuestPasses c t (resolved_atom m.base.subst a) own touches n → ServesAt p (start r) c t n
+    pub guest_serves_at : (n : ℕ) → GuestPasses c (c.guests t) (resolved_atom m.base.subst a) own touches n → ServesAt p (start r) c t n
     guest_serves_at n g =
         let w = passing (λ (l : Answered). same_goal (goal_kept c.rounds l) (Some (resolved_atom m.base.subst a)) && sum_kept c.rounds l + own == touches) (slice_get c.answers n) g.passing in
         record { answer = w.0; there = w.1; its = (and_parts (same_task t w.0.task) (is_guests p (start r) (ats c.rounds) w.0) (guest_at p (rise_by_calls p) r es c t n w.0 stands g.member w.1)).0; serves = sym (guest_serves n g.member) ∙ g.passing }
@@ -126,7 +126,7 @@ module _ (names : Names) (p : Program) (r : Query) (m : Model) (at : IsAt names 
       guests = sym (none_pass (guest_passes c (resolved_atom m.base.subst a) own touches) (serves_at p (start r) (ats c.rounds) c.steps c.answers t) (c.guests t) guest_serves) ∙ guests;
     }
 
-    pub guest_found : (x : Option ℕ) → IfSome x (λ n. GuestPasses c t (resolved_atom m.base.subst a) own touches n) → IfSome x (λ n. ServesAt p (start r) c t n)
+    pub guest_found : (x : Option ℕ) → IfSome x (λ n. GuestPasses c (c.guests t) (resolved_atom m.base.subst a) own touches n) → IfSome x (λ n. ServesAt p (start r) c t n)
     guest_found None h = tt
     guest_found (Some n) h = guest_serves_at n h
 

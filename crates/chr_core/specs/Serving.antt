@@ -1,5 +1,5 @@
 -- Whether a kept answer serves a search, or is still good.
-use Rattle.std.specs.Prelude.{◌≡◌, ◌+◌, ◌==◌, ◌&&◌, ℕ, Bool, false, true, Option, Some, option_and_then, slice_get}
+use Rattle.std.specs.Prelude.{◌≡◌, ◌+◌, ◌==◌, ◌&&◌, ℕ, Bool, false, true, List, Option, Some, option_and_then, slice_get}
 use Rattle.std.specs.List.{list_any}
 use Rattle.chr_semantics.specs.Footprint.{marks_added}
 use Rattle.chr_semantics.specs.Program.{Atom, Occurrence, Program, occurrence}
@@ -36,8 +36,9 @@ row_passes c touches n = passes (λ k. sum_kept c.rounds k == touches) (slice_ge
 abbrev pub guest_passes : Core → Atom → ℕ → ℕ → ℕ → Bool
 guest_passes c a own touches n = passes (λ k. same_goal (goal_kept c.rounds k) (Some a) && sum_kept c.rounds k + own == touches) (slice_get c.answers n)
 
-pub record GuestPasses (c : Core) (t : Task) (a : Atom) (own touches n : ℕ) : Type 0 where
-  pub member : has_number (c.guests t) n ≡ true
+-- it is one of these
+pub record GuestPasses (c : Core) (positions : List ℕ) (a : Atom) (own touches n : ℕ) : Type 0 where
+  pub member : has_number positions n ≡ true
   pub passing : guest_passes c a own touches n ≡ true
 
 -- what a task of the store asks for: its constraint, how often its footprint was touched, and how much of that the Activate adds

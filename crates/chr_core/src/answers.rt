@@ -1,5 +1,5 @@
 //! The kept answers.
-ghost use Rattle.std.specs.Prelude.{◌≡◌, ◌&&◌, ◌++◌, ◌∷◌, [], None, OnOk, Some, cond, length, map, not, option_and_then, option_map, slice_get, true};
+ghost use Rattle.std.specs.Prelude.{◌≡◌, ◌&&◌, ◌++◌, ◌∷◌, [], None, OnOk, Some, cond, length, map, not, option_and_then, option_map, slice_get};
 ghost use Rattle.chr_semantics.specs.Tasks as semantics;
 ghost use Rattle.chr_semantics.specs.Tasks.{same_task};
 ghost use Rattle.chr_find.specs.SnapshotView.{task_view};
@@ -7,6 +7,7 @@ ghost use Rattle.chr_laws.specs.Kept.{Answered};
 
 use crate::Memory;
 use crate::kept::Kept;
+use crate::positions::Positions;
 use crate::spots::{Spots, TaskKey};
 use chr_find::Task;
 use chr_store::HeadIds;
@@ -60,6 +61,7 @@ impl<A: Allocator + Copy> Answers<A> {
 impl<A: Allocator> Answers<A> {
     ghost use Rattle.chr_core.specs.AnswersView.{HasRoom, answers_in, guests_in, row_in};
     ghost use Rattle.chr_core.specs.KeptView.{kept_view};
+    ghost use Rattle.chr_core.specs.SpotsView.{guests_or_none, row_or_none};
 
     pub(crate) fn len(&self) -> usize
         ensures { result ≡ length (answers_in self.now) }
@@ -81,26 +83,19 @@ impl<A: Allocator> Answers<A> {
         self.get(position)?.ids
     }
 
+    /// Where those to a task stand: the newest to a stored constraint's task, and all to a guest's.
+    pub(crate) fn positions(&self, task: Task) -> Option<&Positions<A>>
+        ensures row { row_or_none (option_map (λ positions. positions.now) result) ≡ row_in self.now (task_view task) }
+        ensures guests { guests_or_none (option_map (λ positions. positions.now) result) ≡ guests_in self.now (task_view task) }
+    {
+        self.spots.at(key_of(task))
+    }
+
     /// The position of the newest answer to a stored constraint's task.
     pub(crate) fn row(&self, task: Task) -> Option<usize>
         ensures { result ≡ row_in self.now (task_view task) }
     {
-        self.spots.row(key_of(task))
-    }
-
-    /// The positions of the answers to a guest's task.
-    pub(crate) fn guests(&self, task: Task) -> &[usize]
-        ensures { result.now ≡ guests_in self.now (task_view task) }
-    {
-        self.spots.guests(key_of(task))
-    }
-
-    /// Whether there is no answer to a task.
-    pub(crate) fn has_none(&self, task: Task) -> bool
-        ensures row { result ≡ true → row_in self.now (task_view task) ≡ None }
-        ensures guests { result ≡ true → guests_in self.now (task_view task) ≡ [] }
-    {
-        self.row(task).is_none() && self.guests(task).is_empty()
+        self.positions(task)?.row()
     }
 
     /// Appends an answer, for which room was made. One to a stored constraint's task takes the place of the one that stood there if it is

@@ -109,15 +109,15 @@ impl<'p, J: RunName, A: Allocator + Copy> Core<'p, J, A> {
         }
     }
 
-    /// The position of an answer to a guest's task that was made for what is asked.
-    fn guest_serving(&self, task: Task, asked: Asked<'_, A>) -> Option<usize>
-        ensures some { IfSome result (λ n. GuestPasses (core_in self.now) (task_view task)
+    /// Of positions of answers to guests' tasks, one whose answer was made for what is asked.
+    fn guest_serving(&self, positions: &[usize], asked: Asked<'_, A>) -> Option<usize>
+        ensures some { IfSome result (λ n. GuestPasses (core_in self.now) positions.now
             (resolved_atom (machine_in self.now).base.subst (atom_view asked.entry.sym asked.entry.args.now)) asked.entry.own asked.entry.touches n) }
         ensures none { IfNone result (list_any (guest_passes (core_in self.now)
             (resolved_atom (machine_in self.now).base.subst (atom_view asked.entry.sym asked.entry.args.now)) asked.entry.own asked.entry.touches)
-            ((core_in self.now).guests (task_view task)) ≡ false) }
+            positions.now ≡ false) }
     {
-        for position in self.answers.guests(task) {
+        for position in positions {
             if self.guest_serves(*position, asked) {
                 return Some(*position);
             }
@@ -133,16 +133,14 @@ impl<'p, J: RunName, A: Allocator + Copy> Core<'p, J, A> {
         ensures none { IfNone result
             (NoneServes J.rules (start_of self.now) (core_in self.now) (task_view task)) }
     {
-        if self.answers.has_none(task) {
-            return None;
-        }
+        let positions = self.answers.positions(task)?;
         let asked = self.asked(task)?;
-        if let Some(position) = self.answers.row(task) {
+        if let Some(position) = positions.row() {
             if self.row_serves(position, asked.touches) {
                 return Some(position);
             }
         }
-        self.guest_serving(task, asked)
+        self.guest_serving(positions.guests(), asked)
     }
 
     /// Whether the next step would use a kept answer.
@@ -155,15 +153,16 @@ impl<'p, J: RunName, A: Allocator + Copy> Core<'p, J, A> {
         }
     }
 
-    /// Whether a kept answer to the task of the guest is good.
-    fn guest_is_good(&self, task: Task) -> bool
+    /// Whether a kept answer to the task of the guest is good, of those at these positions.
+    fn guest_is_good(&self, task: Task, positions: &[usize]) -> bool
+        requires positions { positions.now ≡ (core_in self.now).guests (task_view task) }
         requires next { (task.goal.0 == (state_in (machine_in self.now)).next_id) ≡ true }
         requires occurs { is_some (task_occurrence J.rules (state_in (machine_in self.now)) (task_view task)) ≡ true }
         ensures { result ≡ is_good J.rules (start_of self.now) (progress_of self.now) (task_view task) }
     {
         match self.asked_of_guest(task.occurrence) {
             None => false,
-            Some(asked) => self.guest_serving(task, asked).is_some(),
+            Some(asked) => self.guest_serving(positions, asked).is_some(),
         }
     }
 
@@ -175,11 +174,14 @@ impl<'p, J: RunName, A: Allocator + Copy> Core<'p, J, A> {
         ensures { result ≡ (is_some (task_occurrence J.rules (state_in (machine_in self.now)) (task_view task))
             && is_good J.rules (start_of self.now) (progress_of self.now) (task_view task)) }
     {
-        if self.answers.has_none(task) || !has_occurrence(&self.machine, task) {
+        let Some(positions) = self.answers.positions(task) else {
+            return false;
+        };
+        if !has_occurrence(&self.machine, task) {
             return false;
         }
         if task.goal == self.machine.store().next() {
-            self.guest_is_good(task)
+            self.guest_is_good(task, positions.guests())
         } else {
             self.serving(task).is_some()
         }

@@ -1,5 +1,6 @@
 //! The positions of answers, by task.
-ghost use Rattle.std.specs.Prelude.{◌≡◌, ◌<◌, ◌++◌, ◌∷◌, [], None, OnOk, Some, cond};
+ghost use Rattle.std.specs.Prelude.{◌≡◌, ◌<◌, ◌++◌, ◌∷◌, [], None, OnOk, Some, cond, option_map};
+ghost use Rattle.indexmap.specs.IndexMap.{get};
 ghost use Rattle.chr_semantics.specs.Tasks.{Task, same_task};
 
 use crate::positions::Positions;
@@ -52,33 +53,17 @@ impl<A: Allocator + Copy> Spots<A> {
 }
 
 impl<A: Allocator> Spots<A> {
-    ghost use Rattle.chr_core.specs.SpotsView.{guests_at, row_at, spare_at, task_of};
+    ghost use Rattle.chr_core.specs.SpotsView.{guests_at, row_at, same_key, spare_at, task_of};
 
-    /// The position of the answer to a stored constraint's task.
-    pub(crate) fn row(&self, key: TaskKey) -> Option<usize>
-        ensures { result ≡ row_at self.now (task_of key) }
+    /// Where the answers to a task stand.
+    pub(crate) fn at(&self, key: TaskKey) -> Option<&Positions<A>>
+        ensures { option_map (λ positions. positions.now) result ≡ get same_key self.now.positions key }
     {
         // Most runs keep no answer: nothing is hashed in these.
         if self.positions.is_empty() {
             return None;
         }
-        match self.positions.get(&key) {
-            None => None,
-            Some(positions) => positions.row(),
-        }
-    }
-
-    /// The positions of the answers to a guest's task, in the order in which they came.
-    pub(crate) fn guests(&self, key: TaskKey) -> &[usize]
-        ensures { result.now ≡ guests_at self.now (task_of key) }
-    {
-        if self.positions.is_empty() {
-            return &[];
-        }
-        match self.positions.get(&key) {
-            None => &[],
-            Some(positions) => positions.guests(),
-        }
+        self.positions.get(&key)
     }
 
     /// Puts the position of the answer to a stored constraint's task, for which room was made.

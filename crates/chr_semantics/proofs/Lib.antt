@@ -8,6 +8,11 @@ pub mod UnifierGeneral
 pub mod UnifierEqual
 pub mod UnifierNone
 pub mod UnifierLaw
+pub mod Joinings
+pub mod Onward
+pub mod Apartness
+pub mod Decides
+pub mod VerdictLaw
 pub mod SameLaw
 pub mod Below
 pub mod SolvedLaw

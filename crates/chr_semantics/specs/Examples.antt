@@ -9,3 +9,4 @@ pub mod Searches
 pub mod Desks
 pub mod Calls
 pub mod Schedules
+pub mod Verdicts

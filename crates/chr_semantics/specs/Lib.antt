@@ -37,3 +37,5 @@ pub mod Policy
 pub mod Outcome
 pub mod ScheduleText
 pub mod Calls
+pub mod Verdict
+pub mod Life

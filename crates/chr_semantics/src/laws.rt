@@ -15,6 +15,7 @@ ghost use Rattle.chr_semantics.specs.Calls.{CallsLaw};
 ghost use Rattle.chr_semantics.specs.Desk.{TotalsLaw};
 ghost use Rattle.chr_semantics.specs.Tries.{TriesLaw};
 ghost use Rattle.chr_semantics.specs.Cursor.{CursorLaw, GatedLaw};
+ghost use Rattle.chr_semantics.specs.Verdict.{VerdictLaw};
 ghost use Rattle.chr_semantics.specs.Footprint.{FootprintLaw, ServesLaw, UsedLaw, StampsLaw, TakenLaw};
 
 /// The tests of identity decide equality of terms, and of lists of terms.
@@ -182,4 +183,10 @@ pub fn idle_law()
 /// What is printed of a schedule of at most 2,000,000 events reads back as those events.
 pub fn read_back_law()
     ensures { ReadBackLaw }
+{}
+
+/// A list of constraints could fire a rule exactly where they live, are different and can fire it; and where they are unlike its heads, no
+/// later state of the run has them fire it.
+pub fn verdict_law()
+    ensures { VerdictLaw }
 {}

@@ -11,4 +11,5 @@ pub mod runs;
 pub mod schedules;
 pub mod searches;
 pub mod speculation;
+pub mod verdicts;
 pub mod whole_numbers;

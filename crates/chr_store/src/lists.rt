@@ -1,5 +1,5 @@
 //! The identities of the store's constraints, by symbol, by key, and those with variables.
-ghost use Rattle.std.specs.Prelude.{◌≡◌, ◌<◌, ◌++◌, ◌∷◌, ◌==◌, [], All, Option, Some, cond, filter, not, vec_len, OnOk};
+ghost use Rattle.std.specs.Prelude.{◌≡◌, ◌<◌, ◌++◌, ◌∷◌, ◌==◌, [], All, Option, Some, cond, filter, not, option_map, slice_get, vec_len, OnOk};
 ghost use Rattle.std.specs.List.Sorted.{IsStrictlyIncreasing};
 ghost use Rattle.chr_term.specs.TermView.{atom_view};
 ghost use Rattle.chr_semantics.specs.Keys.{same_keys};
@@ -207,6 +207,13 @@ impl<A: Allocator + Copy> Lists<A> {
 impl<A: Allocator> Lists<A> {
     ghost use Rattle.chr_store.specs.Looks.{ids_under, spare_under};
 
+    /// The lists of a symbol.
+    fn of_symbol(&self, sym: Sym) -> Option<&OfSymbol<A>>
+        ensures { option_map (λ lists. lists.now) result ≡ slice_get self.now.by_symbol.items sym.0 }
+    {
+        self.by_symbol.get(sym.0 as usize)
+    }
+
     /// The identities in a list, ascending.
     pub(crate) fn of(&self, look: Look) -> &[Id]
         ensures ids { numbers result.now ≡ ids_under self.now look }
@@ -214,11 +221,11 @@ impl<A: Allocator> Lists<A> {
     {
         match look {
             Look::Open => self.open.as_slice(),
-            Look::Symbol(sym) => match self.by_symbol.get(sym.0 as usize) {
+            Look::Symbol(sym) => match self.of_symbol(sym) {
                 Some(lists) => lists.all.as_slice(),
                 None => &[],
             },
-            Look::Keyed(sym, key) => match self.by_symbol.get(sym.0 as usize) {
+            Look::Keyed(sym, key) => match self.of_symbol(sym) {
                 Some(lists) => lists.of(key),
                 None => &[],
             },

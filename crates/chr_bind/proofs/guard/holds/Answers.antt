@@ -1,14 +1,10 @@
-use Rattle.std.proofs.Common.{◌∙◌}
-use Rattle.chr_bind.proofs.Instances.{decides_none, decides_same}
 use Rattle.chr_bind.proofs.guard.holds.Goals as goal
 
-pub returns-in_ok-right-in-Identical : goal.returns-in_ok-right-in-Identical
-returns-in_ok-right-in-Identical g c m h =
-    rw c.in-Identical.is (decides_same c.same.result _ _ _ _ c.same.ensures (c.term.ensures ∙ c.in_ok-left-in-Identical.ensures m h) (c.term-in-Identical.ensures ∙ c.in_ok-right-in-Identical.ensures m h))
+pub returns-in-Identical : goal.returns-in-Identical
+returns-in-Identical g c = rw c.in-Identical.is c.are_identical.ensures
 
-pub returns-in_ok-are_unifiable-in-NotUnifiable : goal.returns-in_ok-are_unifiable-in-NotUnifiable
-returns-in_ok-are_unifiable-in-NotUnifiable g c m h =
-    rw c.in-NotUnifiable.is (decides_none c.in_ok-are_unifiable-in-NotUnifiable.field-0 _ _ _ _ c.in_ok-are_unifiable-in-NotUnifiable.ensures (c.term-in-NotUnifiable.ensures ∙ c.in_ok-left-in-NotUnifiable.ensures m h) (c.term-in-NotUnifiable-2.ensures ∙ c.in_ok-right-in-NotUnifiable.ensures m h))
+pub returns-in-NotUnifiable : goal.returns-in-NotUnifiable
+returns-in-NotUnifiable g c = rw c.in-NotUnifiable.is c.are_not_unifiable.ensures
 
 pub returns-in-Less : goal.returns-in-Less
 returns-in-Less g c = rw c.in-Less.is c.compares.ensures
@@ -27,3 +23,9 @@ returns-in-Equals g c = rw c.in-Equals.is c.compares-in-Equals.ensures
 
 pub returns-in-Differs : goal.returns-in-Differs
 returns-in-Differs g c = rw c.in-Differs.is c.compares-in-Differs.ensures
+
+pub returns-in-Integer : goal.returns-in-Integer
+returns-in-Integer g c = rw c.in-Integer.is c.is_integer_under.ensures
+
+pub returns-in-Ground : goal.returns-in-Ground
+returns-in-Ground g c = rw c.in-Ground.is c.is_ground_under.ensures

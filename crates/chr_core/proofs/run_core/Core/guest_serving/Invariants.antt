@@ -10,4 +10,4 @@ use Rattle.chr_core.proofs.run_core.Core.guest_serving.Given as goal
 abbrev pub invariant-loop-position : goal.invariant-loop-position
 invariant-loop-position g l =
     let passes = guest_passes (core_in l.self) (resolved_atom (machine_in l.self).base.subst (atom_view l.asked.sym l.asked.args.now)) l.asked.own l.asked.touches in
-    list_any passes l.position-items ≡ list_any passes (drop l.position-index l.position-items)
+    list_any passes l.positions ≡ list_any passes (drop l.position-index l.positions)

@@ -11,19 +11,13 @@ use Rattle.chr_core.specs.CoreView.{core_in, events_of, progress_of, start_of}
 use Rattle.chr_core.specs.Serving.{task_occurrence}
 use Rattle.chr_core.proofs.Good.{good_none, good_stored, stored_occurrence}
 use Rattle.chr_core.proofs.run_core.Core.is_good.Goals as goal
-use Rattle.chr_core.proofs.run_core.Core.is_good.Goals.{then-has_none-via-then-has_none, then-has_none-via-else-has_none+then-not-has_occurrence}
 
-pub returns-then-has_none : goal.returns-then-has_none
-returns-then-has_none g c =
+pub returns-in_default : goal.returns-in_default
+returns-in_default g c =
     let core = c.args.self.now in
-    let p = g.J.RunName.rules in
     let m = machine_view core.machine in
-    let t = task_view c.args.task in
-    elim c.then-has_none.branch [
-      | then-has_none-via-then-has_none w ↦ sym (good_none m.names p (query_view core.query) m core.at (events_of core) (core_in core) core.stands refl t (c.has_none.ensures.row w.if-has_none.true) (c.has_none.ensures.guests w.if-has_none.true))
-      | then-has_none-via-else-has_none+then-not-has_occurrence w ↦ (let none : false ≡ is_some (task_occurrence p (state_in m) t) = cc (w.if-not-has_occurrence.true, w.has_occurrence.ensures) in
-          ap (λ (b : Bool). b && is_good p (start_of core) (progress_of core) t) none)
-    ]
+    sym (good_none m.names g.J.RunName.rules (query_view core.query) m core.at (events_of core) (core_in core) core.stands refl (task_view c.args.task)
+    (sym (rw c.in_default.is at c.positions.ensures.row)) (sym (rw c.in_default.is at c.positions.ensures.guests)))
 
 pub serving-requires : goal.serving-requires
 serving-requires g c =

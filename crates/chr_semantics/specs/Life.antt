@@ -1,0 +1,52 @@
+-- The life of a constraint in a run, and that of a rule with a list of constraints (this project's own).
+use Rattle.std.specs.Prelude.{ℕ, zero, suc, ◌+◌, ◌-◌, Bool, false, cond, not, ◌&&◌, ◌==◌, nat_lt, List, [], ◌∷◌, Option, Some, None, length, option_and_then, option_map, slice_get}
+use Rattle.std.specs.List.{list_all}
+use Rattle.chr_semantics.specs.Program.{Occurrence, Program, Rule, occurrence}
+use Rattle.chr_semantics.specs.State.{Element, State, active, goal, known}
+use Rattle.chr_semantics.specs.Step.{after, is_running, step}
+use Rattle.chr_semantics.specs.Tasks.{lives}
+use Rattle.chr_semantics.specs.Verdict.{is_could_fire, verdict}
+
+-- the least number of transitions, at most n, after which the state passes a test
+abbrev pub first_after : Program → (State → Bool) → State → ℕ → Option ℕ
+first_after p test s zero = cond (test s) (Some 0) None
+first_after p test s (suc n) = cond (test s) (Some 0) (option_map (λ k. k + 1) (first_after p test (step p s) n))
+
+-- the transition that brings the constraint of an identity, of the first n
+abbrev pub came : Program → State → ℕ → ℕ → Option ℕ
+came p s n i = first_after p (λ t. nat_lt i t.next_id) s n
+
+-- the transition that takes it out
+abbrev pub gone : Program → State → ℕ → ℕ → Option ℕ
+gone p s n i = first_after p (λ t. nat_lt i t.next_id && not (lives t i)) s n
+
+-- the entry that the k-th transition adds to the history: its firing, with the number of the rule
+abbrev pub firing_at : Program → State → ℕ → Option (ℕ × List ℕ)
+firing_at p s k = slice_get (after p s k).history (length (after p s (k - 1)).history)
+
+-- the firing that took the constraint out
+abbrev pub taken_by : Program → State → ℕ → ℕ → Option (ℕ × List ℕ)
+taken_by p s n i = option_and_then (firing_at p s) (gone p s n i)
+
+-- the constraint i is the one of the list for the head of an occurrence of the rule r
+abbrev pub is_its_head : ℕ → List ℕ → ℕ → Option Occurrence → Bool
+is_its_head r ids i None = false
+is_its_head r ids i (Some o) = o.number == r && is_at i (slice_get ids o.place)
+  where
+    is_at : ℕ → Option ℕ → Bool
+    is_at i None = false
+    is_at i (Some k) = k == i
+
+abbrev pub looks_at_top : Program → ℕ → List ℕ → List Element → Option ℕ
+looks_at_top p r ids [] = None
+looks_at_top p r ids (goal g ∷ es) = None
+looks_at_top p r ids (known i a ∷ es) = None
+looks_at_top p r ids (active i j a ∷ es) = cond (is_its_head r ids i (occurrence p a.sym j)) (Some i) None
+
+-- the constraint whose search, in the next transition, is for the rule r with the list, all of which lives
+abbrev pub looks_for : Program → State → ℕ → List ℕ → Option ℕ
+looks_for p s r ids = cond (is_running s.status && list_all (lives s) ids) (looks_at_top p r ids s.stack) None
+
+-- the first of n transitions after which the list could fire the rule
+abbrev pub could_from : Program → State → ℕ → ℕ → Rule → List ℕ → Option ℕ
+could_from p s n r rule ids = first_after p (λ t. is_could_fire (verdict t r rule ids)) s n
