@@ -2,9 +2,13 @@
 use Rattle.chr_semantics.specs.Tree.{Tree}
 use Rattle.chr_semantics.specs.Program as semantics
 use Rattle.chr_semantics.specs.Program.{identical, not_unifiable, compares, is_integer, is_ground, less, greater, at_most, at_least, equals, differs}
+use Rattle.chr_semantics.specs.Verdict as verdict
+use Rattle.chr_semantics.specs.Verdict.{never, undecided, untrue}
 use Rattle.chr_term.specs.TermView.{view}
 use Rattle.chr_bind.specs.declared.guard.Instance.{Instance}
 use Rattle.chr_bind.specs.declared.guard.Instance.TheVariants.{Lent, Made}
+use Rattle.chr_bind.specs.declared.guard.lack.Lack.{Lack}
+use Rattle.chr_bind.specs.declared.guard.lack.Lack.TheVariants.{Never, Undecided, Untrue}
 use Rattle.chr_bind.specs.declared.guard.Test.{Test}
 use Rattle.chr_bind.specs.declared.guard.Test.TheVariants.{Identical, NotUnifiable, Less, Greater, AtMost, AtLeast, Equals, Differs, Integer, Ground}
 
@@ -19,6 +23,12 @@ test_view (Equals t u) = compares equals (view t) (view u)
 test_view (Differs t u) = compares differs (view t) (view u)
 test_view (Integer t) = is_integer (view t)
 test_view (Ground t) = is_ground (view t)
+
+-- why a test is not entailed
+abbrev pub lack_view : Lack → verdict.Lack
+lack_view Untrue = untrue
+lack_view Undecided = undecided
+lack_view Never = never
 
 -- the term that is lent, or was made
 abbrev pub instance_view : {A : Type 0} → Instance A → Tree

@@ -19,6 +19,10 @@ use crate::renaming::are_unifiable;
 use chr_term::{Args, Sym, Term, copy, is_ground, same};
 use std::alloc::{Allocator, Global};
 
+mod lack;
+
+pub use lack::{Lack, lack_of};
+
 /// A test of a guard. Its terms are over the variables of the rule's heads.
 #[derive(Drop)]
 pub enum Test<A: Allocator = Global> {

@@ -1,15 +1,15 @@
 -- What is out of a run.
-use Rattle.std.proofs.Common.{◌≡◌, inr, ◌∙◌, ◌+◌, ◌-◌, ◌≤◌, ◌++◌, [], ℕ, List, Option, ap, append-nil, arith, drop, length, length-append, subst, sym, take}
-use Rattle.std.proofs.lemmas.List.{take-append-drop, take-append-le, take_all}
+use Rattle.std.proofs.Common.{◌≡◌, inl, inr, ◌∙◌, ◌+◌, ◌-◌, ◌≤◌, ◌++◌, [], ℕ, List, Option, ap, append-nil, arith, drop, length, length-append, subst, sym, take}
+use Rattle.std.proofs.lemmas.List.{take-append-drop, take-append-le, take-take}
 use Rattle.std.specs.Io.KnownBytes.{Appends}
 use Rattle.chr_semantics.specs.Text.{lines_text}
 use Rattle.chr_machine.specs.Model.{Model}
 use Rattle.std.specs.Prelude.{OnErr, OnOk, Result, Ok, Err}
 use Rattle.chr_shelf.specs.declared.run.RunName.{Ghosts}
-use Rattle.chr_policy.specs.CoordinatorView.{IsAtRest, machine_by}
+use Rattle.chr_policy.specs.CoordinatorView.{IsAtRest, machine_by, query_by, workers_by}
 use Rattle.chr_policy.specs.declared.coordinator.Coordinator.{Coordinator}
 use Rattle.chr_run.specs.Output.{AppendsLess, AppendsPart, IsOut}
-use Rattle.chr_run.specs.Sending.{AreOut, rest_text, whole_text}
+use Rattle.chr_run.specs.Sending.{AreOut, GoOn, rest_text, whole_text}
 use Rattle.chr_run.specs.Turns.{IsOfRun, IsThrough, Turns}
 use Rattle.chr_trace.proofs.Bodies.{lines_text-append}
 use Rattle.chr_run.proofs.Ends.{sent_and_rest}
@@ -23,11 +23,14 @@ module _ (old mid new : Option (List ℕ)) (lines : List (List ℕ)) (sent : ℕ
   pub left_out : IsOut old mid (lines_text lines) (lines_text (drop sent lines))
   left_out = record { out = lines_text (take sent lines); whole = split lines sent; appends = h.appends }
 
-  -- the rest goes out too
-  pub sent_all : Appends mid new (lines_text (drop sent lines)) → AreOut old new lines (length lines)
-  sent_all k =
-      let whole : lines_text (take sent lines) ++ lines_text (drop sent lines) ≡ lines_text (take (length lines) lines) = sym (split lines sent) ∙ ap lines_text (sym (take_all (length lines) lines (omega arith))) in
-      record { few = omega arith; appends = subst (Appends old new) whole (appends-both old mid new (lines_text (take sent lines)) (lines_text (drop sent lines)) h.appends k) }
+  -- further lines go out too
+  pub sent_on : (count : ℕ) → GoOn mid new lines sent count → AreOut old new lines count
+  sent_on count k =
+      let onward = k.onward in
+      let first : take sent (take count lines) ≡ take sent lines = take-take sent count lines onward in
+      let further = lines_text (drop sent (take count lines)) in
+      let whole : lines_text (take sent lines) ++ further ≡ lines_text (take count lines) = ap (λ (ls : List (List ℕ)). lines_text ls ++ further) (sym first) ∙ sym (split (take count lines) sent) in
+      record { few = k.few; appends = subst (Appends old new) whole (appends-both old mid new (lines_text (take sent lines)) further h.appends k.appends) }
 
   -- or a first part of it
   pub sent_cut : AppendsPart mid new (lines_text (drop sent lines)) → AppendsPart old new (lines_text lines)
@@ -68,6 +71,21 @@ done_same {J} {A} {X} {G} known n old before k k' x x' sent sent' e f h done =
     subst (λ (j : Coordinator J A G). IsDone n old before j (known x) sent) (sym e)
     (subst (λ (y : X). IsDone n old before k' (known y) sent) (sym f)
     (subst (λ (s : ℕ). IsDone n old before k' (known x') s) (sym h) done))
+
+-- a run is cut off where it stands, and a first part of its lines is out
+pub cut_off : {J A E : Type 0} {G : Ghosts J} (n : ℕ) (old was now : Coordinator J A G) (before after : Option (List ℕ)) (e : E) → IsOfRun old was → machine_by now ≡ machine_by was → query_by now ≡ query_by was → workers_by now ≡ workers_by was
+    → (machine_by was).steps ≤ n → AppendsPart before after (lines_text (machine_by was).lines) → Turns n old now before after (Err e)
+cut_off n old was now before after e same stays query workers few part = record {
+  same = record {
+    names_are = ap (λ (m : Model). m.names) stays ∙ same.names_are;
+    query_is = query ∙ same.query_is;
+    workers_are = workers ∙ same.workers_are;
+  };
+  through = tt;
+  rests = tt;
+  text = tt;
+  part = inl (subst (λ (m : Model). m.steps ≤ n) (sym stays) few, subst (λ (m : Model). AppendsPart before after (lines_text m.lines)) (sym stays) part);
+}
 
 -- a run that is through goes out to its end, or a first part of it
 pub ends : {J A E : Type 0} {G : Ghosts J} (n : ℕ) (old k : Coordinator J A G) (before mid after : Option (List ℕ)) (sent : ℕ) (r : Result (Unit {0}) E)

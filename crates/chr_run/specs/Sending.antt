@@ -25,6 +25,12 @@ pub record AreOut (old new : Option (List ℕ)) (lines : List (List ℕ)) (sent 
   pub few : sent ≤ length lines
   pub appends : Appends old new (lines_text (take sent lines))
 
+-- the lines from the sent-th to the count-th go out
+pub record GoOn (old new : Option (List ℕ)) (lines : List (List ℕ)) (sent count : ℕ) : Type 0 where
+  pub onward : sent ≤ count
+  pub few : count ≤ length lines
+  pub appends : Appends old new (lines_text (drop sent (take count lines)))
+
 -- the lines after the trace
 abbrev pub end_lines : Model → List (List ℕ)
 end_lines m = outcome m.names m.var_names m.rules (state_in m)

@@ -16,9 +16,10 @@ use self::reporting::{Options, report};
 use self::source::{Source, read_source, say_missing};
 use self::streams::Streams;
 use crate::error::{RunError, TextError};
+use crate::limits::Portion;
 use crate::output::write_bytes;
 use crate::refusal::{say, say_refusal};
-use crate::runs::run_text;
+use crate::runs::run_text_by;
 use chr_machine::Status;
 use chr_words::{Creates, Opens, Request, asked};
 use std::alloc::Global;
@@ -75,7 +76,16 @@ fn run_source<R: Threads + Wait + Sync, O: Creates, I, W: Write, E: Write>(
     let (query, program) = source.texts();
     let budget = options.budget.unwrap_or(BUDGET);
     let workers = options.workers.unwrap_or(0);
-    match run_text(rt, alloc, program, query, budget, workers, output) {
+    match run_text_by(
+        rt,
+        alloc,
+        program,
+        query,
+        budget,
+        workers,
+        Portion::Block,
+        output,
+    ) {
         Ok(run) => report(alloc, files, &run, options, error),
         Err(refusal) => refuse(error, refusal),
     }
@@ -118,10 +128,10 @@ fn show<W: Write, E: Write>(text: &str, output: &mut W, error: &mut E) -> u8
 
 /// What the program `chr` does with the words after its name: PROGRAM, the path of a file, then QUERY, the text of a query, and either
 /// `--replay FILE`, or `--budget N`, `--workers W`, `--record FILE` and `--totals`. With neither PROGRAM nor QUERY the first line of the input
-/// is the query, and the rest is the program. The text of the run goes out, of 100,000 transitions where there is no N and with no worker
-/// where there is no W; then its schedule is written to the file of `--record`, and with `--totals` its counts and totals are said on `error`.
-/// Or the text goes out of the replay of the schedule in a file, whose counts are said on `error`, or that of `--help`. The answer is the exit
-/// status: 0 done, 2 refused, 3 failed, 4 a fault, 5 the budget used up. Where it is 2, a line on `error` says why.
+/// is the query, and the rest is the program. The text of the run goes out, many lines by one write, of 100,000 transitions where there is no N
+/// and with no worker where there is no W; then its schedule is written to the file of `--record`, and with `--totals` its counts and totals
+/// are said on `error`. Or the text goes out of the replay of the schedule in a file, whose counts are said on `error`, or that of `--help`.
+/// The answer is the exit status: 0 done, 2 refused, 3 failed, 4 a fault, 5 the budget used up. Where it is 2, a line on `error` says why.
 pub fn command<R: Threads + Wait + Sync, O: Opens + Creates, I: Read, W: Write, E: Write>(
     rt: &R,
     alloc: Global,

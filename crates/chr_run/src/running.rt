@@ -1,6 +1,5 @@
 //! Runs with workers: whatever they answer, and whenever, a run gives what one thread gives.
-ghost use Rattle.std.specs.Prelude.{◌≡◌, ◌≤◌, IfErr, IfOk, OnErr, OnOk, drop, length};
-ghost use Rattle.std.specs.Io.KnownBytes.{Appends};
+ghost use Rattle.std.specs.Prelude.{◌≡◌, ◌≤◌, IfErr, IfOk, OnErr, drop, length};
 ghost use Rattle.chr_semantics.specs.Bounds.{IsQueryBounded};
 ghost use Rattle.chr_semantics.specs.Outcome.{run_refusal};
 ghost use Rattle.chr_semantics.specs.Text.{lines_text};
@@ -12,11 +11,12 @@ ghost use Rattle.chr_policy.specs.CoordinatorView.{IsAtRest, machine_by};
 ghost use Rattle.chr_run.specs.Headline.{IsRun, refusal_as};
 ghost use Rattle.chr_run.specs.Jobs.{Does};
 ghost use Rattle.chr_run.specs.Output.{AppendsPart};
+ghost use Rattle.chr_run.specs.Sending.{GoOn};
 ghost use Rattle.chr_run.specs.Turns.{Turns};
 
 use crate::error::RunError;
 use crate::job::Job;
-use crate::limits::Limits;
+use crate::limits::{Limits, Portion};
 use crate::outlet::{Cut, Outlet, Silence};
 use crate::result::{Run, with_workers};
 use chr_board::{Board, Gate, Tally};
@@ -30,28 +30,32 @@ use std::marker::Brand;
 use std::sync::Wait;
 use std::thread::Threads;
 
-/// Sends out the lines from the `sent`-th on, or a first part of them. The answer is how many lines there are.
+/// Sends out the lines from the `sent`-th on where they make a portion, or a first part of them. The answer is how many lines are out.
 fn send_further<A: Allocator + Copy, O: Outlet>(
     machine: &Machine<'_, A>,
     sent: usize,
+    portion: Portion,
     outlet: &mut O,
 ) -> Result<usize, Cut<O::Error>>
     requires { sent ≤ length (machine_view machine.now).lines }
-    ensures count { IfOk result (λ count. count ≡ length (machine_view machine.now).lines) }
-    ensures ok { OnOk result (Appends (O.known outlet.old) (O.known outlet.new)
-        (lines_text (drop sent (machine_view machine.now).lines))) }
+    ensures ok { IfOk result
+        (GoOn (O.known outlet.old) (O.known outlet.new) (machine_view machine.now).lines sent) }
     ensures part { OnErr result (AppendsPart (O.known outlet.old) (O.known outlet.new)
         (lines_text (drop sent (machine_view machine.now).lines))) }
 {
     let lines = machine.lines();
-    match outlet.send(lines.text_from(sent)) {
+    let text = lines.text_from(sent);
+    if text.len() < portion.bytes() {
+        return Ok(sent);
+    }
+    match outlet.send(text) {
         Ok(()) => Ok(lines.len()),
         Err(error) => Err(Cut::Unsent(error)),
     }
 }
 
-/// Makes the transitions of the budget, or as many as there are. Each line is out before the next transition, and the rest of the text
-/// after the last one. The buffer is used for that.
+/// Makes the transitions of the budget, or as many as there are. Each portion of lines is out before the next transition, and the rest of the
+/// text after the last one. The buffer is used for that.
 fn make_transitions<J: RunName, A: Allocator + Copy, G: Gate, O: Outlet>(
     rt: &impl Wait,
     coordinator: &mut Coordinator<'_, J, A>,
@@ -59,6 +63,7 @@ fn make_transitions<J: RunName, A: Allocator + Copy, G: Gate, O: Outlet>(
     board: &Board<J, A>,
     gate: &G,
     budget: u64,
+    portion: Portion,
     buffer: &mut Vec<u8, A>,
     outlet: &mut O,
 ) -> Result<(), Cut<O::Error>>
@@ -71,9 +76,13 @@ fn make_transitions<J: RunName, A: Allocator + Copy, G: Gate, O: Outlet>(
     let mut sent = 0;
     let mut transitions = 0;
     while transitions < budget {
-        sent = send_further(coordinator.machine(), sent, outlet)?;
+        sent = send_further(coordinator.machine(), sent, portion, outlet)?;
         match coordinator.turn(rt, shelf, board, gate) {
-            Err(_) => return Err(Cut::Memory),
+            Err(_) => {
+                // What was made goes out first.
+                let _all = send_further(coordinator.machine(), sent, Portion::Line, outlet)?;
+                return Err(Cut::Memory);
+            }
             Ok(Stepped::Moved) => transitions += 1,
             Ok(Stepped::Ended) => break,
             Ok(Stepped::Spent) => break,
@@ -109,7 +118,7 @@ fn turns_beside<
     requires start { (machine_by coordinator.old).steps ≡ 0 }
     ensures { Turns limits.now.budget coordinator.old coordinator.new (O.known outlet.old) (O.known outlet.new) result.0 }
 {
-    let budget = limits.budget;
+    let (budget, portion) = (limits.budget, limits.portion);
     let mut buffer = Vec::new(alloc);
     let mut turns = || -> Result<(), Cut<O::Error>>
         requires { (shelf.now ≡ J.shelf) × IsAtRest coordinator.now
@@ -124,6 +133,7 @@ fn turns_beside<
             board,
             gate,
             budget,
+            portion,
             &mut buffer,
             outlet,
         );
@@ -224,7 +234,7 @@ pub fn run<A: Allocator + Copy + Send + Sync, G: Gate, R: Threads + Wait + Sync>
     ensures ok { IfOk result (λ run. IsRun (names_of program.now) (rules_of program.now) (query_view query) n workers run) }
     ensures err { IfErr result (λ error. run_refusal n workers ≡ refusal_as error) }
 {
-    let limits = Limits::new(n, workers)?;
+    let limits = Limits::new(n, workers, Portion::Block)?;
     let job = Job {
         program,
         query,

@@ -10,7 +10,7 @@ ghost use Rattle.chr_run.specs.Texts.{IsProgramError, IsQueryError, IsTextError,
 
 use crate::error::{RunError, TextError};
 use crate::job::Job;
-use crate::limits::Limits;
+use crate::limits::{Limits, Portion};
 use crate::outlet::Cut;
 use crate::result::Run;
 use crate::running::run_job;
@@ -58,7 +58,7 @@ pub fn run_into<A: Allocator + Copy + Send + Sync, G: Gate, R: Threads + Wait + 
     ensures { IsInto (names_of program.now) (rules_of program.now) (query_view query) n workers
         (W.contents writer.old) (W.contents writer.new) result }
 {
-    match Limits::new(n, workers) {
+    match Limits::new(n, workers, Portion::Line) {
         Err(error) => Err(TextError::Run(error)),
         Ok(limits) => {
             let job = Job {
@@ -161,9 +161,31 @@ fn write_texts<A: Allocator + Copy + Send + Sync, R: Threads + Wait + Sync, W: W
     write_job(rt, alloc, job, &NoGate, writer)
 }
 
-/// Reads a program and a query, runs the first n transitions, while `workers` workers search ahead, and writes the text of the run. The limits
-/// are looked at first, then the program, then the query. After Write or want of memory what went out is a first part of that text; after
-/// another refusal nothing went out.
+/// `run_text`, whose lines go out in these portions.
+pub(crate) fn run_text_by<A: Allocator + Copy + Send + Sync, R: Threads + Wait + Sync, W: Write>(
+    rt: &R,
+    alloc: A,
+    program: &[u8],
+    query: &[u8],
+    n: u64,
+    workers: u32,
+    portion: Portion,
+    writer: &mut W,
+) -> Result<Run<A>, TextError>
+    ensures { IsTextRun program.now query.now n workers (W.contents writer.old)
+        (W.contents writer.new) result }
+{
+    let limits = match Limits::new(n, workers, portion) {
+        Ok(limits) => limits,
+        Err(refused) => return Err(TextError::Run(refused)),
+    };
+    let texts = accepted(alloc, program, query)?;
+    write_texts(rt, alloc, texts, limits, writer)
+}
+
+/// Reads a program and a query, runs the first n transitions, while `workers` workers search ahead, and writes the text of the run, each line of
+/// its trace before the next transition. The limits are looked at first, then the program, then the query. After Write or want of memory what
+/// went out is a first part of that text; after another refusal nothing went out.
 pub fn run_text<A: Allocator + Copy + Send + Sync, R: Threads + Wait + Sync, W: Write>(
     rt: &R,
     alloc: A,
@@ -176,10 +198,5 @@ pub fn run_text<A: Allocator + Copy + Send + Sync, R: Threads + Wait + Sync, W: 
     ensures { IsTextRun program.now query.now n workers (W.contents writer.old)
         (W.contents writer.new) result }
 {
-    let limits = match Limits::new(n, workers) {
-        Ok(limits) => limits,
-        Err(refused) => return Err(TextError::Run(refused)),
-    };
-    let texts = accepted(alloc, program, query)?;
-    write_texts(rt, alloc, texts, limits, writer)
+    run_text_by(rt, alloc, program, query, n, workers, Portion::Line, writer)
 }

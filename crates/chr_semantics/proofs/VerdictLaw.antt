@@ -54,12 +54,12 @@ absence s (i ∷ ids) = by (is_some (atom_of s.store i)) (absence s ids)
     by true h = h
     by false h = gone (nat_lt i s.next_id) i
 
-repetition : (seen ids : List ℕ) → IsHindrance (first_repeated seen ids) (is_none (first_repeated seen ids))
-repetition seen [] = refl
-repetition seen (i ∷ ids) = by (has_number seen i) (repetition (i ∷ seen) ids)
+repetition : (ids : List ℕ) → IsHindrance (first_repeated ids) (is_none (first_repeated ids))
+repetition [] = refl
+repetition (i ∷ ids) = by (has_number ids i) (repetition ids)
   where
-    by : (b : Bool) → IsHindrance (first_repeated (i ∷ seen) ids) (is_none (first_repeated (i ∷ seen) ids))
-        → IsHindrance (cond b (Some (twice i)) (first_repeated (i ∷ seen) ids)) (is_none (cond b (Some (twice i)) (first_repeated (i ∷ seen) ids)))
+    by : (b : Bool) → IsHindrance (first_repeated ids) (is_none (first_repeated ids))
+        → IsHindrance (cond b (Some (twice i)) (first_repeated ids)) (is_none (cond b (Some (twice i)) (first_repeated ids)))
     by true h = (refl, refl, refl)
     by false h = h
 
@@ -177,9 +177,9 @@ could_by false now None None lives differ v passes h k same is = is ∙ all_left
 
 could : (s : State) (r : ℕ) (rule : Rule) (ids : List ℕ) → is_could_fire (verdict s r rule ids) ≡ can_fire_with s r rule ids
 could s r rule ids =
-    could_by (fired_before s.history r ids) (fired_before s.history r (ids_of (rows_of (rows s) ids))) (first_absent s ids) (first_repeated [] ids) (list_all (λ i. is_some (atom_of s.store i)) ids) (is_none (first_repeated [] ids))
+    could_by (fired_before s.history r ids) (fired_before s.history r (ids_of (rows_of (rows s) ids))) (first_absent s ids) (first_repeated ids) (list_all (λ i. is_some (atom_of s.store i)) ids) (is_none (first_repeated ids))
     (or_else (first_of_another 1 rule.heads (rows_of (rows s) ids)) (of_rows rule (rows_of (rows s) ids))) (passes_guard rule (fits rule.heads (rows_of (rows s) ids)))
-    (absence s ids) (repetition [] ids) (λ h. ap (fired_before s.history r) (same_rows s ids h)) (by_rows rule (rows_of (rows s) ids) (fits rule.heads (rows_of (rows s) ids)) refl)
+    (absence s ids) (repetition ids) (λ h. ap (fired_before s.history r) (same_rows s ids h)) (by_rows rule (rows_of (rows s) ids) (fits rule.heads (rows_of (rows s) ids)) refl)
 
 -- ---- for good
 
@@ -216,7 +216,7 @@ of_its_rows : (s : State) (r : ℕ) (rule : Rule) (ids : List ℕ) (w : Verdict)
     → (let rs = rows_of (rows s) ids in OfRows (list_all (λ i. is_some (atom_of s.store i)) ids) (first_of_another 1 rule.heads rs) (of_rows rule rs) w)
 of_its_rows s r rule ids w e of =
     let rs = rows_of (rows s) ids in
-    parts_of (fired_before s.history r ids) (first_absent s ids) (first_repeated [] ids) (first_of_another 1 rule.heads rs) _ _ (of_rows rule rs) w (absence s ids) (repetition [] ids) (λ v is. (another 1 rule.heads rs v is).1) e of
+    parts_of (fired_before s.history r ids) (first_absent s ids) (first_repeated ids) (first_of_another 1 rule.heads rs) _ _ (of_rows rule rs) w (absence s ids) (repetition ids) (λ v is. (another 1 rule.heads rs v is).1) e of
 
 unlike_parted : (rule : Rule) (rs : List Row) (j : Joining) (way : List ℕ) (t u : Tree) → of_joining rule rs j ≡ unlike way t u → j ≡ parted way t u
 unlike_parted rule rs (joined w) way t u e = absurd (not_both is_unlike _ (unlike way t u) (joined_not_unlike rule rs w (fits rule.heads rs)) refl e)
@@ -267,7 +267,7 @@ never_fires : (s t : State) → GoesOn s t → Ascends 0 s.store s.next_id → (
 never_fires s t on h r rule ids way x y e fires =
     let parts = of_its_rows s r rule ids (unlike way x y) e refl in
     let now = and_parts (list_all (λ i. is_some (atom_of t.store i)) ids) _ fires in
-    let passes = and_parts (passes_guard rule (fits rule.heads (rows_of (rows t) ids))) _ (and_parts (is_none (first_repeated [] ids)) _ now.1).1 in
+    let passes = and_parts (passes_guard rule (fits rule.heads (rows_of (rows t) ids))) _ (and_parts (is_none (first_repeated ids)) _ now.1).1 in
     let m = some_match rule (fits rule.heads (rows_of (rows t) ids)) passes.0 in
     subst (Meets (beside (past (row_vars (rows_of (rows s) ids))) (value_at t.subst) m.0)) (unlike_parted rule (rows_of (rows s) ids) (join_rows [] (past (row_vars (rows_of (rows s) ids))) 1 rule.heads (rows_of (rows s) ids)) way x y parts.is)
     (not_parted (value_at t.subst) m.0 rule.heads (rows_of (rows s) ids) (rows_of (rows t) ids) (bound_rows s t on h ids parts.live now.0) m.1)

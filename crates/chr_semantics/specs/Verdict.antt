@@ -127,9 +127,9 @@ abbrev pub first_absent : State → List ℕ → Option Verdict
 first_absent s [] = None
 first_absent s (i ∷ ids) = cond (is_some (atom_of s.store i)) (first_absent s ids) (Some (cond (nat_lt i s.next_id) (removed i) (not_yet_there i)))
 
-abbrev pub first_repeated : List ℕ → List ℕ → Option Verdict
-first_repeated seen [] = None
-first_repeated seen (i ∷ ids) = cond (has_number seen i) (Some (twice i)) (first_repeated (i ∷ seen) ids)
+abbrev pub first_repeated : List ℕ → Option Verdict
+first_repeated [] = None
+first_repeated (i ∷ ids) = cond (has_number ids i) (Some (twice i)) (first_repeated ids)
 
 abbrev pub first_of_another : ℕ → List Head → List Row → Option Verdict
 first_of_another k [] rs = None
@@ -171,12 +171,12 @@ abbrev pub verdict : State → ℕ → Rule → List ℕ → Verdict
 verdict s r rule ids =
     let rs = rows_of (rows s) ids in
     cond (fired_before s.history r ids) fired
-    (or_else (first_absent s ids) (or_else (first_repeated [] ids) (or_else (first_of_another 1 rule.heads rs) (of_rows rule rs))))
+    (or_else (first_absent s ids) (or_else (first_repeated ids) (or_else (first_of_another 1 rule.heads rs) (of_rows rule rs))))
 
 -- all these constraints live, their identities differ, and the rule can fire with them
 abbrev pub can_fire_with : State → ℕ → Rule → List ℕ → Bool
 can_fire_with s r rule ids =
-    list_all (λ i. is_some (atom_of s.store i)) ids && (is_none (first_repeated [] ids) && can_fire s.history r rule (rows_of (rows s) ids))
+    list_all (λ i. is_some (atom_of s.store i)) ids && (is_none (first_repeated ids) && can_fire s.history r rule (rows_of (rows s) ids))
 
 -- how far a list came: the place of what stands in its way among the kinds of verdicts, in the order in which they count
 abbrev pub stage : Verdict → ℕ

@@ -7,7 +7,7 @@ ghost use Rattle.chr_semantics.specs.State.{done, running};
 ghost use Rattle.chr_semantics.specs.Verdict.{could_fire, fired, guard, never, not_yet_there, other_symbol, removed, twice, undecided, unlike, untrue, waits};
 ghost use Rattle.chr_semantics.specs.Examples.Terms.{number, term};
 ghost use Rattle.chr_semantics.specs.Examples.Example.{EndsAfter, state_after};
-ghost use Rattle.chr_semantics.specs.Examples.Verdicts.{came_in, could_in, dup_rule, gone_in, looking_after, paths, positive, positive_rule, prune_rule, pruning, same_rule, scheduling, taken_in, twice_rule, unlike_first, urgent_rule, verdict_after};
+ghost use Rattle.chr_semantics.specs.Examples.Verdicts.{came_in, could_in, dup_rule, firings_in, gone_in, looks_in, made_in, paths, positive, positive_rule, prune_rule, pruning, same_rule, scheduling, taken_in, twice_rule, unlike_first, urgent_rule, verdict_after};
 
 /// Of `prune`, which waits for an integer: lists of constraints that have come or not, in order or
 /// not, and of `same`, whose head needs two variables to be one.
@@ -41,21 +41,26 @@ pub fn looked_for_once()
     ensures first_came { came_in pruning 7 1 ≡ Some 1 }
     ensures second_came { came_in pruning 7 2 ≡ Some 5 }
     ensures stays { gone_in pruning 7 2 ≡ None }
-    ensures looked_for { looking_after pruning 5 1 (1 ∷ 2 ∷ []) ≡ Some 2 }
-    ensures not_before { looking_after pruning 4 1 (1 ∷ 2 ∷ []) ≡ None }
+    ensures looked_for { looks_in pruning 7 1 prune_rule (1 ∷ 2 ∷ []) ≡ (6, 2, guard 1 undecided) ∷ [] }
     ensures never_could { could_in pruning 7 1 prune_rule (1 ∷ 2 ∷ []) ≡ None }
 {}
 
 /// A list that could fire once, and whose constraints went to an earlier rule.
 pub fn too_late()
     ensures ends { EndsAfter scheduling 20 done }
+    ensures fired { firings_in scheduling 20
+        ≡ (10, 0, 1 ∷ 3 ∷ []) ∷ (15, 2, 5 ∷ 4 ∷ []) ∷ (17, 0, 2 ∷ 6 ∷ []) ∷ [] }
     ensures task_came { came_in scheduling 20 2 ≡ Some 5 }
     ensures task_went { gone_in scheduling 20 2 ≡ Some 17 }
     ensures task_taken { taken_in scheduling 20 2 ≡ Some (0, 2 ∷ 6 ∷ []) }
     ensures free_came { came_in scheduling 20 3 ≡ Some 9 }
     ensures free_went { gone_in scheduling 20 3 ≡ Some 10 }
     ensures free_taken { taken_in scheduling 20 3 ≡ Some (0, 1 ∷ 3 ∷ []) }
+    ensures of_query { made_in scheduling 20 3 ≡ None }
+    ensures run_made { made_in scheduling 20 4 ≡ Some (0, 1 ∷ 3 ∷ []) }
+    ensures free_made { made_in scheduling 20 6 ≡ Some (2, 5 ∷ 4 ∷ []) }
     ensures could { could_in scheduling 20 1 urgent_rule (2 ∷ 3 ∷ []) ≡ Some 9 }
+    ensures not_looked_for { looks_in scheduling 20 1 urgent_rule (2 ∷ 3 ∷ []) ≡ [] }
     ensures removed { verdict_after scheduling 20 1 urgent_rule (2 ∷ 3 ∷ []) ≡ removed 2 }
 {}
 
@@ -65,5 +70,6 @@ pub fn not_reached()
     ensures first_came { came_in paths 24 4 ≡ Some 13 }
     ensures second_came { came_in paths 24 6 ≡ Some 17 }
     ensures could { could_in paths 24 2 dup_rule (4 ∷ 6 ∷ []) ≡ Some 17 }
+    ensures not_looked_for { looks_in paths 24 2 dup_rule (4 ∷ 6 ∷ []) ≡ [] }
     ensures still { verdict_after paths 24 2 dup_rule (4 ∷ 6 ∷ []) ≡ could_fire }
 {}

@@ -1,8 +1,8 @@
-//! Inputs that are read whole.
+//! Inputs that are read whole, and what `command` writes.
 ghost use Rattle.std.specs.Prelude.{None};
 
 use super::*;
-use chr_words::{Opens, read_file};
+use chr_words::{Creates, Opens, read_file};
 use std::io::Read;
 
 /// Gives the spaces that are left, one at a call.
@@ -34,6 +34,16 @@ impl Opens for SpacesOf {
     }
 }
 
+impl Creates for SpacesOf {
+    type Sink = Sink;
+
+    ghost fresh = { λ _ _. None };
+
+    fn create(&self, _path: &str) -> std::io::Result<Sink> {
+        Err(Error::from(ErrorKind::PermissionDenied))
+    }
+}
+
 /// An input is read by at most a million calls, of which the last one sees its end.
 #[test]
 fn a_million_calls(rt: HostRuntime) {
@@ -44,4 +54,33 @@ fn a_million_calls(rt: HostRuntime) {
             is_read
         );
     }
+}
+
+/// The program `chr` with no words, and these as its input.
+fn chr<R: Threads + Wait + Sync>(
+    rt: &R,
+    alloc: Global,
+    mut input: &[u8],
+    output: &mut Sink,
+    error: &mut Sink,
+) -> u8 {
+    let words: &[String] = &[];
+    command(rt, alloc, words, &SpacesOf(0), &mut input, output, error)
+}
+
+/// Over 1,000 lines of a run go out by at most 20 writes.
+#[test]
+fn lines_go_out_together(rt: HostRuntime) -> Result<(), Fail> {
+    let mut input = Vec::new(rt.alloc());
+    input.extend_from_slice(b"gcd(1), gcd(500).\n")?;
+    input.extend_from_slice(GCD.program.as_bytes())?;
+    let mut output = Sink::new(rt.alloc(), usize::MAX, 20);
+    let mut error = Sink::new(rt.alloc(), usize::MAX, 0);
+    assert_eq!(rt;
+        chr(&rt, rt.alloc(), input.as_slice(), &mut output, &mut error),
+        0
+    );
+    let lines = output.text.iter().filter(|byte| **byte == b'\n').count();
+    assert!(rt; lines > 1_000);
+    Ok(())
 }

@@ -3,7 +3,7 @@ use Rattle.std.specs.Prelude.{ℕ, List, [], ◌∷◌, Option, codes}
 use Rattle.chr_semantics.specs.Tree.{Tree, var}
 use Rattle.chr_semantics.specs.Program.{Rule, compares, fail, greater, is_integer}
 use Rattle.chr_semantics.specs.State.{start}
-use Rattle.chr_semantics.specs.Life.{came, could_from, gone, looks_for, taken_by}
+use Rattle.chr_semantics.specs.Life.{came, could_from, firings, gone, looks, made_by, taken_by}
 use Rattle.chr_semantics.specs.Verdict.{Verdict, verdict}
 use Rattle.chr_semantics.specs.Examples.Terms.{chr, head, nil, number, pair, term}
 use Rattle.chr_semantics.specs.Examples.Example.{Example, state_after}
@@ -138,7 +138,11 @@ paths = record {
   query = record { goals = chr 7 (constant 9 ∷ constant 10 ∷ []) ∷ chr 7 (constant 10 ∷ constant 9 ∷ []) ∷ []; var_names = [] };
 }
 
--- in the first n transitions: when a constraint came and went, by which firing, and from when on a list could fire
+-- in the first n transitions: what fired; when a constraint came and went, and which firings made it and took it out; where a list was looked
+-- for, and from when on it could fire
+abbrev pub firings_in : Example → ℕ → List (ℕ × ℕ × List ℕ)
+firings_in e n = firings e.program (start e.query) n
+
 abbrev pub came_in : Example → ℕ → ℕ → Option ℕ
 came_in e n i = came e.program (start e.query) n i
 
@@ -148,12 +152,14 @@ gone_in e n i = gone e.program (start e.query) n i
 abbrev pub taken_in : Example → ℕ → ℕ → Option (ℕ × List ℕ)
 taken_in e n i = taken_by e.program (start e.query) n i
 
+abbrev pub made_in : Example → ℕ → ℕ → Option (ℕ × List ℕ)
+made_in e n i = made_by e.program (start e.query) n i
+
+abbrev pub looks_in : Example → ℕ → ℕ → Rule → List ℕ → List (ℕ × ℕ × Verdict)
+looks_in e n r rule ids = looks e.program (start e.query) n r rule ids
+
 abbrev pub could_in : Example → ℕ → ℕ → Rule → List ℕ → Option ℕ
 could_in e n r rule ids = could_from e.program (start e.query) n r rule ids
-
--- whose search, in the transition after n, is for the list
-abbrev pub looking_after : Example → ℕ → ℕ → List ℕ → Option ℕ
-looking_after e n r ids = looks_for e.program (state_after e n) r ids
 
 -- the verdict after n transitions
 abbrev pub verdict_after : Example → ℕ → ℕ → Rule → List ℕ → Verdict

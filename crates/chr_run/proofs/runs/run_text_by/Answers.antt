@@ -2,7 +2,7 @@ use Rattle.chr_rules.specs.ProgramView.{names_of, rules_of}
 use Rattle.chr_rules.specs.RuleView.{query_view}
 use Rattle.chr_run.proofs.Accepted.{accepted_run}
 use Rattle.chr_run.proofs.Sends.{into_by}
-use Rattle.chr_run.proofs.runs.run_text.Goals as goal
+use Rattle.chr_run.proofs.runs.run_text_by.Goals as goal
 
 pub returns : goal.returns
 returns g c =

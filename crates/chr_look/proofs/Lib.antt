@@ -1,0 +1,6 @@
+pub mod Bounded
+pub mod Joined
+pub mod Judged
+pub mod Matched
+pub mod Pushed
+pub mod Variables

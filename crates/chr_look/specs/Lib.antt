@@ -1,0 +1,4 @@
+pub mod Joinings
+pub mod Matches
+pub mod Variables
+pub mod VerdictView
