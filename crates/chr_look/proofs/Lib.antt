@@ -1,6 +1,14 @@
+pub mod Altered
+pub mod Asked
 pub mod Bounded
+pub mod Fallen
 pub mod Joined
 pub mod Judged
+pub mod Listed
+pub mod Logged
 pub mod Matched
 pub mod Pushed
+pub mod Raised
+pub mod Removed
 pub mod Variables
+pub mod Watches

@@ -1,15 +1,24 @@
 //! What a run did, and why: verdicts on rules and lists of constraints.
 #![tactic(auto)]
 
+mod asking;
 mod constraint;
 mod hindrances;
 mod joining;
 mod judging;
+mod leaving;
+mod log;
+mod looked;
+mod looking;
 mod renaming;
 mod verdict;
+mod watching;
 
 pub use chr_term::Memory;
 pub use constraint::Constraint;
 pub use joining::Parting;
 pub use judging::judge;
+pub use log::Birth;
+pub use looking::{ListLog, Search, watch_list};
 pub use verdict::Verdict;
+pub use watching::{Watched, watch};
