@@ -1,5 +1,5 @@
 -- What a table that is fresh has of the constraints and the history of its base.
-use Rattle.std.proofs.Common.{◌≡◌, ◌∙◌, ◌==◌, ℕ, Bool, true, false, cond, List, [], ◌∷◌, Option, Some, None, Result, Ok, Err, Vec, ap, map, refl, subst, sym}
+use Rattle.std.proofs.Common.{◌≡◌, ◌∙◌, ◌+◌, ◌==◌, ℕ, Bool, true, false, cond, List, [], ◌∷◌, Option, Some, None, Result, Ok, Err, Vec, ap, arith, map, refl, subst, sym}
 use Rattle.std.specs.Prelude.{All, IfOk, is_some}
 use Rattle.std.proofs.lemmas.List.Elements.{All-weaker}
 use Rattle.std.specs.declared.alloc.AllocError.{AllocError}
@@ -12,7 +12,8 @@ use Rattle.std.proofs.lemmas.Option.{none-some}
 use Rattle.chr_semantics.proofs.Ground.{ground_stays_all}
 use Rattle.chr_semantics.specs.Subst.{Subst, value_at}
 use Rattle.chr_semantics.specs.Tree.{Trees, is_ground_trees}
-use Rattle.chr_rules.specs.RuleView.{goal_view}
+use Rattle.chr_semantics.specs.Tries.{capped, tried_tuples}
+use Rattle.chr_rules.specs.RuleView.{goal_view, rule_view}
 use Rattle.chr_rules.specs.declared.goal.Goal.{Goal}
 use Rattle.chr_base.specs.Standing.{AreStanding}
 use Rattle.chr_find.specs.Finding as table
@@ -23,8 +24,9 @@ use Rattle.chr_find.specs.declared.active.Cursor.{Cursor}
 use Rattle.chr_base.specs.Agreement.{is_alive, under}
 use Rattle.chr_base.specs.BaseView.{IsFresh, base_view}
 use Rattle.chr_base.specs.Model.{rows_of}
-use Rattle.chr_base.specs.Searching.{FindsFirst, FindsNext, IsBodyFor}
+use Rattle.chr_base.specs.Searching.{FindsFirst, FindsNext, IsBodyFor, IsTried, occurrence_of}
 use Rattle.chr_base.specs.declared.base.Base.{Base}
+use Rattle.chr_semantics.specs.Profile.{tries_of}
 
 over_resolved : (s : Subst) (n : ℕ) (rows : List Row) → AllOver n rows → AllOver n (map (λ (r : Row). (r.0, resolved_atom s r.1)) rows)
 over_resolved s n [] h = tt
@@ -80,6 +82,16 @@ module _ {A : Type 0} (b : Base A) (fresh : IsFresh b) where
   -- what does not stand there is nothing to search for
   pub found_none : (s : Active A) → None ≡ atom_at b.table s.id.0 → FindsFirst (base_view b) s None
   found_none s none a e = absurd (none-some a (none ∙ table_own s.id.0 a e))
+
+  -- how many lists it tries
+  pub tried_some : (s : Active A) (now : ℕ) (found : Option (List ℕ)) (a : Atom) → table.FindsFirst (base_view b).entries.list b.table s found 0 now → Some a ≡ atom_at b.table s.id.0 → IsTried (base_view b) s now
+  tried_some s now found a f there =
+      let n = tried_tuples (rows_of (base_view b)) (base_view b).entries.list s.number (rule_view s.rule.now) s.place (s.id.0, a) in
+      let all : 0 + n ≡ n = omega arith in
+      (f (rows_of (base_view b)) table_rows a (sym there)).1 ∙ ap capped all ∙ sym (ap (tries_of (rows_of (base_view b)) (base_view b).entries.list s.id.0 (occurrence_of s)) (table_rows.same s.id.0 ∙ sym there))
+
+  pub tried_none : (s : Active A) → None ≡ atom_at b.table s.id.0 → IsTried (base_view b) s 0
+  tried_none s none = sym (ap (tries_of (rows_of (base_view b)) (base_view b).entries.list s.id.0 (occurrence_of s)) (table_rows.same s.id.0 ∙ sym none))
 
   -- what does not live does not stand in the table
   pub found_dead : (i : ℕ) → atom_of (base_view b).store.rows i ≡ None → atom_at b.table i ≡ None

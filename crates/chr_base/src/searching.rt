@@ -19,7 +19,7 @@ use std::alloc::Allocator;
 impl<'p, A: Allocator + Copy> Base<'p, A> {
     ghost use Rattle.chr_base.specs.BaseView.{IsFresh, IsSameBase, base_view, program_of};
     ghost use Rattle.chr_base.specs.Bookmarks.{GoesOn};
-    ghost use Rattle.chr_base.specs.Searching.{FindsFirst, IsBodyFor};
+    ghost use Rattle.chr_base.specs.Searching.{FindsFirst, IsBodyFor, IsTried};
 
     /// Makes the table ready to be searched. Contracts see the same base, after a refusal too.
     pub fn freshen(&mut self) -> Result<(), Memory>
@@ -139,6 +139,33 @@ impl<'p, A: Allocator + Copy> Base<'p, A> {
             self.forget(active.id);
         }
         Ok(found)
+    }
+
+    /// How many lists a search of a table looks at that is ready for the active constraint.
+    fn tried(&self, active: &Active<'_, A>) -> Result<u64, Memory>
+        requires fresh { IsFresh self.now }
+        requires own { IsFor active.now.id.0 self.now.table }
+        ensures { IfOk result (IsTried (base_view self.now) active.now) }
+    {
+        let row = match self.row(active.id) {
+            None => return Ok(0),
+            Some(row) => row,
+        };
+        let mut tries = 0;
+        let _found = self.table.first(active, row, &self.history, &mut tries)?;
+        Ok(tries)
+    }
+
+    /// How many complete lists of partners a search for the active constraint looks at that begins anew: up to and with the first with which
+    /// the rule can fire, and no more than 64 bits count. Contracts see the same base, after a refusal too.
+    pub fn tries(&mut self, active: &Active<'_, A>) -> Result<u64, Memory>
+        ensures same { base_view self.new ≡ base_view self.old }
+        ensures fresh { OnOk result (IsFresh self.new) }
+        ensures tries { IfOk result (IsTried (base_view self.old) active.now) }
+        ensures program { program_of self.new ≡ program_of self.old }
+    {
+        self.ready(active.id)?;
+        self.tried(active)
     }
 
     /// The goals of the body of a rule that fires with constraints, given in head order, whose heads fit them.

@@ -19,8 +19,10 @@ use crate::renaming::are_unifiable;
 use chr_term::{Args, Sym, Term, copy, is_ground, same};
 use std::alloc::{Allocator, Global};
 
+mod applying;
 mod lack;
 
+pub use applying::applied;
 pub use lack::{Lack, lack_of};
 
 /// A test of a guard. Its terms are over the variables of the rule's heads.

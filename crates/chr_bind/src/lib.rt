@@ -21,5 +21,5 @@ pub use chr_term::Memory;
 pub use comparison::Comparison;
 pub use fault::Fault;
 pub use fitting::{fit, fit_or_spoil};
-pub use guard::{Lack, Test, guard_holds, holds, lack_of};
+pub use guard::{Lack, Test, applied, guard_holds, holds, lack_of};
 pub use matching::{Marks, Match};

@@ -10,5 +10,7 @@ pub mod Matched
 pub mod Pushed
 pub mod Raised
 pub mod Removed
+pub mod Searchings
 pub mod Variables
 pub mod Watches
+pub mod Woken

@@ -3,6 +3,7 @@ pub mod LogView
 pub mod Logs
 pub mod Looking
 pub mod Matches
+pub mod Searching
 pub mod Variables
 pub mod VerdictView
 pub mod Watching

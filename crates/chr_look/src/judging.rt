@@ -1,11 +1,11 @@
 //! Verdicts on a rule and lists of constraints.
-ghost use Rattle.std.specs.Prelude.{◌≡◌, ◌<◌, ◌+◌, ◌^◌, ◌++◌, [], ℕ, Bool, List, IfOk, OnOk, Some, length, map, slice_get};
+ghost use Rattle.std.specs.Prelude.{◌≡◌, ◌<◌, ◌+◌, ◌-◌, ◌^◌, ◌++◌, [], ℕ, Bool, List, IfOk, OnOk, Some, length, map, option_and_then, option_map, slice_get};
 ghost use Rattle.chr_semantics.specs.Bounds.{IsBounded};
 ghost use Rattle.chr_semantics.specs.Match.{fits};
 ghost use Rattle.chr_semantics.specs.Program as semantics;
 ghost use Rattle.chr_semantics.specs.State.{State, rows};
 ghost use Rattle.chr_semantics.specs.Subst.{Subst};
-ghost use Rattle.chr_semantics.specs.Verdict.{first_lack, first_of_another, of_match as of_its_match, of_rows, or_else, past, row_vars, rows_of, verdict};
+ghost use Rattle.chr_semantics.specs.Verdict.{applied as applied_by, first_lack, first_of_another, of_match as of_its_match, of_rows, or_else, past, row_vars, rows_of, tested, verdict};
 ghost use Rattle.chr_semantics.specs.declared.limits.TheConstants.{MAX_RULE_VARIABLES};
 ghost use Rattle.chr_bind.specs.Guards.{test_view};
 ghost use Rattle.chr_bind.specs.Matching.{AgreesWith};
@@ -23,7 +23,7 @@ use crate::hindrances::{absence, other_symbol, repetition, waiting};
 use crate::joining::join_heads;
 use crate::renaming::greatest_in;
 use crate::verdict::Verdict;
-use chr_bind::{Bindings, Match, Test, fit_or_spoil, holds, lack_of};
+use chr_bind::{Bindings, Match, Test, applied, fit_or_spoil, holds, lack_of};
 use chr_machine::Machine;
 use chr_rules::Rule;
 use chr_semantics::limits::MAX_RULE_VARIABLES;
@@ -185,6 +185,24 @@ fn judge_list<A: Allocator + Copy>(
     }
 }
 
+/// The constraints of identities, where they live, with the bindings of a run put in.
+fn constraints_of<A: Allocator + Copy>(
+    alloc: A,
+    machine: &Machine<'_, A>,
+    ids: HeadIds,
+) -> Result<Vec<Constraint<A>, A>, Memory>
+    ensures { IfOk result (λ constraints. rows_view constraints.items ≡ rows_of (rows (state_in (machine_view machine.now))) ids) }
+{
+    let mut constraints = Vec::with_capacity(alloc, ids.len())?;
+    push_constraints(
+        machine.store(),
+        machine.bindings(),
+        ids.as_slice(),
+        &mut constraints,
+    )?;
+    Ok(constraints)
+}
+
 /// The verdict on a rule and a list of different identities whose constraints live, with which the rule has not fired.
 fn judge_living<A: Allocator + Copy>(
     alloc: A,
@@ -197,15 +215,8 @@ fn judge_living<A: Allocator + Copy>(
         IfOk result (λ judged. (r : semantics.Rule) → slice_get m.rules rule ≡ Some r →
         verdict_view judged ≡ or_else (first_of_another 1 r.heads cs) (of_rows r cs)) }
 {
-    let rule = machine.program().rule(rule);
-    let mut constraints = Vec::with_capacity(alloc, ids.len())?;
-    push_constraints(
-        machine.store(),
-        machine.bindings(),
-        ids.as_slice(),
-        &mut constraints,
-    )?;
-    judge_list(alloc, rule, constraints.as_slice())
+    let constraints = constraints_of(alloc, machine, ids)?;
+    judge_list(alloc, machine.program().rule(rule), constraints.as_slice())
 }
 
 /// The verdict on a rule, by its number from 0, and a list of identities, one for each head, in the state of a run: why the rule does not fire
@@ -230,4 +241,54 @@ pub fn judge<A: Allocator + Copy>(
         return Ok(twice);
     }
     judge_living(alloc, machine, rule, ids)
+}
+
+/// The k-th test of a rule's guard, from 1.
+fn test_at<A: Allocator>(rule: &Rule<A>, k: usize) -> Option<&Test<A>>
+    ensures { option_map (λ t. t.now) result ≡ slice_get rule.now.guard.items (k - 1) }
+{
+    rule.guard.get(k.saturating_sub(1))
+}
+
+/// The k-th test, from 1, with what the rule's variables are matched to put in, where its heads match the constraints.
+fn test_applied<A: Allocator + Copy>(
+    alloc: A,
+    rule: &Rule<A>,
+    constraints: &[Constraint<A>],
+    k: usize,
+) -> Result<Option<Test<A>>, Memory>
+    requires { IsBounded (rule_view rule.now) }
+    ensures { let r = rule_view rule.now in IfOk result (λ test. option_map test_view test
+        ≡ option_and_then (λ m. option_map (applied_by m) (slice_get r.guard (k - 1))) (fits r.heads (rows_view constraints.now))) }
+{
+    let mut matching = Match::new();
+    if !match_heads(rule.heads.as_slice(), constraints, &mut matching) {
+        return Ok(None);
+    }
+    match test_at(rule, k) {
+        None => Ok(None),
+        Some(test) => Ok(Some(applied(alloc, test, &matching)?)),
+    }
+}
+
+/// The k-th test of a rule's guard, from 1, with what the rule's variables are matched to put in: as it stands where the heads of the rule, by
+/// its number from 0, match the constraints of a list of identities. The only error is want of memory.
+pub fn guard_test<A: Allocator + Copy>(
+    alloc: A,
+    machine: &Machine<'_, A>,
+    rule: usize,
+    ids: HeadIds,
+    k: usize,
+) -> Result<Option<Test<A>>, Memory>
+    requires { rule < length (machine_view machine.now).rules }
+    ensures { let m = machine_view machine.now in IfOk result (λ test. (r : semantics.Rule) →
+        slice_get m.rules rule ≡ Some r → option_map test_view test ≡ tested (state_in m) r ids k) }
+{
+    let constraints = constraints_of(alloc, machine, ids)?;
+    test_applied(
+        alloc,
+        machine.program().rule(rule),
+        constraints.as_slice(),
+        k,
+    )
 }

@@ -44,7 +44,7 @@ pub struct ListLog<A: Allocator = Global> {
 }
 
 /// Whether a run goes on.
-fn is_running(status: Status) -> bool
+pub(crate) fn is_running(status: Status) -> bool
     ensures { result ≡ steps.is_running (status_view status) }
 {
     match status {

@@ -1,6 +1,7 @@
 //! Runs that are watched: each transition is noted.
 ghost use Rattle.std.specs.Prelude.{◌≡◌, IfOk, OnOk, option_map};
 ghost use Rattle.chr_semantics.specs.Bounds.{IsQueryBounded};
+ghost use Rattle.chr_semantics.specs.Profile.{tries_next};
 ghost use Rattle.chr_semantics.specs.Program as semantics;
 ghost use Rattle.chr_semantics.specs.Search.{atom_of};
 ghost use Rattle.chr_rules.specs.ProgramView.{names_of, rules_of};
@@ -26,7 +27,7 @@ pub struct Watched<'p, A: Allocator + Copy = Global> {
 }
 
 /// What is looked at of the state of a run.
-fn sight_of<A: Allocator + Copy>(machine: &Machine<'_, A>) -> Sight
+pub(crate) fn sight_of<A: Allocator + Copy>(machine: &Machine<'_, A>) -> Sight
     ensures { sight_view result ≡ sight (state_in (machine_view machine.now)) }
 {
     Sight {
@@ -63,6 +64,16 @@ impl<'p, A: Allocator + Copy> Watched<'p, A> {
         let machine = Machine::start(alloc, program, query)?;
         let log = Log::new(alloc, machine.stack().len())?;
         Ok(Watched { machine, log })
+    }
+
+    /// How many complete lists a search that begins anew tries for the constraint that is active; 0 where the next transition makes no search.
+    /// Contracts see the same run.
+    pub fn tries(&mut self) -> Result<u64, Memory>
+        ensures same { machine_in self.new ≡ machine_in self.old }
+        ensures watched { (p : semantics.Program) (q : semantics.Query) → IsWatched p q self.old → IsWatched p q self.new }
+        ensures tries { let m = machine_in self.old in IfOk result (λ n. n ≡ tries_next m.rules (state_in m)) }
+    {
+        self.machine.tries()
     }
 
     /// Makes a transition and notes it, or answers that the run has ended or that the limit stands. After want of memory, the transition may

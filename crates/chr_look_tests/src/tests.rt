@@ -4,7 +4,9 @@ ghost use Rattle.chr_rules.specs.ProgramView.{rules_of};
 ghost use Rattle.chr_rules.specs.RuleView.{query_view};
 ghost use Rattle.chr_semantics.specs.Bounds.{IsQueryBounded};
 
-use chr_look::{ListLog, Verdict, Watched, judge, watch, watch_list};
+use chr_look::{
+    ListLog, Searched, Verdict, Watched, judge, watch, watch_life, watch_list, watch_searches,
+};
 use chr_machine::Id;
 use chr_rules::{Program, Query};
 use chr_store::HeadIds;
@@ -14,6 +16,8 @@ use std::alloc::Allocator;
 use std::process::Abort;
 use std::test::Fail;
 
+mod refusals;
+
 /// The greatest number of transitions.
 const BUDGET: u64 = 100;
 
@@ -22,6 +26,11 @@ const SCHEDULING: &str = ":- chr_constraint task/2, free/1, run/2, idle/1, done/
 assign @ task(T,P), free(M) <=> run(T,M).
 urgent @ task(T,high), free(M) <=> run(T,M), idle(M).
 finish @ done(T), run(T,M) <=> free(M).";
+
+/// A greatest common divisor, by subtraction.
+const DIVIDING: &str = ":- chr_constraint gcd/1.
+zero @ gcd(0) <=> true.
+subtract @ gcd(N) \\ gcd(M) <=> M >= N | L is M-N, gcd(L).";
 
 const TASKS: &str = "task(t1,low), task(t2,high), free(m1), done(t1).";
 
@@ -34,6 +43,27 @@ fn watched<'p, A: Allocator + Copy>(
     requires { IsQueryBounded (query_view query) }
 {
     watch(alloc, program, query, BUDGET)
+}
+
+fn life_watched<'p, A: Allocator + Copy>(
+    alloc: A,
+    program: &'p Program<A>,
+    query: Query<A>,
+    id: Id,
+) -> Result<(Watched<'p, A>, Vec<u64, A>), Memory>
+    requires { IsQueryBounded (query_view query) }
+{
+    watch_life(alloc, program, query, BUDGET, id)
+}
+
+fn searches_watched<'p, A: Allocator + Copy>(
+    alloc: A,
+    program: &'p Program<A>,
+    query: Query<A>,
+) -> Result<(Watched<'p, A>, Vec<Searched, A>), Memory>
+    requires { IsQueryBounded (query_view query) }
+{
+    watch_searches(alloc, program, query, BUDGET)
 }
 
 fn list_watched<'p, A: Allocator + Copy>(
@@ -108,5 +138,36 @@ fn a_list_comes_too_late(rt: HostRuntime) -> Result<(), Fail> {
             _ => panic!(&rt; "a constraint of it was removed"),
         }
     }
+    Ok(())
+}
+
+/// A search at a head of a rule.
+fn searched(rule: usize, head: usize, found: bool, tries: u64) -> Searched {
+    Searched {
+        rule,
+        head,
+        found,
+        tries,
+    }
+}
+
+/// Those of 4 and 2: each is tried with `zero`, then as the greater number, then as the less.
+#[test]
+fn searches_are_told(rt: HostRuntime) -> Result<(), Fail> {
+    let (program, query) = both_of(rt.alloc(), DIVIDING, "gcd(4), gcd(2).")?;
+    let (_, searches) = searches_watched(rt.alloc(), &program, query)?;
+    let expected = [
+        searched(0, 0, false, 0),
+        searched(1, 1, false, 0),
+        searched(1, 0, false, 0),
+        searched(0, 0, false, 0),
+        searched(1, 1, false, 1),
+        searched(1, 0, true, 1),
+        searched(0, 0, false, 0),
+        searched(1, 1, true, 1),
+        searched(0, 0, true, 1),
+        searched(1, 0, false, 0),
+    ];
+    assert!(&rt; searches.as_slice() == expected.as_slice());
     Ok(())
 }

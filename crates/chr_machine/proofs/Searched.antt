@@ -17,7 +17,8 @@ use Rattle.chr_base.specs.Agreement.{is_alive}
 use Rattle.chr_base.specs.Model.{rows_of}
 use Rattle.chr_base.specs.Searching.{FindsFirst}
 use Rattle.chr_base.proofs.FirstFound.{first_rows, lives_resolved}
-use Rattle.chr_machine.specs.Firing.{IsAt, IsFiring, atom_at, occurrence_of, search_in}
+use Rattle.chr_base.specs.Searching.{occurrence_of}
+use Rattle.chr_machine.specs.Firing.{IsAt, IsFiring, atom_at, search_in}
 use Rattle.chr_machine.specs.Model.{CourseModel}
 use Rattle.chr_machine.specs.declared.turning.ActiveConstraint.{ActiveConstraint}
 
@@ -34,12 +35,17 @@ occurrence_found p f j c s e rule number place =
     let place_is : w.o.place ≡ s.place = w.place ∙ sym place in
     w.is ∙ (λ k. Some (record { number = number_is k; rule = same k; place = place_is k }))
 
+-- the program is that of the run
+pub occurs_there : {A : Type 0} (p q : Program) (f j : ℕ) → p ≡ q → (c : Occurrence) (s : Active A) → Some (pair_view c) ≡ option_map pair_of (occurrence p f j) → slice_get p c.rule ≡ Some (rule_view s.rule.now) → s.number ≡ c.rule → s.place ≡ c.place
+    → occurrence q f j ≡ Some (occurrence_of s)
+occurs_there p q f j is c s e rule number place = ap (λ (q : Program). occurrence q f j) (sym is) ∙ occurrence_found p f j c s e rule number place
+
 -- an active constraint has its occurrence in the program
 pub stands : {A : Type 0} (m : CourseModel) (x : ActiveConstraint A) (p : Program) → p ≡ m.rules → (c : Occurrence) (s : Active A) → Some (pair_view c) ≡ option_map pair_of (occurrence p x.sym.0 x.occurrence) → slice_get p c.rule ≡ Some (rule_view s.rule.now) → s.number ≡ c.rule → s.place ≡ c.place → s.id.0 ≡ x.id.0
     → IsAt m s x
 stands m x p is c s e rule number place id = record {
   id = id;
-  occurs = ap (λ (q : Program). occurrence q x.sym.0 x.occurrence) (sym is) ∙ occurrence_found p x.sym.0 x.occurrence c s e rule number place;
+  occurs = occurs_there p m.rules x.sym.0 x.occurrence is c s e rule number place;
 }
 
 module _ {A : Type 0} (m : CourseModel) (s : Active A) (x : ActiveConstraint A) (at : IsAt m s x) where

@@ -4,7 +4,6 @@ use Rattle.std.specs.List.{fold}
 use Rattle.chr_semantics.specs.Bounds.{IsBounded}
 use Rattle.chr_semantics.specs.Changes.{entered, removed}
 use Rattle.chr_semantics.specs.Match.{Row, fits}
-use Rattle.chr_semantics.specs.Program as program
 use Rattle.chr_semantics.specs.Program.{Atom, Rule, occurrence}
 use Rattle.chr_semantics.specs.Search.{Found, atom_of, fired_before, firing, ids_of, no_firing, no_occurrence, search_for}
 use Rattle.chr_semantics.specs.State.{Element, active, goal, resolved_atom}
@@ -18,7 +17,7 @@ use Rattle.chr_term.specs.TermView.{atom_over}
 use Rattle.chr_base.specs.Agreement.{is_alive}
 use Rattle.chr_base.specs.BaseView.{base_view}
 use Rattle.chr_base.specs.Model.{BaseModel, rows_of}
-use Rattle.chr_base.specs.Searching.{FindsFirst}
+use Rattle.chr_base.specs.Searching.{FindsFirst, occurrence_of}
 use Rattle.chr_machine.specs.Model.{CourseModel, course_of, line_in, logged}
 use Rattle.chr_machine.specs.declared.course.Course.{Course}
 use Rattle.chr_machine.specs.declared.turning.ActiveConstraint.{ActiveConstraint}
@@ -36,10 +35,6 @@ top_at x = active x.id.0 x.occurrence (atom_at x)
 -- the search for the constraint i, whose goal is a, at its occurrence j
 abbrev pub search_in : CourseModel → ℕ → ℕ → Atom → Found
 search_in c i j a = search_for c.rules (rows_of c.base) c.base.entries.list a.sym i j
-
--- the occurrence at which a constraint is active
-abbrev pub occurrence_of : {A : Type 0} → Active A → program.Occurrence
-occurrence_of s = record { number = s.number; rule = rule_view s.rule.now; place = s.place }
 
 -- the active constraint has that occurrence
 pub record IsAt {A : Type 0} (c : CourseModel) (s : Active A) (x : ActiveConstraint A) : Type 0 where

@@ -12,3 +12,4 @@ pub mod Answering
 pub mod Gathering
 pub mod MachineView
 pub mod OutcomeView
+pub mod Trying

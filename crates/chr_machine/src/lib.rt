@@ -14,6 +14,7 @@ mod solving;
 mod stack;
 mod stepped;
 mod tasks;
+mod trying;
 mod turning;
 mod waking;
 

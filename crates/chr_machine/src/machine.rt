@@ -2,6 +2,7 @@
 ghost use Rattle.std.specs.Prelude.{◌≡◌, ◌≤◌, IfOk, OnErr, length, nat_le, option_map};
 ghost use Rattle.chr_semantics.specs.Bounds.{IsQueryBounded};
 ghost use Rattle.chr_semantics.specs.Outcome.{outcome_of};
+ghost use Rattle.chr_semantics.specs.Profile.{tries_next};
 ghost use Rattle.chr_semantics.specs.Snapshot.{snapshot_of};
 ghost use Rattle.chr_semantics.specs.Tasks.{guest, tasks};
 ghost use Rattle.chr_semantics.specs.declared.limits.TheConstants.{MAX_TRANSITIONS};
@@ -161,6 +162,17 @@ impl<'p, A: Allocator + Copy> Machine<'p, A> {
             IfOk result (λ shared. IsSnapshot shared (snapshot_of m.rules (state_in m))) }
     {
         self.execution.snapshot()
+    }
+
+    /// How many complete lists of partners a search that begins anew looks at for the constraint that is active on top, at its occurrence: up to
+    /// and with the first that can fire, and no more than 64 bits count. It is 0 where the next transition makes no search. The only error is
+    /// want of memory.
+    pub fn tries(&mut self) -> Result<u64, Memory>
+        ensures same { machine_view self.new ≡ machine_view self.old }
+        ensures tries { let m = machine_view self.old in
+            IfOk result (λ n. n ≡ tries_next m.rules (state_in m)) }
+    {
+        self.execution.tries()
     }
 
     /// What the run has come to, with its trace.

@@ -53,3 +53,5 @@ pub mod ReadBack
 pub mod FitsLaw
 pub mod CallsLaw
 pub mod IdleLaw
+pub mod HopelessLaw
+pub mod BarrenLaw

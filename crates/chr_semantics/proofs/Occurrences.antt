@@ -10,7 +10,7 @@ use Rattle.chr_semantics.proofs.FirstTuple.{HeadsKept}
 use Rattle.chr_semantics.proofs.Lists.{All-got, got_below}
 
 -- the head at the place is of the symbol, and is not passive
-record IsHeadOf (hs : List Head) (f place : ℕ) : Type 0 where
+pub record IsHeadOf (hs : List Head) (f place : ℕ) : Type 0 where
   pub head : Head
   pub there : slice_get hs place ≡ Some head
   pub of_symbol : (head.atom.sym == f) ≡ true
@@ -45,7 +45,7 @@ from_start : (hs : List Head) (f place : ℕ) → IsCounted hs f 0 place → IsH
 from_start hs f place c = let same : c.behind ≡ place = (let e : place ≡ 0 + c.behind = c.counted in omega (arith, e)) in subst (IsHeadOf hs f) same c.is_head
 
 -- each occurrence of the symbol stands at such a head
-abbrev OfSymbol : ℕ → Occurrence → Type 0
+abbrev pub OfSymbol : ℕ → Occurrence → Type 0
 OfSymbol f o = IsHeadOf o.rule.heads f o.place
 
 in_rule : (n f : ℕ) (r : Rule) → All (OfSymbol f) (map (λ k. record { number = n; rule = r; place = k }) (reverse (places_from 0 f r.heads)))
@@ -57,7 +57,8 @@ in_program : (f n : ℕ) (p : Program) → All (OfSymbol f) (occurrences_from n 
 in_program f n [] = All-nil (OfSymbol f)
 in_program f n (r ∷ p) = All-append (OfSymbol f) _ (occurrences_from (n + 1) p f) (in_rule n f r) (in_program f (n + 1) p)
 
-occurrence_at : (p : Program) (f j : ℕ) (o : Occurrence) → occurrence p f j ≡ Some o → OfSymbol f o
+-- an occurrence stands at a head of its symbol that is not passive
+pub occurrence_at : (p : Program) (f j : ℕ) (o : Occurrence) → occurrence p f j ≡ Some o → OfSymbol f o
 occurrence_at p f zero o e = cc
 occurrence_at p f (suc k) o e = All-got (OfSymbol f) (occurrences_from 0 p f) k o e (in_program f 0 p)
 

@@ -9,4 +9,6 @@ pub mod Searches
 pub mod Desks
 pub mod Calls
 pub mod Schedules
+pub mod Suspicions
 pub mod Verdicts
+pub mod Profiles

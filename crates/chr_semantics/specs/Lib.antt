@@ -39,3 +39,5 @@ pub mod ScheduleText
 pub mod Calls
 pub mod Verdict
 pub mod Life
+pub mod Suspicion
+pub mod Profile

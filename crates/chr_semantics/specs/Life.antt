@@ -24,6 +24,25 @@ gone p s n i = first_after p (λ t. nat_lt i t.next_id && not (lives t i)) s n
 abbrev pub firing_at : Program → State → ℕ → Option (ℕ × List ℕ)
 firing_at p s k = slice_get (after p s k).history (length (after p s (k - 1)).history)
 
+-- the constraint that the next transition makes active again
+abbrev pub wakes_on_top : List Element → Option ℕ
+wakes_on_top [] = None
+wakes_on_top (goal g ∷ es) = None
+wakes_on_top (known i a ∷ es) = Some i
+wakes_on_top (active i j a ∷ es) = None
+
+abbrev pub wakes : State → ℕ → Bool
+wakes s i = is_running s.status && is_number i (wakes_on_top s.stack)
+  where
+    is_number : ℕ → Option ℕ → Bool
+    is_number i None = false
+    is_number i (Some k) = k == i
+
+-- those of the first n transitions that make the constraint active again
+abbrev pub woken : Program → State → ℕ → ℕ → List ℕ
+woken p s zero i = []
+woken p s (suc n) i = woken p s n i ++ cond (wakes (after p s n) i) (suc n ∷ []) []
+
 -- the firings of the first n transitions, each with its transition
 abbrev pub firings : Program → State → ℕ → List (ℕ × ℕ × List ℕ)
 firings p s zero = []

@@ -1,5 +1,5 @@
 -- Why a rule does not fire with a list of constraints, one for each head, or that it could (this project's own).
-use Rattle.std.specs.Prelude.{◌≡◌, ℕ, ◌+◌, Bool, true, false, cond, not, ◌&&◌, ◌||◌, ◌==◌, nat_lt, List, [], ◌∷◌, Option, Some, None, is_none, is_some, find, filter_map, map, length, flat_map, option_map, unwrap_or, Ok, Err}
+use Rattle.std.specs.Prelude.{◌≡◌, ℕ, ◌+◌, ◌-◌, Bool, true, false, cond, not, ◌&&◌, ◌||◌, ◌==◌, nat_lt, List, [], ◌∷◌, Option, Some, None, is_none, is_some, find, filter_map, map, length, flat_map, option_and_then, option_map, slice_get, unwrap_or, Ok, Err}
 use Rattle.std.specs.List.{list_all}
 use Rattle.chr_semantics.specs.Tree.{Tree, var, int, node, Trees, none, more, is_ground_tree, same}
 use Rattle.chr_semantics.specs.Subst.{Subst, apply, binds_var, instance, instances}
@@ -55,6 +55,14 @@ lack m (not_unifiable s t) = lack_where (not (same (apply m s) (apply m t)))
 lack m (compares c s t) = lack_of_values (value (apply m s)) (value (apply m t))
 lack m (is_integer t) = lack_where (is_variable (apply m t))
 lack m (is_ground t) = undecided
+
+-- the test with what the match gives its variables put in
+abbrev pub applied : Subst → Test → Test
+applied m (identical s t) = identical (apply m s) (apply m t)
+applied m (not_unifiable s t) = not_unifiable (apply m s) (apply m t)
+applied m (compares c s t) = compares c (apply m s) (apply m t)
+applied m (is_integer t) = is_integer (apply m t)
+applied m (is_ground t) = is_ground (apply m t)
 
 -- ---- heads and constraints
 
@@ -172,6 +180,10 @@ verdict s r rule ids =
     let rs = rows_of (rows s) ids in
     cond (fired_before s.history r ids) fired
     (or_else (first_absent s ids) (or_else (first_repeated ids) (or_else (first_of_another 1 rule.heads rs) (of_rows rule rs))))
+
+-- the k-th test of the rule's guard, from 1, as it stands with a list whose constraints the heads fit
+abbrev pub tested : State → Rule → List ℕ → ℕ → Option Test
+tested s rule ids k = option_and_then (λ m. option_map (applied m) (slice_get rule.guard (k - 1))) (fits rule.heads (rows_of (rows s) ids))
 
 -- all these constraints live, their identities differ, and the rule can fire with them
 abbrev pub can_fire_with : State → ℕ → Rule → List ℕ → Bool

@@ -15,6 +15,7 @@ ghost use Rattle.chr_semantics.specs.Calls.{CallsLaw};
 ghost use Rattle.chr_semantics.specs.Desk.{TotalsLaw};
 ghost use Rattle.chr_semantics.specs.Tries.{TriesLaw};
 ghost use Rattle.chr_semantics.specs.Cursor.{CursorLaw, GatedLaw};
+ghost use Rattle.chr_semantics.specs.Suspicion.{SuspicionLaw};
 ghost use Rattle.chr_semantics.specs.Verdict.{VerdictLaw};
 ghost use Rattle.chr_semantics.specs.Footprint.{FootprintLaw, ServesLaw, UsedLaw, StampsLaw, TakenLaw};
 
@@ -189,4 +190,9 @@ pub fn read_back_law()
 /// later state of the run has them fire it.
 pub fn verdict_law()
     ensures { VerdictLaw }
+{}
+
+/// A rule whose heads are all passive fires in no run, and a test that is hopeless as it is written is entailed under no match.
+pub fn suspicion_law()
+    ensures { SuspicionLaw }
 {}

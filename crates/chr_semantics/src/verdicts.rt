@@ -3,11 +3,13 @@
 
 ghost use Rattle.std.specs.Prelude.{◌≡◌, ◌∷◌, [], None, Some};
 ghost use Rattle.chr_semantics.specs.Tree.{var};
+ghost use Rattle.chr_semantics.specs.Program.{is_integer};
 ghost use Rattle.chr_semantics.specs.State.{done, running};
 ghost use Rattle.chr_semantics.specs.Verdict.{could_fire, fired, guard, never, not_yet_there, other_symbol, removed, twice, undecided, unlike, untrue, waits};
 ghost use Rattle.chr_semantics.specs.Examples.Terms.{number, term};
 ghost use Rattle.chr_semantics.specs.Examples.Example.{EndsAfter, state_after};
-ghost use Rattle.chr_semantics.specs.Examples.Verdicts.{came_in, could_in, dup_rule, firings_in, gone_in, looks_in, made_in, paths, positive, positive_rule, prune_rule, pruning, same_rule, scheduling, taken_in, twice_rule, unlike_first, urgent_rule, verdict_after};
+ghost use Rattle.chr_semantics.specs.Examples.Runs.{bound_guard};
+ghost use Rattle.chr_semantics.specs.Examples.Verdicts.{came_in, could_in, dup_rule, firings_in, gone_in, looks_in, made_in, paths, positive, positive_rule, prune_rule, pruning, same_rule, scheduling, taken_in, test_after, twice_rule, unlike_first, urgent_rule, verdict_after, woken_in};
 
 /// Of `prune`, which waits for an integer: lists of constraints that have come or not, in order or
 /// not, and of `same`, whose head needs two variables to be one.
@@ -43,6 +45,14 @@ pub fn looked_for_once()
     ensures stays { gone_in pruning 7 2 ≡ None }
     ensures looked_for { looks_in pruning 7 1 prune_rule (1 ∷ 2 ∷ []) ≡ (6, 2, guard 1 undecided) ∷ [] }
     ensures never_could { could_in pruning 7 1 prune_rule (1 ∷ 2 ∷ []) ≡ None }
+    ensures test { test_after pruning 7 prune_rule (1 ∷ 2 ∷ []) 1 ≡ Some (is_integer (var 0)) }
+    ensures never_woken { woken_in pruning 7 1 ≡ [] }
+{}
+
+/// A constraint that a binding wakes.
+pub fn woken_once()
+    ensures woken { woken_in bound_guard 6 1 ≡ 5 ∷ [] }
+    ensures not_yet { woken_in bound_guard 4 1 ≡ [] }
 {}
 
 /// A list that could fire once, and whose constraints went to an earlier rule.

@@ -1,15 +1,21 @@
 //! The answers to questions about a run.
+ghost use Rattle.std.specs.Prelude.{◌<◌, IfOk, length};
 ghost use Rattle.chr_semantics.specs.Bounds.{IsQueryBounded};
+ghost use Rattle.chr_rules.specs.ProgramView.{rules_of};
 ghost use Rattle.chr_rules.specs.RuleView.{query_view};
 
+use crate::again::run_again;
 use crate::firings::write_firings;
 use crate::life::write_life;
 use crate::reading::Texts;
 use crate::refusal::Refusal;
 use crate::teller::Teller;
+use crate::unsought::Listed;
 use crate::why::{ids_of, rule_of, write_why};
-use chr_look::{Watched, watch, watch_list};
-use chr_machine::Status;
+use chr_look::{ListLog, Watched, watch, watch_life, watch_list};
+use chr_machine::{Id, Status, Stepped};
+use chr_rules::Program;
+use chr_term::Memory;
 use chr_trace::Ending;
 use chr_words::files::write_all;
 use look_words::Question;
@@ -22,11 +28,7 @@ fn send<W: Write>(text: &Vec<u8>, output: &mut W) -> Result<(), Refusal> {
 }
 
 /// Writes how a run ended.
-fn answer_end<W: Write>(
-    alloc: Global,
-    watched: &Watched<'_>,
-    output: &mut W,
-) -> Result<(), Refusal> {
+fn write_ending(watched: &Watched<'_>, out: &mut Vec<u8>) -> Result<Status, Refusal> {
     let machine = watched.machine();
     let ending = Ending {
         program: machine.program(),
@@ -37,73 +39,205 @@ fn answer_end<W: Write>(
         bindings: machine.bindings(),
         history: machine.history().list(),
     };
-    let mut out = Vec::new(alloc);
-    ending.write(&mut out)?;
-    send(&out, output)
+    ending.write(out)?;
+    Ok(machine.status())
+}
+
+/// Answers how the run of n transitions or fewer ended.
+fn answer_ending(alloc: Global, texts: &Texts, n: u64, out: &mut Vec<u8>) -> Result<Status, Refusal>
+    requires { IsQueryBounded (query_view texts.now.query) }
+{
+    let watched = watch(alloc, &texts.program, texts.query.copy()?, n)?;
+    write_ending(&watched, out)
+}
+
+/// Writes the last line of an answer about a run.
+fn write_end(teller: &Teller<'_, '_>, out: &mut Vec<u8>) -> Result<Status, Refusal> {
+    teller.write_end(out)?;
+    Ok(teller.watched.machine().status())
+}
+
+/// Writes the firings of a run while it makes n transitions or ends, and how it ended.
+fn write_firings_and_end<W: Write>(
+    alloc: Global,
+    texts: &Texts,
+    watched: &mut Watched<'_>,
+    n: u64,
+    output: &mut W,
+    out: &mut Vec<u8>,
+) -> Result<Status, Refusal> {
+    write_firings(alloc, texts, watched, n, output, out)?;
+    write_end(&Teller::new(alloc, &*watched, texts), out)
+}
+
+/// Answers with the firings of the run of n transitions or fewer.
+fn answer_firings<W: Write>(
+    alloc: Global,
+    texts: &Texts,
+    n: u64,
+    output: &mut W,
+    out: &mut Vec<u8>,
+) -> Result<Status, Refusal>
+    requires { IsQueryBounded (query_view texts.now.query) }
+{
+    let mut watched = Watched::start(alloc, &texts.program, texts.query.copy()?)?;
+    write_firings_and_end(alloc, texts, &mut watched, n, output, out)
+}
+
+/// Writes the life of a constraint, and how the run ended.
+fn write_life_and_end(
+    teller: &Teller<'_, '_>,
+    id: u64,
+    woken: &[u64],
+    out: &mut Vec<u8>,
+) -> Result<Status, Refusal> {
+    write_life(teller, id, woken, out)?;
+    write_end(teller, out)
+}
+
+/// Answers with the life of a constraint in the run of n transitions or fewer.
+fn answer_life(
+    alloc: Global,
+    texts: &Texts,
+    id: u64,
+    n: u64,
+    out: &mut Vec<u8>,
+) -> Result<Status, Refusal>
+    requires { IsQueryBounded (query_view texts.now.query) }
+{
+    let query = texts.query.copy()?;
+    let (watched, woken) = watch_life(alloc, &texts.program, query, n, Id(id))?;
+    write_life_and_end(
+        &Teller::new(alloc, &watched, texts),
+        id,
+        woken.as_slice(),
+        out,
+    )
+}
+
+/// What is asked of a rule and a list of constraints: perhaps about the state after so many transitions.
+#[derive(Clone, Copy, Drop)]
+struct Asked<'a> {
+    label: &'a str,
+    numbers: &'a [u64],
+    at: Option<u64>,
+}
+
+/// Goes on with a run until it made n transitions or ends.
+fn go_on(watched: &mut Watched<'_>, n: u64) -> Result<(), Memory> {
+    for _ in watched.machine().steps()..n {
+        match watched.step()? {
+            Stepped::Moved => {}
+            Stepped::Ended | Stepped::Spent => return Ok(()),
+        }
+    }
+    Ok(())
+}
+
+/// The rule and the list that are asked about.
+fn listed_of(alloc: Global, asked: Asked<'_>, program: &Program) -> Result<Listed, Refusal>
+    ensures { IfOk result (λ listed. listed.rule < length (rules_of program.now)) }
+{
+    let Some(rule) = rule_of(program, asked.label) else {
+        return Err(Refusal::UnknownRule);
+    };
+    Ok(Listed {
+        rule,
+        ids: ids_of(alloc, program, rule, asked.numbers)?,
+        at: asked.at,
+    })
+}
+
+/// Writes why a rule does not fire with a list of constraints where the run stands, in which they were watched.
+fn write_listed(
+    teller: &Teller<'_, '_>,
+    texts: &Texts,
+    listed: Listed,
+    list: &ListLog,
+    out: &mut Vec<u8>,
+) -> Result<(), Refusal>
+    requires { IsQueryBounded (query_view texts.now.query) }
+{
+    let steps = teller.watched.machine().steps();
+    if listed.at.is_some_and(|at| at > steps) {
+        return Err(Refusal::UnknownTransition(steps));
+    }
+    let again = run_again(teller.alloc, texts, list)?;
+    Ok(write_why(teller, list, &again, listed, out)?)
+}
+
+/// Writes why a rule does not fire with a list where a run stands; then the run goes on until it made n transitions or ends, and how it ended
+/// is written too.
+fn write_listed_and_end(
+    alloc: Global,
+    texts: &Texts,
+    listed: Listed,
+    list: &ListLog,
+    watched: &mut Watched<'_>,
+    n: u64,
+    out: &mut Vec<u8>,
+) -> Result<Status, Refusal>
+    requires { IsQueryBounded (query_view texts.now.query) }
+{
+    write_listed(
+        &Teller::new(alloc, &*watched, texts),
+        texts,
+        listed,
+        list,
+        out,
+    )?;
+    go_on(watched, n)?;
+    write_end(&Teller::new(alloc, &*watched, texts), out)
+}
+
+/// Answers why a rule does not fire with a list of constraints in the run of n transitions or fewer.
+fn answer_why(
+    alloc: Global,
+    texts: &Texts,
+    asked: Asked<'_>,
+    n: u64,
+    out: &mut Vec<u8>,
+) -> Result<Status, Refusal>
+    requires { IsQueryBounded (query_view texts.now.query) }
+{
+    let listed = listed_of(alloc, asked, &texts.program)?;
+    let query = texts.query.copy()?;
+    let until = listed.at.unwrap_or(n).min(n);
+    let (mut watched, list) = watch_list(
+        alloc,
+        &texts.program,
+        query,
+        until,
+        listed.rule,
+        listed.ids,
+    )?;
+    write_listed_and_end(alloc, texts, listed, &list, &mut watched, n, out)
 }
 
 /// Answers a question about the run of a query, of n transitions or fewer, and says how that ended.
 pub(crate) fn answer<W: Write>(
     alloc: Global,
     question: &Question<'_>,
-    texts: Texts,
+    texts: &Texts,
     n: u64,
     output: &mut W,
 ) -> Result<Status, Refusal>
-    requires { IsQueryBounded (query_view texts.query) }
+    requires { IsQueryBounded (query_view texts.now.query) }
 {
-    let Texts {
-        program,
-        lines,
-        query,
-    } = texts;
-    let lines = lines.as_slice();
     let mut out = Vec::new(alloc);
-    match question {
-        Question::Answer => {
-            let watched = watch(alloc, &program, query, n)?;
-            answer_end(alloc, &watched, output)?;
-            Ok(watched.machine().status())
-        }
-        Question::Firings => {
-            let mut watched = Watched::start(alloc, &program, query)?;
-            write_firings(alloc, &mut watched, lines, n, output)?;
-            let teller = Teller {
-                alloc,
-                watched: &watched,
-                lines,
+    let status = match question {
+        Question::Answer => answer_ending(alloc, texts, n, &mut out)?,
+        Question::Firings => answer_firings(alloc, texts, n, output, &mut out)?,
+        Question::Life(id) => answer_life(alloc, texts, *id, n, &mut out)?,
+        Question::Why(label, numbers, at) => {
+            let asked = Asked {
+                label: *label,
+                numbers: numbers.as_slice(),
+                at: *at,
             };
-            teller.write_end(&mut out)?;
-            send(&out, output)?;
-            Ok(watched.machine().status())
+            answer_why(alloc, texts, asked, n, &mut out)?
         }
-        Question::Life(id) => {
-            let watched = watch(alloc, &program, query, n)?;
-            let teller = Teller {
-                alloc,
-                watched: &watched,
-                lines,
-            };
-            write_life(&teller, *id, &mut out)?;
-            teller.write_end(&mut out)?;
-            send(&out, output)?;
-            Ok(watched.machine().status())
-        }
-        Question::Why(label, numbers) => {
-            let Some(rule) = rule_of(&program, *label) else {
-                return Err(Refusal::UnknownRule);
-            };
-            let ids = ids_of(alloc, &program, rule, numbers.as_slice())?;
-            let (watched, list) = watch_list(alloc, &program, query, n, rule, ids)?;
-            let teller = Teller {
-                alloc,
-                watched: &watched,
-                lines,
-            };
-            write_why(&teller, &list, rule, ids, &mut out)?;
-            teller.write_end(&mut out)?;
-            send(&out, output)?;
-            Ok(watched.machine().status())
-        }
-    }
+    };
+    send(&out, output)?;
+    Ok(status)
 }

@@ -1,6 +1,7 @@
 //! The program `look`: what it reads, what it writes, and its exit status.
 
 use crate::answering::answer;
+use crate::checked::{Source, write_checked};
 use crate::reading::read_texts;
 use crate::refusal::Refusal;
 use chr_machine::Status;
@@ -39,27 +40,70 @@ fn refuse<E: Write>(alloc: Global, error: &mut E, refusal: Refusal) -> u8 {
     REFUSED
 }
 
-/// The answer to a question about the run that words name.
-fn look<O: Opens, W: Write>(
+/// Says all that is wrong with texts that are refused.
+fn tell<E: Write>(
+    alloc: Global,
+    program: Source<'_>,
+    query: &str,
+    error: &mut E,
+) -> Result<u8, Refusal> {
+    let mut out = Vec::new(alloc);
+    write_checked(alloc, program, Some(query), &mut out)?;
+    let _ = write_all(error, out.as_slice());
+    Ok(REFUSED)
+}
+
+/// Answers a question about the run that words name, or says what is wrong with its texts.
+fn look<O: Opens, W: Write, E: Write>(
     alloc: Global,
     question: &Question<'_>,
     run: Run<'_>,
     files: &O,
     output: &mut W,
-) -> Result<Status, Refusal> {
+    error: &mut E,
+) -> Result<u8, Refusal> {
     let budget = run.budget.unwrap_or(BUDGET);
     if budget > MAX_TRANSITIONS {
         return Err(Refusal::BudgetTooLarge);
     }
     let program = read_file(alloc, files, run.program).ok_or(Refusal::Unreadable)?;
-    let texts = read_texts(alloc, program.as_slice(), run.query.as_bytes())?;
-    answer(alloc, question, texts, budget, output)
+    match read_texts(alloc, program.as_slice(), run.query.as_bytes()) {
+        Ok(texts) => Ok(status_code(answer(alloc, question, &texts, budget, output)?)),
+        Err(Refusal::Mistaken) => {
+            let source = Source {
+                name: run.program,
+                text: program.as_slice(),
+            };
+            tell(alloc, source, run.query, error)
+        }
+        Err(refusal) => Err(refusal),
+    }
+}
+
+/// Shows what is wrong with the program in the file of a path, and with a query over it.
+fn check<O: Opens, W: Write>(
+    alloc: Global,
+    path: &str,
+    query: Option<&str>,
+    files: &O,
+    output: &mut W,
+) -> Result<u8, Refusal> {
+    let text = read_file(alloc, files, path).ok_or(Refusal::Unreadable)?;
+    let source = Source {
+        name: path,
+        text: text.as_slice(),
+    };
+    let mut out = Vec::new(alloc);
+    let is_wrong = write_checked(alloc, source, query, &mut out)?;
+    write_all(output, out.as_slice()).ok_or(Refusal::Write)?;
+    Ok(if is_wrong { REFUSED } else { 0 })
 }
 
 /// What the program `look` does with the words after its name: `answer`, `firings`, `life` or `why`, then PROGRAM, the path of a file, and
 /// QUERY, the text of a query, for `life` the identity of a constraint, for `why` a rule and the identities of its list, and perhaps
-/// `--budget N`. The answer goes out; it is about a run of 100,000 transitions where there is no N. The answer of this call is the exit
-/// status: 0 done, 2 refused, 3 failed, 4 a fault, 5 the budget used up. Where it is 2, a line on `error` says why.
+/// `--budget N`; or `check`, then PROGRAM and perhaps QUERY. The answer goes out; it is about a run of 100,000 transitions where there is no
+/// N. The answer of this call is the exit status: 0 done, 2 refused, 3 failed, 4 a fault, 5 the budget used up. Where a text is refused, what
+/// is wrong with it goes out of `check`, and else to `error`; where else it is 2, a line on `error` says why.
 pub fn command<O: Opens, W: Write, E: Write>(
     alloc: Global,
     words: &[String],
@@ -67,19 +111,21 @@ pub fn command<O: Opens, W: Write, E: Write>(
     output: &mut W,
     error: &mut E,
 ) -> u8 {
-    match asked(alloc, words) {
-        Ok(Request::Look(question, run)) => match look(alloc, &question, run, files, output) {
-            Ok(status) => status_code(status),
-            Err(refusal) => refuse(alloc, error, refusal),
-        },
+    let answer = match asked(alloc, words) {
+        Ok(Request::Look(question, run)) => look(alloc, &question, run, files, output, error),
+        Ok(Request::Check(program, query)) => check(alloc, program, query, files, output),
         Ok(Request::Help(text)) => match write_all(output, text.as_bytes()) {
-            Some(()) => 0,
-            None => refuse(alloc, error, Refusal::Write),
+            Some(()) => Ok(0),
+            None => Err(Refusal::Write),
         },
         Ok(Request::Refused(text)) => {
             let _ = write_all(error, text.as_bytes());
-            REFUSED
+            Ok(REFUSED)
         }
-        Err(_) => refuse(alloc, error, Refusal::Memory),
+        Err(_) => Err(Refusal::Memory),
+    };
+    match answer {
+        Ok(status) => status,
+        Err(refusal) => refuse(alloc, error, refusal),
     }
 }

@@ -1,6 +1,8 @@
 //! The firings of a run.
 
+use crate::reading::Texts;
 use crate::refusal::Refusal;
+use crate::standing::rule_at;
 use crate::teller::Teller;
 use chr_look::Watched;
 use chr_machine::{Id, Stepped};
@@ -37,11 +39,7 @@ fn write_firing(
     teller.write_rule(entry.rule(), out)?;
     write_byte(b'\n', out)?;
     let program = teller.watched.machine().program();
-    let kept = if entry.rule() < program.rules() {
-        program.rule(entry.rule()).kept
-    } else {
-        0
-    };
+    let kept = rule_at(program, entry.rule()).map_or(0, |rule| rule.kept);
     let ids = entry.ids();
     for k in 0..ids.len() {
         write_head(teller, k < kept, ids[k], out)?;
@@ -49,34 +47,30 @@ fn write_firing(
     Ok(())
 }
 
-/// Writes the firings of a run, in portions, while it makes n transitions or ends.
+/// Writes the firings of a run while it makes n transitions or ends. They go out in portions, but for the last lines.
 pub(crate) fn write_firings<W: Write>(
     alloc: Global,
+    texts: &Texts,
     watched: &mut Watched<'_>,
-    lines: &[u64],
     n: u64,
     output: &mut W,
+    out: &mut Vec<u8>,
 ) -> Result<(), Refusal> {
-    let mut out = Vec::new(alloc);
     for _ in 0..n {
         let before = watched.machine().history().list().len();
         match watched.step()? {
             Stepped::Moved => {}
-            Stepped::Ended | Stepped::Spent => break,
+            Stepped::Ended | Stepped::Spent => return Ok(()),
         }
-        let teller = Teller {
-            alloc,
-            watched: &*watched,
-            lines,
-        };
+        let teller = Teller::new(alloc, &*watched, texts);
         let machine = teller.watched.machine();
         if let Some(entry) = machine.history().list().get(before) {
-            write_firing(&teller, machine.steps(), entry, &mut out)?;
+            write_firing(&teller, machine.steps(), entry, out)?;
         }
         if out.len() >= PORTION {
             write_all(output, out.as_slice()).ok_or(Refusal::Write)?;
             out.clear();
         }
     }
-    write_all(output, out.as_slice()).ok_or(Refusal::Write)
+    Ok(())
 }

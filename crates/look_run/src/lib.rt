@@ -1,14 +1,22 @@
 //! What the program `look` answers: how a run ended, what fired, and how its constraints came and went.
 #![tactic(auto)]
 
+mod again;
 mod answering;
+mod checked;
 mod column;
 mod command_line;
+mod doubts;
+mod excerpt;
 mod firings;
+mod guarding;
 mod life;
+mod mistakes;
 mod reading;
 mod refusal;
+mod standing;
 mod teller;
+mod unsought;
 mod why;
 
 pub use command_line::command;

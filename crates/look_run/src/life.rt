@@ -47,10 +47,11 @@ fn write_origin(teller: &Teller<'_, '_>, id: Id, out: &mut Vec<u8>) -> Result<()
     }
 }
 
-/// Writes how the constraint of an identity, and all that it came from, came and went.
+/// Writes how the constraint of an identity came, was made active again and went, and how all that it came from came and went.
 pub(crate) fn write_life(
     teller: &Teller<'_, '_>,
     id: u64,
+    woken: &[u64],
     out: &mut Vec<u8>,
 ) -> Result<(), Refusal> {
     if teller.watched.birth(Id(id)).is_none() {
@@ -66,7 +67,8 @@ pub(crate) fn write_life(
     for place in 0..ids.len() {
         column.write(place, out)?;
         write_text("  ", out)?;
-        teller.write_fate(ids[place], out)?;
+        let woken = if place == 0 { woken } else { &[] };
+        teller.write_fate(ids[place], woken, out)?;
         write_origin(teller, ids[place], out)?;
         write_byte(b'\n', out)?;
     }

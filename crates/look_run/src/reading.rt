@@ -31,11 +31,11 @@ fn lines_of(alloc: Global, syntax: &ProgramSyntax) -> Result<Vec<u64>, Refusal> 
 pub(crate) fn read_texts(alloc: Global, program: &[u8], query: &[u8]) -> Result<Texts, Refusal>
     ensures { IfOk result (λ texts. IsQueryBounded (query_view texts.query)) }
 {
-    let syntax = read_program(alloc, program).map_err(Refusal::Program)?;
+    let syntax = read_program(alloc, program)?;
     let lines = lines_of(alloc, &syntax)?;
-    let mut program = Program::build(alloc, syntax).map_err(Refusal::Rules)?;
-    let syntax = read_query(alloc, query).map_err(Refusal::Query)?;
-    let query = program.goals_of_query(syntax).map_err(Refusal::Goals)?;
+    let mut program = Program::build(alloc, syntax)?;
+    let syntax = read_query(alloc, query)?;
+    let query = program.goals_of_query(syntax)?;
     Ok(Texts {
         program,
         lines,

@@ -1,7 +1,7 @@
 //! Why there is no answer.
 
-use chr_read::ReadError;
-use chr_rules::RuleError;
+use chr_read::{ReadError, ReadErrorKind};
+use chr_rules::{RuleError, RuleErrorKind};
 use std::alloc::{AllocError, AllocFailed};
 use thiserror::Error;
 
@@ -11,18 +11,9 @@ pub(crate) enum Refusal {
     /// The file of the program cannot be read.
     #[error("cannot read the program")]
     Unreadable,
-    /// The program is not read.
-    #[error("program {0}")]
-    Program(ReadError),
-    /// The program is read, and has a mistake.
-    #[error("program {0}")]
-    Rules(RuleError),
-    /// The query is not read.
-    #[error("query {0}")]
-    Query(ReadError),
-    /// The query is read, and has a mistake.
-    #[error("query line {}: {}", .0.line, .0.kind)]
-    Goals(RuleError),
+    /// The program or the query has mistakes, which are told where they stand.
+    #[error("the texts have mistakes")]
+    Mistaken,
     /// The budget is above the limit of transitions.
     #[error("BudgetTooLarge")]
     BudgetTooLarge,
@@ -32,6 +23,9 @@ pub(crate) enum Refusal {
     /// The program has no such rule.
     #[error("the program has no such rule")]
     UnknownRule,
+    /// The run has fewer transitions.
+    #[error("the run has {0} transitions")]
+    UnknownTransition(u64),
     /// The rule has another number of heads.
     #[error("the rule has {0} heads")]
     WrongNumber(usize),
@@ -52,5 +46,23 @@ impl From<AllocError> for Refusal {
 impl<T: Drop> From<AllocFailed<T>> for Refusal {
     fn from(_: AllocFailed<T>) -> Refusal {
         Refusal::Memory
+    }
+}
+
+impl From<ReadError> for Refusal {
+    fn from(error: ReadError) -> Refusal {
+        match error.kind {
+            ReadErrorKind::Memory => Refusal::Memory,
+            _ => Refusal::Mistaken,
+        }
+    }
+}
+
+impl From<RuleError> for Refusal {
+    fn from(error: RuleError) -> Refusal {
+        match error.kind {
+            RuleErrorKind::Memory => Refusal::Memory,
+            _ => Refusal::Mistaken,
+        }
     }
 }

@@ -2,11 +2,15 @@
 ghost use Rattle.std.specs.Prelude.{◌<◌, IfSome, length};
 ghost use Rattle.chr_rules.specs.ProgramView.{rules_of};
 
+use crate::again::Again;
 use crate::column::Column;
+use crate::guarding::write_lack;
 use crate::refusal::Refusal;
+use crate::standing::rule_at;
 use crate::teller::Teller;
-use chr_bind::Lack;
-use chr_look::{ListLog, Verdict, judge};
+use crate::unsought::Listed;
+use chr_bind::{Lack, Test};
+use chr_look::{ListLog, Verdict, guard_test, judge};
 use chr_machine::Id;
 use chr_rules::Program;
 use chr_semantics::limits::MAX_HEADS;
@@ -39,11 +43,7 @@ pub(crate) fn ids_of(
     rule: usize,
     numbers: &[u64],
 ) -> Result<HeadIds, Refusal> {
-    let heads = if rule < program.rules() {
-        program.rule(rule).heads.len()
-    } else {
-        0
-    };
+    let heads = rule_at(program, rule).map_or(0, |rule| rule.heads.len());
     let mut ids = Vec::new(alloc);
     for number in numbers {
         ids.push(Id(*number))?;
@@ -97,13 +97,34 @@ fn write_way(way: &[usize], out: &mut Vec<u8>) -> Result<(), Memory> {
     Ok(())
 }
 
-/// Writes the line that says more of a verdict, where there is more.
-fn write_detail(
+/// A verdict, and the test that it is about.
+#[derive(Drop)]
+struct Judged {
+    verdict: Verdict,
+    test: Option<Test>,
+}
+
+/// The verdict on a rule of the program and a list where a run stands, and the test that it is about, as it stands.
+fn judge_listed(
     teller: &Teller<'_, '_>,
-    verdict: &Verdict,
-    out: &mut Vec<u8>,
-) -> Result<(), Memory> {
-    match verdict {
+    rule: usize,
+    ids: HeadIds,
+) -> Result<Option<Judged>, Memory> {
+    let machine = teller.watched.machine();
+    if rule >= machine.program().rules() {
+        return Ok(None);
+    }
+    let verdict = judge(teller.alloc, machine, rule, ids)?;
+    let test = match &verdict {
+        Verdict::Guard(k, _) => guard_test(teller.alloc, machine, rule, ids, *k)?,
+        _ => None,
+    };
+    Ok(Some(Judged { verdict, test }))
+}
+
+/// Writes the line that says more of a verdict, where there is more.
+fn write_detail(teller: &Teller<'_, '_>, judged: &Judged, out: &mut Vec<u8>) -> Result<(), Memory> {
+    match &judged.verdict {
         Verdict::Fired | Verdict::NotYetThere(_) | Verdict::Removed(_) | Verdict::CouldFire =>
             return Ok(()),
         Verdict::Twice(id) => write_numbered("  two heads have ", id.0, out)?,
@@ -124,7 +145,10 @@ fn write_detail(
             teller.write_term(&Term::Var(*variable), out)?;
             write_text(" has no value yet", out)?;
         }
-        Verdict::Guard(test, _) => write_numbered("  test ", *test as u64, out)?,
+        Verdict::Guard(k, lack) => match &judged.test {
+            Some(test) => write_lack(teller, test, *lack, out)?,
+            None => write_numbered("  test ", *k as u64, out)?,
+        },
     }
     write_byte(b'\n', out)
 }
@@ -141,48 +165,96 @@ fn write_constraints(teller: &Teller<'_, '_>, ids: &[Id], out: &mut Vec<u8>) -> 
         write_text("  ", out)?;
         column.write(place, out)?;
         write_text("  ", out)?;
-        teller.write_fate(ids[place], out)?;
+        teller.write_fate(ids[place], &[], out)?;
+        teller.write_standing(ids[place], out)?;
         write_byte(b'\n', out)?;
     }
     Ok(())
 }
 
-/// Writes the searches for the rule with the list, a line each.
-fn write_searches(list: &ListLog, out: &mut Vec<u8>) -> Result<(), Memory> {
-    for search in list.searches.as_slice() {
+/// Writes the searches for the rule with the list, a line each; for one that found a lesser list, which that was.
+fn write_searches(
+    list: &ListLog,
+    ids: HeadIds,
+    again: &Again<'_>,
+    out: &mut Vec<u8>,
+) -> Result<(), Memory> {
+    let searches = list.searches.as_slice();
+    for k in 0..searches.len() {
+        let Some(search) = searches.get(k) else {
+            return Ok(());
+        };
         write_numbered("  looked for at ", search.at, out)?;
         write_numbered(", by ", search.active.0, out)?;
         write_text(": ", out)?;
         write_text(verdict_word(&search.verdict), out)?;
+        if let (Verdict::CouldFire, Some(first)) = (&search.verdict, again.fired(k)) {
+            if first != ids {
+                write_text("; ", out)?;
+                print_numbers(first.as_slice(), out)?;
+                write_text(" went first", out)?;
+            }
+        }
         write_byte(b'\n', out)?;
     }
     Ok(())
+}
+
+/// The transition by which the rule fired with the list, where it did: the last search that could find it.
+fn fired_at(list: &ListLog) -> u64 {
+    let mut last = 0;
+    for search in list.searches.as_slice() {
+        if let Verdict::CouldFire = search.verdict {
+            last = search.at;
+        }
+    }
+    last
 }
 
 /// Writes why the rule does not fire with the list where the run stands, and what the run did with them.
 pub(crate) fn write_why(
     teller: &Teller<'_, '_>,
     list: &ListLog,
-    rule: usize,
-    ids: HeadIds,
+    again: &Again<'_>,
+    listed: Listed,
     out: &mut Vec<u8>,
 ) -> Result<(), Memory> {
-    let machine = teller.watched.machine();
-    if rule >= machine.program().rules() {
+    let Listed { rule, ids, at } = listed;
+    let Some(judged) = judge_listed(teller, rule, ids)? else {
         return Ok(());
-    }
-    let verdict = judge(teller.alloc, machine, rule, ids)?;
+    };
     teller.write_rule(rule, out)?;
     write_byte(b' ', out)?;
     print_numbers(ids.as_slice(), out)?;
+    if let Some(at) = at {
+        write_numbered(" after ", at, out)?;
+    }
     write_text(": ", out)?;
-    write_text(verdict_word(&verdict), out)?;
+    write_text(verdict_word(&judged.verdict), out)?;
+    if let Verdict::Fired = judged.verdict {
+        write_numbered(" at ", fired_at(list), out)?;
+    }
     write_byte(b'\n', out)?;
     write_constraints(teller, ids.as_slice(), out)?;
-    write_detail(teller, &verdict, out)?;
-    if let Some(at) = list.could_from {
-        write_numbered("  could fire after ", at, out)?;
-        write_byte(b'\n', out)?;
+    write_detail(teller, &judged, out)?;
+    write_could_fire(teller, list, again, listed, out)?;
+    write_searches(list, ids, again, out)
+}
+
+/// Writes from when on the list could fire the rule, and why it was not looked for, if it was not.
+fn write_could_fire(
+    teller: &Teller<'_, '_>,
+    list: &ListLog,
+    again: &Again<'_>,
+    listed: Listed,
+    out: &mut Vec<u8>,
+) -> Result<(), Memory> {
+    let Some(at) = list.could_from else {
+        return Ok(());
+    };
+    write_numbered("  could fire after ", at, out)?;
+    match again {
+        Again::Then(then) => listed.write_unsought(teller, then.machine(), out),
+        Again::Nothing | Again::Fired(_) => write_byte(b'\n', out),
     }
-    write_searches(list, out)
 }

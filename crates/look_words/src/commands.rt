@@ -47,13 +47,31 @@ fn why<'a>(alloc: Global) -> Result<Command<'a>, AllocError> {
         .num_args(1..)
         .value_parser(value_parser!(u64))
         .help("The identities of the constraints, in the order of the rule's heads");
+    let at = Arg::new(alloc, "at")
+        .long("at")
+        .value_name("K")
+        .value_parser(value_parser!(u64))
+        .help("Tells it of the state after K transitions, and not of the last one");
     question(
         alloc,
         "why",
         "Tells why a rule does not fire with a list of constraints",
     )?
     .arg(rule)?
-    .arg(ids)
+    .arg(ids)?
+    .arg(at)
+}
+
+/// A command that looks at texts alone: it takes a program, and perhaps a query.
+fn check<'a>(alloc: Global) -> Result<Command<'a>, AllocError> {
+    let program = Arg::new(alloc, "PROGRAM")
+        .required(true)
+        .help("The file of the program");
+    let query = Arg::new(alloc, "QUERY").help("The text of the query");
+    Command::new(alloc, "check")
+        .about("Shows what is wrong with a program, and with a query over it")
+        .arg(program)?
+        .arg(query)
 }
 
 /// All that the program takes.
@@ -67,5 +85,6 @@ pub(crate) fn look_command<'a>(alloc: Global) -> Result<Command<'a>, AllocError>
         .subcommand(question(alloc, "answer", "Shows how the run ended")?)?
         .subcommand(question(alloc, "firings", "Shows each firing with its constraints")?)?
         .subcommand(life(alloc)?)?
-        .subcommand(why(alloc)?)
+        .subcommand(why(alloc)?)?
+        .subcommand(check(alloc)?)
 }

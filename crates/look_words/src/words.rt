@@ -25,8 +25,8 @@ pub enum Question<'a> {
     Firings,
     /// How the constraint of an identity came and went.
     Life(u64),
-    /// Why the rule of a label does not fire with these.
-    Why(&'a str, Vec<u64>),
+    /// Why the rule of a label does not fire with these, where the run stands, or after so many transitions.
+    Why(&'a str, Vec<u64>, Option<u64>),
 }
 
 /// What the words ask for.
@@ -34,6 +34,8 @@ pub enum Question<'a> {
 pub enum Request<'a> {
     /// A question about a run.
     Look(Question<'a>, Run<'a>),
+    /// What is wrong with the program in the file of a path, and with a query over it where there is one.
+    Check(&'a str, Option<&'a str>),
     /// This text of help.
     Help(String),
     /// Nothing that there is, for the reason in this text.
@@ -77,11 +79,19 @@ fn question_of<'a>(
             None => return Ok(None),
         },
         _ => match matches.get_str("RULE") {
-            Some(rule) => Question::Why(rule, ids_of(alloc, matches)?),
+            Some(rule) => {
+                let at = matches.get_one::<u64>("at");
+                Question::Why(rule, ids_of(alloc, matches)?, at)
+            }
             None => return Ok(None),
         },
     };
     Ok(Some(question))
+}
+
+/// The program and the query that words have checked.
+fn check_of<'a>(matches: &ArgMatches<'a>) -> Option<Request<'a>> {
+    Some(Request::Check(matches.get_str("PROGRAM")?, matches.get_str("QUERY")))
 }
 
 /// What words that were taken ask for.
@@ -89,6 +99,9 @@ fn taken<'a>(alloc: Global, matches: &ArgMatches<'a>) -> Result<Option<Request<'
     let Some((name, matches)) = matches.subcommand() else {
         return Ok(None);
     };
+    if name == "check" {
+        return Ok(check_of(matches));
+    }
     let Some(question) = question_of(alloc, name, matches)? else {
         return Ok(None);
     };

@@ -1,10 +1,10 @@
 -- The examples of verdicts.
 use Rattle.std.specs.Prelude.{ℕ, List, [], ◌∷◌, Option, codes}
 use Rattle.chr_semantics.specs.Tree.{Tree, var}
-use Rattle.chr_semantics.specs.Program.{Rule, compares, fail, greater, is_integer}
+use Rattle.chr_semantics.specs.Program.{Rule, Test, compares, fail, greater, is_integer}
 use Rattle.chr_semantics.specs.State.{start}
-use Rattle.chr_semantics.specs.Life.{came, could_from, firings, gone, looks, made_by, taken_by}
-use Rattle.chr_semantics.specs.Verdict.{Verdict, verdict}
+use Rattle.chr_semantics.specs.Life.{came, could_from, firings, gone, looks, made_by, taken_by, woken}
+use Rattle.chr_semantics.specs.Verdict.{Verdict, tested, verdict}
 use Rattle.chr_semantics.specs.Examples.Terms.{chr, head, nil, number, pair, term}
 use Rattle.chr_semantics.specs.Examples.Example.{Example, state_after}
 
@@ -160,6 +160,13 @@ looks_in e n r rule ids = looks e.program (start e.query) n r rule ids
 
 abbrev pub could_in : Example → ℕ → ℕ → Rule → List ℕ → Option ℕ
 could_in e n r rule ids = could_from e.program (start e.query) n r rule ids
+
+abbrev pub woken_in : Example → ℕ → ℕ → List ℕ
+woken_in e n i = woken e.program (start e.query) n i
+
+-- the k-th test after n transitions, as it stands
+abbrev pub test_after : Example → ℕ → Rule → List ℕ → ℕ → Option Test
+test_after e n rule ids k = tested (state_after e n) rule ids k
 
 -- the verdict after n transitions
 abbrev pub verdict_after : Example → ℕ → ℕ → Rule → List ℕ → Verdict

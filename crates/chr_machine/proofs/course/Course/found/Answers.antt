@@ -6,7 +6,8 @@ use Rattle.chr_semantics.specs.Search.{atom_of, ids_found}
 use Rattle.chr_semantics.proofs.OccurrenceRule.{occurrence_rule}
 use Rattle.chr_base.specs.Searching.{FindsFirst}
 use Rattle.chr_base.specs.BaseView.{base_view}
-use Rattle.chr_machine.specs.Firing.{atom_at, occurrence_of, search_in}
+use Rattle.chr_base.specs.Searching.{occurrence_of}
+use Rattle.chr_machine.specs.Firing.{atom_at, search_in}
 use Rattle.chr_machine.specs.Model.{course_of}
 use Rattle.chr_machine.proofs.Searched.{dead_found, own_found}
 use Rattle.chr_machine.proofs.course.Course.found.Goals as goal

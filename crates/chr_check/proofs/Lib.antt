@@ -1,0 +1,3 @@
+pub mod Places
+pub mod Refused
+pub mod Standing

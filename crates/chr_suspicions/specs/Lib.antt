@@ -1,0 +1,4 @@
+pub mod Counts
+pub mod Covering
+pub mod Marks
+pub mod Words
