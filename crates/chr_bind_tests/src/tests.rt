@@ -1,12 +1,14 @@
-use chr_term::{Memory, Sym, Term};
+use chr_term::{Sym, Term};
 use refusing_alloc::{Refusing, refused_in_turn};
 use std::alloc::{Allocator, Global};
 use std::process::Abort;
-use std::test::Fail;
 
 mod bindings;
+mod checks;
 mod refusing;
 mod terms;
+
+use checks::{equal, got, holds};
 
 /// More growths than a call of these tests asks for.
 const AMPLE: u64 = 1_000_000;
@@ -23,9 +25,11 @@ fn was_refused(meter: &Refusing<Global>, left: u64) -> bool {
 
 /// A symbol over terms.
 fn node<A: Allocator + Copy, const N: usize>(
+    rt: &impl Abort,
     alloc: A,
     sym: Sym,
     args: [Term<A>; N],
-) -> Result<Term<A>, Memory> {
-    Term::node(alloc, sym, Vec::from_array(alloc, args)?)
+) -> Term<A> {
+    let args = got(rt, Vec::from_array(alloc, args));
+    got(rt, Term::node(alloc, sym, args))
 }

@@ -13,36 +13,53 @@ use chr_texts::{SPECULATION, both_of};
 use std::alloc::{Allocator, Global};
 use std::process::Abort;
 use std::sync::Wait;
-use std::test::Fail;
 
 mod calls;
+mod checks;
 mod fresh;
 mod repeats;
 
+use checks::{equal, got, holds};
+
+/// A program of a text, and a query over it.
+fn both<A: Allocator + Copy>(
+    rt: &impl Abort,
+    alloc: A,
+    texts: (&str, &str),
+) -> (Program<A>, Query<A>)
+    ensures { IsQueryBounded (query_view result.1) }
+{
+    match both_of(alloc, texts.0, texts.1) {
+        Ok(both) => both,
+        Err(mistake) => panic!(rt; "refused: {mistake:?}"),
+    }
+}
+
 /// A snapshot of the state after six steps.
 fn snapshot_of<A: Allocator + Copy>(
+    rt: &impl Abort,
     alloc: A,
     program: &Program<A>,
     query: Query<A>,
-) -> Result<Snapshot<A>, Memory>
+) -> Snapshot<A>
     requires { IsQueryBounded (query_view query) }
 {
-    let mut machine = Machine::start(alloc, program, query)?;
-    machine.run_alone(6)?;
-    machine.snapshot()
+    let mut machine = got(rt, Machine::start(alloc, program, query));
+    got(rt, machine.run_alone(6));
+    got(rt, machine.snapshot())
 }
 
 /// A round of these tasks, of which none is good as it was kept.
-fn round_of<A: Allocator + Copy>(alloc: A, tasks: &[Task]) -> Result<Vec<RoundTask, A>, Memory> {
+fn round_of<A: Allocator + Copy>(rt: &impl Abort, alloc: A, tasks: &[Task]) -> Vec<RoundTask, A> {
     let mut round = Vec::new(alloc);
     for task in tasks {
-        let task = *task;
-        round.push(RoundTask {
-            task,
+        let fresh = RoundTask {
+            task: *task,
             is_good: false,
-        })?;
+        };
+        holds(rt, round.push(fresh).is_ok());
     }
-    Ok(round)
+    round
 }
 
 /// These are the answers to the tasks of that place with these indices.
@@ -52,9 +69,8 @@ fn assert_answers<J: RunName, A: Allocator>(
     place: usize,
     indices: &[u32],
 ) {
-    assert_eq!(rt; answers.len(), indices.len());
+    equal(rt, answers.len(), indices.len());
     for (answer, index) in answers.iter().zip(indices) {
-        assert_eq!(rt; answer.place(), place);
-        assert_eq!(rt; answer.index(), *index);
+        equal(rt, (answer.place(), answer.index()), (place, *index));
     }
 }

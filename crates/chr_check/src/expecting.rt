@@ -7,7 +7,7 @@ ghost use Rattle.chr_check.specs.Standing.{AreStanding, EndsAt, GoesOnIn, IsAnsw
 use crate::candidate::{CANDIDATES, Candidate};
 use chr_read::{ReadError, ReadErrorKind, read_program, read_query};
 use chr_term::Memory;
-use chr_tokens::{Place, Token, characters, tokens};
+use chr_tokens::{Place, Token, Unread, characters, tokens};
 use std::alloc::{AllocError, Allocator};
 
 /// Which texts are read.
@@ -39,8 +39,10 @@ fn error_of<A: Allocator + Copy>(alloc: A, language: Language, text: &[u8]) -> O
 fn end_of<A: Allocator + Copy>(alloc: A, text: &[u8]) -> Result<Option<Place>, Memory>
     ensures { IfOk result (λ end. IfSome end (λ place. EndsAt text.now (place_view place))) }
 {
-    let Ok(characters) = characters(alloc, text) else {
-        return Ok(None);
+    let characters = match characters(alloc, text) {
+        Ok(characters) => characters,
+        Err(Unread::Memory) => return Err(AllocError),
+        Err(_) => return Ok(None),
     };
     let tokens = tokens(alloc, &characters)?;
     match tokens.as_slice() {

@@ -1,5 +1,6 @@
 //! What was meant, perhaps: habits of Prolog and of other CHR systems.
 
+use crate::expecting::Language;
 use crate::items::arrow_of;
 use crate::spots::Spot;
 use crate::symbols::{Symbol, is_word};
@@ -230,13 +231,15 @@ impl Halt<'_> {
     }
 
     /// What may have been meant in a rule or a query.
-    fn hint_of_rule(self) -> Option<Hint> {
+    fn hint_of_rule(self, language: Language) -> Option<Hint> {
         let has_arrow = arrow_of(self.before).is_some();
         match self.at.token {
             Token::Sign(Sign::Backslash) if self.character(1) == Some('+') => Some(Hint::Negation),
             Token::Name(name) if is_word(name, "pragma") => Some(Hint::Pragma),
             Token::Sign(Sign::Declares) if !has_arrow => Some(Hint::Clause),
-            Token::Sign(Sign::Stop) if !has_arrow => Some(Hint::Clause),
+            Token::Sign(Sign::Stop) if !has_arrow && language == Language::Program => Some(
+                Hint::Clause,
+            ),
             Token::Sign(Sign::Label | Sign::Simplifies | Sign::Propagates) if has_arrow => Some(
                 Hint::MissingEnd,
             ),
@@ -252,8 +255,8 @@ impl Halt<'_> {
         }
     }
 
-    /// What may have been meant.
-    pub(crate) fn hint(self) -> Option<Hint> {
+    /// What may have been meant, in a text of the language.
+    pub(crate) fn hint(self, language: Language) -> Option<Hint> {
         if self.at.token == Token::Fault(Fault::BadCharacter) {
             return hint_of_character(self.character(0)?);
         }
@@ -266,7 +269,7 @@ impl Halt<'_> {
         }
         match self.before {
             [first, ..] if first.token == Token::Sign(Sign::Declares) => self.hint_of_directive(),
-            _ => self.hint_of_rule(),
+            _ => self.hint_of_rule(language),
         }
     }
 }

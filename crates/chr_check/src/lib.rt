@@ -2,7 +2,7 @@
 //!
 //! [`mistakes`] tells those of a program, [`query_mistakes`] those of a query. A reading goes on behind the next END after a mistake, and a
 //! check with the next rule, so that one look shows them all. What is accepted has none; what is refused has at least one. [`expected`] tells
-//! what may stand at a place of a text.
+//! what may stand at a place of a text, [`suspicions`] what looks wrong in a program that is accepted, and [`heads`] where its heads stand.
 #![tactic(auto)]
 
 mod candidate;
@@ -17,6 +17,7 @@ mod queries;
 mod reading;
 mod refusal;
 mod rules;
+mod spans;
 mod spots;
 mod suspecting;
 mod suspicion;
@@ -30,5 +31,6 @@ pub use mistake::{Declared, Detail, Kind, Mistake};
 pub use programs::mistakes;
 pub use queries::query_mistakes;
 pub use rules::MOST;
+pub use spans::{Span, heads};
 pub use suspecting::suspicions;
 pub use suspicion::{Doubt, Suspicion};

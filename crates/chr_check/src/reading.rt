@@ -85,6 +85,6 @@ pub(crate) fn reading_mistake<A: Allocator + Copy>(
         begin: piece.begin.saturating_add(begin),
         width: halt.at.width,
         detail,
-        hint: halt.hint(),
+        hint: halt.hint(language),
     })
 }

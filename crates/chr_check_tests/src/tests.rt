@@ -1,10 +1,13 @@
 //! Each growth of a call refused in turn: that the refusal is a growth's, and that the same call then answers.
-use chr_check::{Doubt, mistakes, query_mistakes, suspicions};
+use chr_check::{Doubt, Language, expected, mistakes, query_mistakes, suspicions};
 use chr_term::Memory;
 use refusing_alloc::{Refusing, refused_in_turn};
 use std::alloc::{Allocator, Global};
 use std::process::Abort;
-use std::test::Fail;
+
+mod checks;
+
+use checks::{equal, got, holds};
 
 /// More growths than a call of these tests asks for.
 const AMPLE: u64 = 1_000_000;
@@ -28,6 +31,7 @@ path(X,Y) \\ path(X,Y) <=> true.";
 enum Call {
     Mistakes,
     QueryMistakes,
+    Expected,
     Suspicions,
 }
 
@@ -51,6 +55,10 @@ fn answers<A: Allocator + Copy>(alloc: A, call: Call) -> Result<bool, Memory> {
             let query = "path(1,2), X \\= 1, edge(1).";
             Ok(query_mistakes(alloc, SUSPECT.as_bytes(), query.as_bytes())?.len() == 2)
         }
+        Call::Expected => {
+            let front = "path(X,Y) <=>";
+            Ok(!expected(alloc, Language::Program, front.as_bytes())?.is_empty())
+        }
         Call::Suspicions => suspects(alloc),
     }
 }
@@ -67,21 +75,23 @@ fn is_through<M: Allocator + Copy>(
 ) -> bool {
     meter.allow(left);
     let answer = answers(alloc, call);
-    assert_eq!(rt; meter.asked() > left, answer.is_err(), "{call:?} {left}");
+    equal(rt, meter.asked() > left, answer.is_err());
     meter.allow(AMPLE);
-    assert!(rt; answer.is_err() || answer == Ok(true), "{call:?} {left}");
+    holds(rt, answer.is_err() || answer == Ok(true));
     answer.is_ok()
 }
 
 #[test]
-fn want_of_memory(rt: HostRuntime) -> Result<(), Fail> {
+fn want_of_memory(rt: HostRuntime) {
     let meter = Refusing::new(rt.alloc(), 0);
-    for call in [Call::Mistakes, Call::QueryMistakes, Call::Suspicions] {
-        let refused = refused_in_turn(MOST, |left| -> Result<bool, Fail> {
-            Ok(is_through(&rt, &meter, &meter, call, left))
-        })?;
+    for call in [
+        Call::Mistakes,
+        Call::QueryMistakes,
+        Call::Expected,
+        Call::Suspicions,
+    ] {
+        let refused = refused_in_turn(MOST, |left| is_through(&rt, &meter, &meter, call, left));
         assert!(&rt; refused > 0 && refused < MOST, "{call:?} {refused}");
-        assert!(&rt; answers(&meter, call) == Ok(true), "{call:?}");
+        holds(&rt, got(&rt, answers(&meter, call)));
     }
-    Ok(())
 }

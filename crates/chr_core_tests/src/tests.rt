@@ -10,10 +10,12 @@ use refusing_alloc::{Refusing, Turn, refused_in_turn};
 use std::alloc::{Allocator, Global};
 use std::process::Abort;
 use std::sync::Wait;
-use std::test::Fail;
 
 mod calls;
+mod checks;
 mod replays;
+
+use checks::{equal, got, holds};
 
 /// More than can be refused in turn.
 const MOST: u64 = 1_000;
@@ -23,6 +25,27 @@ const MOST: u64 = 1_000;
 struct Scene<'m, A> {
     alloc: A,
     turn: Turn<'m, Global>,
+}
+
+/// `speculation` and its query.
+fn both<A: Allocator + Copy>(rt: &impl Abort, alloc: A) -> (Program<A>, Query<A>)
+    ensures { IsQueryBounded (query_view result.1) }
+{
+    match both_of(alloc, SPECULATION.program, SPECULATION.query) {
+        Ok(both) => both,
+        Err(mistake) => panic!(rt; "refused: {mistake:?}"),
+    }
+}
+
+/// The same query once more.
+fn copied<A: Allocator + Copy>(rt: &impl Abort, query: &Query<A>) -> Query<A>
+    requires { IsQueryBounded (query_view query.now) }
+    ensures { IsQueryBounded (query_view result) }
+{
+    match query.copy() {
+        Ok(copy) => return copy,
+        Err(error) => panic!(rt; "refused: {error:?}"),
+    }
 }
 
 /// The numbers of kept, late, double, used and own events.

@@ -2,7 +2,7 @@
 use Rattle.std.proofs.Common.{◌≡◌, ◌∙◌, ◌<◌, ◌≤◌, ◌+◌, ◌∷◌, [], List, None, Option, Some, add-one, ap, arith, cond, drop, false, get_or, length, map, refl, suc, sym, true, zero, ℕ}
 use Rattle.std.proofs.lemmas.List.{length-map}
 use Rattle.std.proofs.lemmas.Option.{slice_get_read}
-use Rattle.std.specs.Prelude.{slice_get}
+use Rattle.std.specs.Prelude.{option_and_then, slice_get}
 use Rattle.chr_semantics.specs.Program.{Program}
 use Rattle.chr_semantics.specs.Search.{History}
 use Rattle.chr_store.specs.HistoryView.{fired_view, firings_view}
@@ -35,23 +35,17 @@ mapped_at f [] n x e = cc
 mapped_at f (y ∷ ys) zero x e = let same : y ≡ x = cc in ap (λ z. Some (f z)) same
 mapped_at f (y ∷ ys) (suc n) x e = mapped_at f ys n x e
 
--- of firings that were looked at up to the n-th, which is e
-module _ (p : Program) (es : List Fired) (i n : ℕ) (e : Fired) (here : n < length es) (is : e ≡ get_or es n e) where
-  there : slice_get (firings_view es) n ≡ Some (fired_view e)
-  there = mapped_at fired_view es n e (slice_get_read es (length es) n e refl here is)
+-- of firings that were looked at from the last one down, the n-th of which is e, by the place that is kept for a constraint
+pub looked_down : (p : Program) (h : History) (i n : ℕ) (e : ℕ × List ℕ) (old new : Option ℕ) → slice_get h n ≡ Some e
+    → ((ks : List ℕ) → length ks ≡ length h → removal p (drop (n + 1) ks) (drop (n + 1) h) i ≡ option_and_then (slice_get ks) old)
+    → ((ks : List ℕ) → option_and_then (slice_get ks) new ≡ removes_of (slice_get p e.0) e.1 i (slice_get ks n) (option_and_then (slice_get ks) old))
+    → (ks : List ℕ) → length ks ≡ length h → removal p (drop n ks) (drop n h) i ≡ option_and_then (slice_get ks) new
+looked_down p h i n e old new is before more ks l =
+    removal_at p ks h i n e is l ∙ ap (λ later. removes_of (slice_get p e.0) e.1 i (slice_get ks n) later) (before ks l) ∙ sym (more ks)
 
-  as_many : (ks : List ℕ) → length ks ≡ length es → length ks ≡ length (firings_view es)
-  as_many ks l = l ∙ sym (length-map es fired_view)
+pub dropped : {X : Type 0} (k j : ℕ) (x : X) (xs : List X) → j + 1 ≡ k → drop k (x ∷ xs) ≡ drop j xs
+dropped k j x xs e = ap (λ m. drop m (x ∷ xs)) (sym e ∙ add-one j)
 
-  abbrev pub Passed : ℕ → Type 0
-  Passed m = (ks : List ℕ) → length ks ≡ length es → removal p ks (firings_view es) i ≡ removal p (drop m ks) (drop m (firings_view es)) i
-
-  pub goes : ((k later : Option ℕ) → removes_of (slice_get p e.rule) e.ids i k later ≡ cond true k later) → Passed n → (ks : List ℕ) → length ks ≡ length es → removal p ks (firings_view es) i ≡ slice_get ks n
-  goes h before ks l = before ks l ∙ removal_at p ks (firings_view es) i n (fired_view e) there (as_many ks l) ∙ h (slice_get ks n) _
-
-  pub stays : ((k later : Option ℕ) → removes_of (slice_get p e.rule) e.ids i k later ≡ cond false k later) → Passed n → Passed (n + 1)
-  stays h before ks l = before ks l ∙ removal_at p ks (firings_view es) i n (fired_view e) there (as_many ks l) ∙ h (slice_get ks n) _
-
-pub none_goes : (p : Program) (es : List Fired) (i n : ℕ) → length es ≤ n → ((ks : List ℕ) → length ks ≡ length es → removal p ks (firings_view es) i ≡ removal p (drop n ks) (drop n (firings_view es)) i)
-    → (ks : List ℕ) → length ks ≡ length es → removal p ks (firings_view es) i ≡ None
-none_goes p es i n out before ks l = before ks l ∙ removal_past p ks (firings_view es) i n (omega (arith, out, length-map es fired_view)) (l ∙ sym (length-map es fired_view))
+-- the firing at a place, as its rule and identities
+pub firing_there : (es : List Fired) (n : ℕ) (e : Fired) → n < length es → e ≡ get_or es n e → slice_get (firings_view es) n ≡ Some (fired_view e)
+firing_there es n e here is = mapped_at fired_view es n e (slice_get_read es (length es) n e refl here is)

@@ -1,17 +1,18 @@
 -- Runs that are watched, a transition at a time.
-use Rattle.std.proofs.Common.{◌≡◌, ◌∙◌, ◌+◌, ◌<◌, ◌≤◌, ◌≢◌, ◌⊎◌, ◌∷◌, [], inl, inr, List, None, Option, Some, add-one, Bor, ap, arith, get_or, length, nat_lt, option_map, refl, true≢false, subst, suc, sym, zero, ◌-◌, ℕ}
+use Rattle.std.proofs.Common.{◌≡◌, ◌∙◌, ◌+◌, ◌<◌, ◌≤◌, ◌≢◌, ◌⊎◌, ◌∷◌, [], inl, inr, List, None, Option, Some, add-one, Bor, ap, arith, get_or, length, nat_lt, option_map, refl, true≢false, subst, suc, sym, zero, ◌-◌, ℕ, cond, true}
 use Rattle.std.proofs.lemmas.List.{length-map}
 use Rattle.std.proofs.lemmas.Bool.{lt-ltb}
 use Rattle.std.proofs.lemmas.Option.{slice_get_past, slice_get_read}
-use Rattle.std.specs.Prelude.{IfSome, is_some, option_and_then, slice_get}
+use Rattle.std.specs.Prelude.{IfSome, is_some, option_and_then, slice_get, unwrap_or}
 use Rattle.chr_semantics.specs.Life.{gone, taken_by}
+use Rattle.chr_semantics.specs.Profile.{goal_of}
 use Rattle.chr_semantics.specs.Search.{History}
 use Rattle.chr_store.specs.HistoryView.{fired_view, firings_view}
 use Rattle.chr_store.specs.declared.fired.Fired.{Fired}
 use Rattle.chr_semantics.specs.Names.{Names}
 use Rattle.chr_semantics.specs.Program.{Atom, Program, Query}
 use Rattle.chr_semantics.specs.State.{Element, State, running, start}
-use Rattle.chr_semantics.specs.Step.{after, step}
+use Rattle.chr_semantics.specs.Step.{after, is_running, step}
 use Rattle.chr_semantics.proofs.Soundness.{sound_after, sound_start}
 use Rattle.chr_trace.specs.State.{elem_view, stack_onto, stack_view}
 use Rattle.chr_trace.specs.declared.state.Elem.{Elem}
@@ -19,9 +20,11 @@ use Rattle.chr_semantics.specs.declared.limits.TheConstants.{MAX_TRANSITIONS}
 use Rattle.chr_machine.proofs.Runs.{further_same}
 use Rattle.chr_machine.specs.MachineView.{Further, Moves, Starts}
 use Rattle.chr_machine.specs.Model.{Model, state_in}
+use Rattle.chr_look.specs.Leavings.{place_at}
 use Rattle.chr_look.specs.LogView.{log_view}
-use Rattle.chr_look.specs.Logs.{IsFirst, IsLog, IsNoted, LogModel, Sight, brought, removal, sight}
-use Rattle.chr_look.specs.Watching.{IsRunOf, IsWatched, machine_in}
+use Rattle.chr_look.specs.Logs.{IsFirst, IsLog, IsNoted, LogModel, Sight, brought, entry_at, removal, sight}
+use Rattle.chr_look.specs.Watching.{AreRemovalsIn, IsRunOf, IsWatched, machine_in}
+use Rattle.chr_look.specs.declared.leaving.Removals.{Removals}
 use Rattle.chr_look.specs.declared.watching.Watched.{Watched}
 use Rattle.chr_look.proofs.Asked.{gone_told, taken_told}
 use Rattle.chr_look.proofs.Fallen.{falls}
@@ -125,24 +128,40 @@ viewed (Some b) es n there is = by (apart n (length es))
     by (inr (inl e)) = past (omega (arith, e))
     by (inr (inr l)) = past (omega (arith, l))
 
--- of a watched run, by the place of the first firing that removes the constraint
-module _ {A : Type 0} (w : Watched A) (rules : Program) (es : List Fired) (i : ℕ) (place : Option ℕ) (same_rules : rules ≡ (machine_in w).rules) (same_entries : firings_view es ≡ (machine_in w).base.entries.list)
-    (first : (ks : List ℕ) → length ks ≡ length es → removal rules ks (firings_view es) i ≡ option_and_then (slice_get ks) place) (p : Program) (q : Query) (h : IsWatched p q w) (one : 0 < i) where
-  entries_are : firings_view es ≡ (after p (start q) (machine_in w).steps).history
-  entries_are = same_entries ∙ ap (λ (s : State). s.history) h.state_is
+-- of a watched run, by the place that is kept of the first firing that removes the constraint
+module _ {A : Type 0} (w : Watched A) (r : Removals A) (i : ℕ) (are : AreRemovalsIn w r) (p : Program) (q : Query) (h : IsWatched p q w) (one : 0 < i) where
+  entries_are : (machine_in w).base.entries.list ≡ (after p (start q) (machine_in w).steps).history
+  entries_are = ap (λ (s : State). s.history) h.state_is
 
   from_one : i ≡ (i - 1) + 1
   from_one = omega (arith, one)
 
-  first_there : (ks : List ℕ) → length ks ≡ length (after p (start q) (machine_in w).steps).history → removal p ks (after p (start q) (machine_in w).steps).history ((i - 1) + 1) ≡ option_and_then (slice_get ks) place
-  first_there ks l =
-      let as_long : length ks ≡ length es = l ∙ sym (ap (λ (f : History). length f) entries_are) ∙ length-map es fired_view in
-      sym (λ k. removal ((same_rules ∙ h.rules_are) k) ks (entries_are k) (from_one k)) ∙ first ks as_long
+  first_there : (ks : List ℕ) → length ks ≡ length (after p (start q) (machine_in w).steps).history → removal p ks (after p (start q) (machine_in w).steps).history ((i - 1) + 1) ≡ option_and_then (slice_get ks) (place_at r.places.items i)
+  first_there ks l = sym (λ k. removal (h.rules_are k) ks (entries_are k) (from_one k)) ∙ are i ks (l ∙ sym (ap (λ (f : History). length f) entries_are))
 
-  pub gone_is : option_and_then (slice_get (log_view w.log).times) place ≡ gone p (start q) (machine_in w).steps i
-  gone_is = gone_told p (start q) (machine_in w).steps (log_view w.log) h.log_is (i - 1) place first_there ∙ ap (gone p (start q) (machine_in w).steps) (sym from_one)
+  pub gone_is : option_and_then (slice_get (log_view w.log).times) (place_at r.places.items i) ≡ gone p (start q) (machine_in w).steps i
+  gone_is = gone_told p (start q) (machine_in w).steps (log_view w.log) h.log_is (i - 1) (place_at r.places.items i) first_there ∙ ap (gone p (start q) (machine_in w).steps) (sym from_one)
 
-  pub taken_is : option_and_then (slice_get (firings_view es)) place ≡ taken_by p (start q) (machine_in w).steps i
+  pub taken_is : option_and_then (slice_get (machine_in w).base.entries.list) (place_at r.places.items i) ≡ taken_by p (start q) (machine_in w).steps i
   taken_is =
-      ap (λ (f : History). option_and_then (slice_get f) place) entries_are ∙ taken_told p (start q) (machine_in w).steps (log_view w.log) h.log_is (i - 1) place first_there
+      ap (λ (f : History). option_and_then (slice_get f) (place_at r.places.items i)) entries_are ∙ taken_told p (start q) (machine_in w).steps (log_view w.log) h.log_is (i - 1) (place_at r.places.items i) first_there
       ∙ ap (taken_by p (start q) (machine_in w).steps) (sym from_one)
+
+unwrapped : (o : Option (Option ℕ)) (h : History) → entry_at h (Some (unwrap_or o None)) ≡ entry_at h o
+unwrapped None h = refl
+unwrapped (Some e) h = refl
+
+-- of a watched run, by what was kept for the height of its stack
+pub goal_rule_is : {A : Type 0} (p : Program) (q : Query) (w : Watched A) → IsWatched p q w → (es : List Fired) (stack : List (Elem A)) (place : Option ℕ) → firings_view es ≡ (machine_in w).base.entries.list
+    → stack_view stack ≡ (machine_in w).stack → place ≡ unwrap_or (slice_get (log_view w.log).lows (length stack)) None → option_map (λ (f : ℕ × List ℕ). f.0) (entry_at (firings_view es) (Some place)) ≡ goal_of p (start q) (machine_in w).steps
+goal_rule_is p q w h es stack place entries_is stack_is place_is =
+    let t = after p (start q) (machine_in w).steps in
+    let lows = (log_view w.log).lows in
+    let same : length stack ≡ length t.stack = sym (stack_long stack) ∙ ap (λ (xs : List Element). length xs) stack_is ∙ ap (λ (s : State). length s.stack) h.state_is in
+    let history : firings_view es ≡ t.history = entries_is ∙ ap (λ (s : State). s.history) h.state_is in
+    let here : entry_at (firings_view es) (Some place) ≡ entry_at t.history (Some (unwrap_or (slice_get lows (length stack)) None)) = (λ k. entry_at (history k) (Some (place_is k))) in
+    ap (option_map (λ (f : ℕ × List ℕ). f.0)) (here ∙ unwrapped (slice_get lows (length stack)) t.history ∙ ap (λ j. entry_at t.history (slice_get lows j)) same ∙ h.log_is.lows_are (length t.stack) (omega arith))
+
+-- how many elements stand in the place of the top, where the run goes on
+pub put_is : {A : Type 0} (es : List (Elem A)) (s : State) (height n : ℕ) → is_running s.status ≡ true → stack_view es ≡ s.stack → n ≡ length es + 1 - height → n ≡ cond (is_running s.status) (length s.stack + 1 - height) 0
+put_is es s height n runs stack is = rw runs (is ∙ ap (λ l. l + 1 - height) (sym (stack_long es) ∙ ap (λ (xs : List Element). length xs) stack))

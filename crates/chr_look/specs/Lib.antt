@@ -1,9 +1,16 @@
+pub mod CostView
+pub mod FrontView
 pub mod Joinings
+pub mod KindView
+pub mod Leavings
 pub mod LogView
 pub mod Logs
+pub mod LookedView
 pub mod Looking
+pub mod Making
 pub mod Matches
-pub mod Searching
+pub mod NextView
+pub mod Profiling
 pub mod Variables
 pub mod VerdictView
 pub mod Watching

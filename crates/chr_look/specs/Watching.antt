@@ -8,8 +8,10 @@ use Rattle.chr_semantics.specs.Step.{after}
 use Rattle.chr_semantics.specs.declared.limits.TheConstants.{MAX_TRANSITIONS}
 use Rattle.chr_machine.specs.MachineView.{Further, Starts, machine_view}
 use Rattle.chr_machine.specs.Model.{Model, state_in}
+use Rattle.chr_look.specs.Leavings.{AreRemovals}
 use Rattle.chr_look.specs.Logs.{IsLog}
 use Rattle.chr_look.specs.LogView.{log_view}
+use Rattle.chr_look.specs.declared.leaving.Removals.{Removals}
 use Rattle.chr_look.specs.declared.watching.Watched.{Watched}
 
 abbrev pub machine_in : {A : Type 0} → Watched A → Model
@@ -35,3 +37,7 @@ Tells f w i x = (p : Program) (q : Query) → IsWatched p q w → 0 < i → x �
 -- the constraint of the identity after the k-th transition
 abbrev pub HasAtom : {A : Type 0} → Watched A → ℕ → ℕ → Atom → Type 0
 HasAtom w i k a = (p : Program) (q : Query) → IsWatched p q w → 0 < i → atom_of (after p (start q) k).store i ≡ Some a
+
+-- which firings of the run removed constraints
+abbrev pub AreRemovalsIn : {A : Type 0} → Watched A → Removals A → Type 0
+AreRemovalsIn w r = AreRemovals (machine_in w).rules (machine_in w).base.entries.list r

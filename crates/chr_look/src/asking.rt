@@ -1,11 +1,12 @@
 //! What a watched run tells of a constraint.
-ghost use Rattle.std.specs.Prelude.{◌≡◌, ◌<◌, IfSome, Some, option_map};
+ghost use Rattle.std.specs.Prelude.{◌≡◌, ◌<◌, IfOk, IfSome, Some, option_map};
 ghost use Rattle.chr_semantics.specs.Life.{came, gone, made_by, taken_by};
 ghost use Rattle.chr_store.specs.HistoryView.{fired_view};
 ghost use Rattle.chr_look.specs.LogView.{atom_of_birth};
-ghost use Rattle.chr_look.specs.Watching.{HasAtom, Tells};
+ghost use Rattle.chr_look.specs.Watching.{AreRemovalsIn, HasAtom, Tells};
 
-use crate::leaving::first_removal;
+use crate::Memory;
+use crate::leaving::Removals;
 use crate::log::Birth;
 use crate::watching::Watched;
 use chr_store::{Entry, Id};
@@ -34,24 +35,30 @@ impl<'p, A: Allocator + Copy> Watched<'p, A> {
         }
     }
 
-    /// The transition that took the constraint of an identity out. There is none where it lives or has not come.
-    pub fn departure(&self, id: Id) -> Option<u64>
-        ensures { Tells gone self.now id.0 result }
+    /// Which firing removed each constraint that is gone. The only error is want of memory.
+    pub fn removals(&self, alloc: A) -> Result<Removals<A>, Memory>
+        ensures { IfOk result (AreRemovalsIn self.now) }
     {
         let machine = self.machine();
-        match first_removal(machine.program(), machine.history().list(), id) {
+        Removals::of(alloc, machine.program(), machine.history().list())
+    }
+
+    /// The transition that took the constraint of an identity out, by the run's removals. There is none where it lives or has not come.
+    pub fn departure(&self, removals: &Removals<A>, id: Id) -> Option<u64>
+        ensures { AreRemovalsIn self.now removals.now → Tells gone self.now id.0 result }
+    {
+        match removals.place(id) {
             None => None,
             Some(place) => self.log().time(place),
         }
     }
 
-    /// The firing that took the constraint of an identity out.
-    pub fn remover(&self, id: Id) -> Option<&Entry<A>>
-        ensures { Tells taken_by self.now id.0 (option_map (λ e. fired_view e.now) result) }
+    /// The firing that took the constraint of an identity out, by the run's removals.
+    pub fn remover(&self, removals: &Removals<A>, id: Id) -> Option<&Entry<A>>
+        ensures { AreRemovalsIn self.now removals.now → Tells taken_by self.now id.0 (option_map (λ e. fired_view e.now) result) }
     {
-        let machine = self.machine();
-        let entries = machine.history().list();
-        match first_removal(machine.program(), entries, id) {
+        let entries = self.machine().history().list();
+        match removals.place(id) {
             None => None,
             Some(place) => entries.get(place),
         }

@@ -39,7 +39,7 @@ pub(crate) fn absence<A: Allocator + Copy>(store: &Store<A>, ids: &[Id]) -> Opti
 }
 
 /// Whether an identity is among others.
-fn is_among(id: Id, ids: &[Id]) -> bool
+pub(crate) fn is_among(id: Id, ids: &[Id]) -> bool
     ensures { result ≡ has_number (numbers ids.now) id.0 }
 {
     match ids.split_first() {

@@ -71,7 +71,7 @@ impl<A: Allocator + Copy> Log<A> {
     }
 
     /// The entry whose firing put the top goal on a stack so high, where one did.
-    fn origin(&self, height: usize) -> Option<usize>
+    pub(crate) fn origin(&self, height: usize) -> Option<usize>
         ensures { result ≡ unwrap_or (slice_get self.now.lows.items height) None }
     {
         match self.lows.get(height) {

@@ -15,6 +15,7 @@ ghost use Rattle.chr_look.specs.Watching.{IsRunOf, IsWatched, machine_in};
 
 use crate::judging::judge;
 use crate::looked::{all_live, looked_at};
+use crate::notes::{Notes, go_on};
 use crate::verdict::Verdict;
 use crate::watching::Watched;
 use chr_machine::{Id, Machine, Status, Stepped};
@@ -138,32 +139,38 @@ fn search_for<A: Allocator + Copy>(
     }))
 }
 
-/// Makes a transition of a watched run, and notes what it did with the list.
-fn step_list<A: Allocator + Copy>(
+/// A rule, by its number from 0, and a list of identities.
+#[derive(Clone, Copy, Drop)]
+pub(crate) struct Listed<A: Allocator + Copy> {
     alloc: A,
-    watched: &mut Watched<'_, A>,
-    list: &mut ListLog<A>,
     rule: usize,
     ids: HeadIds,
-) -> Result<Stepped, Memory>
-    requires { rule < length (machine_in watched.old).rules }
-    ensures steps { IfOk result (λ stepped. Steps stepped (machine_in watched.old) (machine_in watched.new)) }
-    ensures watched { OnOk result ((p : semantics.Program) (q : semantics.Query)
-        → IsWatched p q watched.old → IsWatched p q watched.new) }
-    ensures list { OnOk result ((p : semantics.Program) (q : semantics.Query) (r : semantics.Rule)
-        → IsWatched p q watched.old → slice_get p rule ≡ Some r
-        → IsListLog p q (machine_in watched.old).steps rule r ids (list_view list.old)
-        → IsListLog p q (machine_in watched.new).steps rule r ids (list_view list.new)) }
-{
-    let search = search_for(alloc, watched.machine(), rule, ids)?;
-    match watched.step()? {
-        Stepped::Moved => {
-            list.note_search(search)?;
-            list.note_state(alloc, watched.machine(), rule, ids)?;
-            Ok(Stepped::Moved)
+}
+
+impl<A: Allocator + Copy> Notes<A> for ListLog<A> {
+    type Subject = Listed<A>;
+
+    ghost are_of = { λ listed log p q n. (r : semantics.Rule) → slice_get p listed.rule ≡ Some r
+        → IsListLog p q n listed.rule r listed.ids (list_view log) };
+
+    ghost has = { λ p listed. listed.rule < length p };
+
+    fn step(
+        &mut self,
+        listed: &Listed<A>,
+        watched: &mut Watched<'_, A>,
+    ) -> Result<Stepped, Memory> {
+        let Listed { alloc, rule, ids } = *listed;
+        let search = search_for(alloc, watched.machine(), rule, ids)?;
+        match watched.step()? {
+            Stepped::Moved => {
+                self.note_search(search)?;
+                self.note_state(alloc, watched.machine(), rule, ids)?;
+                Ok(Stepped::Moved)
+            }
+            Stepped::Ended => Ok(Stepped::Ended),
+            Stepped::Spent => Ok(Stepped::Spent),
         }
-        Stepped::Ended => Ok(Stepped::Ended),
-        Stepped::Spent => Ok(Stepped::Spent),
     }
 }
 
@@ -190,13 +197,6 @@ pub fn watch_list<'p, A: Allocator + Copy>(
         could_from: None,
     };
     list.note_state(alloc, watched.machine(), rule, ids)?;
-    let mut made = 0;
-    while made < n {
-        match step_list(alloc, &mut watched, &mut list, rule, ids)? {
-            Stepped::Moved => made += 1,
-            Stepped::Ended => return Ok((watched, list)),
-            Stepped::Spent => return Ok((watched, list)),
-        }
-    }
+    go_on(&mut watched, &Listed { alloc, rule, ids }, &mut list, n)?;
     Ok((watched, list))
 }

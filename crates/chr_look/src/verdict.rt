@@ -1,4 +1,9 @@
 //! Why a rule does not fire with a list of constraints, or that it could.
+ghost use Rattle.std.specs.Prelude.{◌≡◌, ◌<◌};
+ghost use Rattle.chr_semantics.specs.Lists.{detail as detail_of};
+ghost use Rattle.chr_semantics.specs.Verdict.{stage as stage_of};
+ghost use Rattle.chr_look.specs.VerdictView.{verdict_view};
+
 use crate::joining::Parting;
 use chr_bind::Lack;
 use chr_store::Id;
@@ -26,4 +31,44 @@ pub enum Verdict<A: Allocator = Global> {
     Guard(usize, Lack),
     /// Nothing.
     CouldFire,
+}
+
+impl<A: Allocator> Verdict<A> {
+    /// Its place among the kinds of verdicts, from 1, in the order in which they count.
+    pub(crate) fn stage(&self) -> usize
+        ensures is { result ≡ stage_of (verdict_view self.now) }
+        ensures few { result < 9 }
+    {
+        match self {
+            Verdict::Fired => 1,
+            Verdict::NotYetThere(_) => 2,
+            Verdict::Removed(_) => 2,
+            Verdict::Twice(_) => 3,
+            Verdict::OtherSymbol(_) => 4,
+            Verdict::Unlike(_, _) => 5,
+            Verdict::Waits(_, _) => 6,
+            Verdict::Guard(_, _) => 7,
+            Verdict::CouldFire => 8,
+        }
+    }
+
+    /// The number of the head that is unlike or waits, or of the test that lacks something; 0 where there is none.
+    pub(crate) fn detail(&self) -> usize
+        ensures { result ≡ detail_of (verdict_view self.now) }
+    {
+        match self {
+            Verdict::Fired => 0,
+            Verdict::NotYetThere(_) => 0,
+            Verdict::Removed(_) => 0,
+            Verdict::Twice(_) => 0,
+            Verdict::OtherSymbol(_) => 0,
+            Verdict::Unlike(way, _) => match way.first() {
+                None => 0,
+                Some(head) => *head,
+            },
+            Verdict::Waits(head, _) => *head,
+            Verdict::Guard(test, _) => *test,
+            Verdict::CouldFire => 0,
+        }
+    }
 }

@@ -13,6 +13,7 @@ ghost use Rattle.chr_machine.specs.Model.{state_in};
 ghost use Rattle.chr_look.specs.Watching.{IsRunOf, IsWatched, machine_in};
 
 use crate::looking::is_running;
+use crate::notes::{Notes, go_on};
 use crate::watching::Watched;
 use chr_machine::{Id, Machine, Stepped};
 use chr_rules::{Program, Query};
@@ -53,37 +54,39 @@ fn is_woken_next<A: Allocator + Copy>(machine: &Machine<'_, A>, id: Id) -> bool
     }
 }
 
-/// Notes a transition, where it made the constraint active again.
-fn note<A: Allocator>(woken: &mut Vec<u64, A>, is_woken: bool, at: u64) -> Result<(), Memory>
-    ensures { OnOk result (woken.new.items ≡ woken.old.items ++ cond is_woken (at ∷ []) []) }
-{
-    if is_woken {
-        woken.push(at)?;
-    }
-    Ok(())
+/// At which transitions a constraint was made active again.
+#[derive(Drop)]
+pub(crate) struct Wakings<A: Allocator> {
+    at: Vec<u64, A>,
 }
 
-/// Makes a transition of a watched run, and notes it where it makes the constraint active again.
-fn step_life<A: Allocator + Copy>(
-    watched: &mut Watched<'_, A>,
-    id: Id,
-    woken: &mut Vec<u64, A>,
-) -> Result<Stepped, Memory>
-    ensures steps { IfOk result (λ stepped. Steps stepped (machine_in watched.old) (machine_in watched.new)) }
-    ensures watched { OnOk result ((p : semantics.Program) (q : semantics.Query)
-        → IsWatched p q watched.old → IsWatched p q watched.new) }
-    ensures woken { OnOk result ((p : semantics.Program) (q : semantics.Query)
-        → IsWatched p q watched.old → woken.old.items ≡ woken_by p (start q) (machine_in watched.old).steps id.0
-        → woken.new.items ≡ woken_by p (start q) (machine_in watched.new).steps id.0) }
-{
-    let is_woken = is_woken_next(watched.machine(), id);
-    match watched.step()? {
-        Stepped::Moved => {
-            note(woken, is_woken, watched.machine().steps())?;
-            Ok(Stepped::Moved)
+impl<A: Allocator + Copy> Wakings<A> {
+    /// Notes a transition, where it made the constraint active again.
+    fn note(&mut self, is_woken: bool, at: u64) -> Result<(), Memory>
+        ensures { OnOk result (self.new.at.items ≡ self.old.at.items ++ cond is_woken (at ∷ []) []) }
+    {
+        if is_woken {
+            self.at.push(at)?;
         }
-        Stepped::Ended => Ok(Stepped::Ended),
-        Stepped::Spent => Ok(Stepped::Spent),
+        Ok(())
+    }
+}
+
+impl<A: Allocator + Copy> Notes<A> for Wakings<A> {
+    type Subject = Id;
+
+    ghost are_of = { λ id wakings p q n. wakings.at.items ≡ woken_by p (start q) n id.0 };
+
+    fn step(&mut self, id: &Id, watched: &mut Watched<'_, A>) -> Result<Stepped, Memory> {
+        let is_woken = is_woken_next(watched.machine(), *id);
+        match watched.step()? {
+            Stepped::Moved => {
+                self.note(is_woken, watched.machine().steps())?;
+                Ok(Stepped::Moved)
+            }
+            Stepped::Ended => Ok(Stepped::Ended),
+            Stepped::Spent => Ok(Stepped::Spent),
+        }
     }
 }
 
@@ -102,14 +105,9 @@ pub fn watch_life<'p, A: Allocator + Copy>(
         ≡ woken_by (rules_of program.now) (start (query_view query)) (machine_in both.0).steps id.0) }
 {
     let mut watched = Watched::start(alloc, program, query)?;
-    let mut woken = Vec::new(alloc);
-    let mut made = 0;
-    while made < n {
-        match step_life(&mut watched, id, &mut woken)? {
-            Stepped::Moved => made += 1,
-            Stepped::Ended => return Ok((watched, woken)),
-            Stepped::Spent => return Ok((watched, woken)),
-        }
-    }
-    Ok((watched, woken))
+    let mut wakings = Wakings {
+        at: Vec::new(alloc),
+    };
+    go_on(&mut watched, &id, &mut wakings, n)?;
+    Ok((watched, wakings.at))
 }

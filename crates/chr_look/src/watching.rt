@@ -1,21 +1,24 @@
 //! Runs that are watched: each transition is noted.
-ghost use Rattle.std.specs.Prelude.{◌≡◌, IfOk, OnOk, option_map};
+ghost use Rattle.std.specs.Prelude.{◌≡◌, IfOk, OnOk, Some, option_map};
 ghost use Rattle.chr_semantics.specs.Bounds.{IsQueryBounded};
-ghost use Rattle.chr_semantics.specs.Profile.{tries_next};
+ghost use Rattle.chr_semantics.specs.Profile.{goal_of, tries_next};
 ghost use Rattle.chr_semantics.specs.Program as semantics;
 ghost use Rattle.chr_semantics.specs.Search.{atom_of};
+ghost use Rattle.chr_semantics.specs.State.{start};
 ghost use Rattle.chr_rules.specs.ProgramView.{names_of, rules_of};
 ghost use Rattle.chr_rules.specs.RuleView.{query_view};
 ghost use Rattle.chr_term.specs.TermView.{atom_over};
+ghost use Rattle.chr_store.specs.HistoryView.{firings_view};
 ghost use Rattle.chr_machine.specs.MachineView.{Steps, Starts, machine_view};
 ghost use Rattle.chr_machine.specs.Model.{state_in};
-ghost use Rattle.chr_look.specs.Logs.{sight};
+ghost use Rattle.chr_look.specs.Logs.{entry_at, sight};
 ghost use Rattle.chr_look.specs.LogView.{sight_view};
-ghost use Rattle.chr_look.specs.Watching.{IsRunOf, IsWatched, machine_in};
+ghost use Rattle.chr_look.specs.Watching.{IsWatched, machine_in};
 
 use crate::log::{Log, Sight};
 use chr_machine::{Id, Machine, Stepped};
 use chr_rules::{Program, Query};
+use chr_store::Entry;
 use chr_term::{Args, Memory, Sym};
 use std::alloc::{Allocator, Global};
 
@@ -48,6 +51,13 @@ fn constraint_of<A: Allocator + Copy>(
         None => Ok(None),
         Some(row) => Ok(Some((row.sym, row.args.share()?))),
     }
+}
+
+/// The rule of an entry, by its place.
+fn rule_of<A: Allocator>(entries: &[Entry<A>], place: Option<usize>) -> Option<usize>
+    ensures { result ≡ option_map (λ f. f.0) (entry_at (firings_view entries.now) (Some place)) }
+{
+    Some(entries.get(place?)?.rule())
 }
 
 impl<'p, A: Allocator + Copy> Watched<'p, A> {
@@ -98,30 +108,6 @@ impl<'p, A: Allocator + Copy> Watched<'p, A> {
     }
 }
 
-/// The run of a query over a program, of n transitions, or of fewer where it ends before or 1,000,000 stand, with what was noted of it.
-/// The only error is want of memory.
-pub fn watch<'p, A: Allocator + Copy>(
-    alloc: A,
-    program: &'p Program<A>,
-    query: Query<A>,
-    n: u64,
-) -> Result<Watched<'p, A>, Memory>
-    requires { IsQueryBounded (query_view query) }
-    ensures run { IfOk result (λ watched. IsRunOf (names_of program.now) (rules_of program.now) (query_view query) n (machine_in watched)) }
-    ensures watched { IfOk result (IsWatched (rules_of program.now) (query_view query)) }
-{
-    let mut watched = Watched::start(alloc, program, query)?;
-    let mut made = 0;
-    while made < n {
-        match watched.step()? {
-            Stepped::Moved => made += 1,
-            Stepped::Ended => return Ok(watched),
-            Stepped::Spent => return Ok(watched),
-        }
-    }
-    Ok(watched)
-}
-
 impl<'p, A: Allocator + Copy> Watched<'p, A> {
     /// The run where it stands.
     pub fn machine(&self) -> &Machine<'p, A>
@@ -135,5 +121,14 @@ impl<'p, A: Allocator + Copy> Watched<'p, A> {
         ensures { result.now ≡ self.now.log }
     {
         &self.log
+    }
+
+    /// The rule whose firing put the goal on the stack that is its top, where one did.
+    pub(crate) fn goal_rule(&self) -> Option<usize>
+        ensures { (p : semantics.Program) (q : semantics.Query) → IsWatched p q self.now
+            → result ≡ goal_of p (start q) (machine_in self.now).steps }
+    {
+        let entry = self.log.origin(self.machine.stack().len());
+        rule_of(self.machine.history().list(), entry)
     }
 }

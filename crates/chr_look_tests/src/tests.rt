@@ -1,173 +1,321 @@
-//! A run that is watched, and what it tells.
+//! Each growth of a call refused in turn: that the refusal is a growth's, and that the same call then answers.
 ghost use Rattle.std.specs.Prelude.{◌<◌, length};
 ghost use Rattle.chr_rules.specs.ProgramView.{rules_of};
 ghost use Rattle.chr_rules.specs.RuleView.{query_view};
 ghost use Rattle.chr_semantics.specs.Bounds.{IsQueryBounded};
 
+use chr_bind::{Lack, Test};
 use chr_look::{
-    ListLog, Searched, Verdict, Watched, judge, watch, watch_life, watch_list, watch_searches,
+    Kind, ListLog, Profile, Removals, Verdict, Watched, guard_test, judge, look_at_lists, watch,
+    watch_costs, watch_life, watch_list,
 };
-use chr_machine::Id;
+use chr_machine::{Id, Machine};
 use chr_rules::{Program, Query};
 use chr_store::HeadIds;
 use chr_term::Memory;
 use chr_texts::both_of;
-use std::alloc::Allocator;
+use refusing_alloc::Refusing;
+use std::alloc::{Allocator, Global};
 use std::process::Abort;
-use std::test::Fail;
 
-mod refusals;
+mod checks;
+
+use checks::{equal, got, holds};
 
 /// The greatest number of transitions.
 const BUDGET: u64 = 100;
 
-/// Tasks that are given to machines, the urgent ones too late.
-const SCHEDULING: &str = ":- chr_constraint task/2, free/1, run/2, idle/1, done/1.
-assign @ task(T,P), free(M) <=> run(T,M).
-urgent @ task(T,high), free(M) <=> run(T,M), idle(M).
-finish @ done(T), run(T,M) <=> free(M).";
+/// More growths than a call of these tests asks for.
+const AMPLE: u64 = 1_000_000;
 
-/// A greatest common divisor, by subtraction.
-const DIVIDING: &str = ":- chr_constraint gcd/1.
-zero @ gcd(0) <=> true.
-subtract @ gcd(N) \\ gcd(M) <=> M >= N | L is M-N, gcd(L).";
+/// More than a call that is refused in turn asks for.
+const MOST: u64 = 2_000;
 
-const TASKS: &str = "task(t1,low), task(t2,high), free(m1), done(t1).";
+/// A rule whose guard makes terms, one with which no constraint of the query can be made equal, and one that removes.
+const PROGRAM: &str = ":- chr_constraint p/2, q/1, gone/0.
+r @ p(X,Z), q(Y) ==> f(X,Z) = f(Y,Z) | true.
+s @ p(f(X),X) ==> true.
+t @ gone <=> true.";
 
-/// The calls, with no clause, so that a proof of a test does not follow the run.
+/// The constraints 1 and 2, which come at 1 and 5, and are made active again at 9 and 13; and 3, which is removed at 17.
+const QUERY: &str = "p(1,A), q(B), C = 3, gone.";
+
+// The calls, with no clause, so that a proof of a test does not follow the run. Each watches a copy of the query.
+
 fn watched<'p, A: Allocator + Copy>(
     alloc: A,
     program: &'p Program<A>,
-    query: Query<A>,
+    query: &Query<A>,
 ) -> Result<Watched<'p, A>, Memory>
-    requires { IsQueryBounded (query_view query) }
+    requires { IsQueryBounded (query_view query.now) }
 {
-    watch(alloc, program, query, BUDGET)
+    watch(alloc, program, query.copy()?, BUDGET)
 }
 
 fn life_watched<'p, A: Allocator + Copy>(
     alloc: A,
     program: &'p Program<A>,
-    query: Query<A>,
+    query: &Query<A>,
     id: Id,
 ) -> Result<(Watched<'p, A>, Vec<u64, A>), Memory>
-    requires { IsQueryBounded (query_view query) }
+    requires { IsQueryBounded (query_view query.now) }
 {
-    watch_life(alloc, program, query, BUDGET, id)
-}
-
-fn searches_watched<'p, A: Allocator + Copy>(
-    alloc: A,
-    program: &'p Program<A>,
-    query: Query<A>,
-) -> Result<(Watched<'p, A>, Vec<Searched, A>), Memory>
-    requires { IsQueryBounded (query_view query) }
-{
-    watch_searches(alloc, program, query, BUDGET)
+    watch_life(alloc, program, query.copy()?, BUDGET, id)
 }
 
 fn list_watched<'p, A: Allocator + Copy>(
     alloc: A,
     program: &'p Program<A>,
-    query: Query<A>,
+    query: &Query<A>,
     rule: usize,
     ids: HeadIds,
 ) -> Result<(Watched<'p, A>, ListLog<A>), Memory>
-    requires bounded { IsQueryBounded (query_view query) }
+    requires bounded { IsQueryBounded (query_view query.now) }
     requires rule { rule < length (rules_of program.now) }
 {
-    watch_list(alloc, program, query, BUDGET, rule, ids)
+    watch_list(alloc, program, query.copy()?, BUDGET, rule, ids)
 }
 
-/// When a constraint came and went.
-fn fate<A: Allocator + Copy>(watched: &Watched<'_, A>, id: u64) -> (Option<u64>, Option<u64>) {
-    let came = match watched.birth(Id(id)) {
-        None => None,
-        Some(birth) => Some(birth.at),
-    };
-    (came, watched.departure(Id(id)))
+fn costs_watched<'p, A: Allocator + Copy>(
+    alloc: A,
+    program: &'p Program<A>,
+    query: &Query<A>,
+) -> Result<(Watched<'p, A>, Profile<A>), Memory>
+    requires { IsQueryBounded (query_view query.now) }
+{
+    watch_costs(alloc, program, query.copy()?, BUDGET)
 }
 
-/// The rule that made a constraint, and the one that removed it.
-fn rules<A: Allocator + Copy>(watched: &Watched<'_, A>, id: u64) -> (Option<usize>, Option<usize>) {
-    let made = match watched.maker(Id(id)) {
-        None => None,
-        Some(entry) => Some(entry.rule()),
-    };
-    let removed = match watched.remover(Id(id)) {
-        None => None,
-        Some(entry) => Some(entry.rule()),
-    };
-    (made, removed)
+fn removals_of<A: Allocator + Copy>(
+    alloc: A,
+    watched: &Watched<'_, A>,
+) -> Result<Removals<A>, Memory> {
+    watched.removals(alloc)
 }
 
-/// When the constraints came and went, and what made them.
-fn assert_fates<A: Allocator + Copy>(rt: &impl Abort, watched: &Watched<'_, A>) {
-    assert!(rt; watched.machine().steps() == 20);
-    assert!(rt; fate(watched, 0) == (None, None));
-    assert!(rt; fate(watched, 2) == (Some(5), Some(17)));
-    assert!(rt; fate(watched, 3) == (Some(9), Some(10)));
-    assert!(rt; fate(watched, 8) == (None, None));
-    assert!(rt; rules(watched, 3) == (None, Some(0)));
-    assert!(rt; rules(watched, 4) == (Some(0), Some(2)));
-    assert!(rt; rules(watched, 7) == (Some(0), None));
+fn came<A: Allocator + Copy>(watched: &Watched<'_, A>, id: u64) -> Option<u64> {
+    Some(watched.birth(Id(id))?.at)
 }
 
-#[test]
-fn constraints_come_and_go(rt: HostRuntime) -> Result<(), Fail> {
-    let (program, query) = both_of(rt.alloc(), SCHEDULING, TASKS)?;
-    let watched = watched(rt.alloc(), &program, query)?;
-    assert_fates(&rt, &watched);
-    Ok(())
+fn gone<A: Allocator + Copy>(
+    watched: &Watched<'_, A>,
+    removals: &Removals<A>,
+    id: u64,
+) -> Option<u64> {
+    watched.departure(removals, Id(id))
 }
 
-/// `urgent` could fire with 2 and 3 once, and was not looked for.
-#[test]
-fn a_list_comes_too_late(rt: HostRuntime) -> Result<(), Fail> {
-    let (program, query) = both_of(rt.alloc(), SCHEDULING, TASKS)?;
-    if program.rules() != 3 {
-        panic!(&rt; "the program has three rules");
+fn remover<A: Allocator + Copy>(
+    watched: &Watched<'_, A>,
+    removals: &Removals<A>,
+    id: u64,
+) -> Option<usize> {
+    Some(watched.remover(removals, Id(id))?.rule())
+}
+
+fn of_kind<A: Allocator + Copy>(profile: &Profile<A>, kind: Kind) -> u64 {
+    profile.of_kind(kind)
+}
+
+/// Whether it is told when the third constraint came and went, and which rule removed it.
+fn tells<A: Allocator + Copy>(watched: &Watched<'_, A>, removals: &Removals<A>) -> bool {
+    came(watched, 3) == Some(16)
+        && gone(watched, removals, 3) == Some(17)
+        && remover(watched, removals, 3) == Some(2)
+}
+
+/// A call that is refused in turn.
+#[derive(Clone, Copy, Debug, Drop)]
+enum Call {
+    /// And that of its removals.
+    Watch,
+    WatchLife,
+    WatchList,
+    WatchCosts,
+    /// Of a list whose guard is not decided.
+    JudgeGuard,
+    /// Of a list that is unlike the head.
+    JudgeUnlike,
+    GuardTest,
+    LookAtLists,
+}
+
+/// Whether the run of the query is watched to its end, and what it removed.
+fn watches<A: Allocator + Copy>(
+    alloc: A,
+    program: &Program<A>,
+    query: &Query<A>,
+) -> Result<bool, Memory>
+    requires { IsQueryBounded (query_view query.now) }
+{
+    let watched = watched(alloc, program, query)?;
+    let removals = removals_of(alloc, &watched)?;
+    Ok(tells(&watched, &removals))
+}
+
+/// Whether a constraint is watched to the end of the run.
+fn watches_life<A: Allocator + Copy>(
+    alloc: A,
+    program: &Program<A>,
+    query: &Query<A>,
+) -> Result<bool, Memory>
+    requires { IsQueryBounded (query_view query.now) }
+{
+    let (_, woken) = life_watched(alloc, program, query, Id(2))?;
+    Ok(woken.as_slice() == [13].as_slice())
+}
+
+/// Whether a list is watched to the end of the run, in which it was looked for three times.
+fn watches_list<A: Allocator + Copy>(
+    alloc: A,
+    program: &Program<A>,
+    query: &Query<A>,
+) -> Result<bool, Memory>
+    requires { IsQueryBounded (query_view query.now) }
+{
+    if program.rules() == 0 {
+        return Ok(false);
     }
-    let ids = HeadIds::of(&[Id(2), Id(3)]);
-    let (watched, list) = list_watched(rt.alloc(), &program, query, 1, ids)?;
-    assert!(&rt; list.could_from == Some(9));
-    assert!(&rt; list.searches.len() == 0);
-    if watched.machine().program().rules() == 3 {
-        match judge(rt.alloc(), watched.machine(), 1, ids)? {
-            Verdict::Removed(id) => assert!(&rt; id == Id(2)),
-            _ => panic!(&rt; "a constraint of it was removed"),
+    let ids = HeadIds::of(&[Id(1), Id(2)]);
+    let (_, list) = list_watched(alloc, program, query, 0, ids)?;
+    Ok(list.searches.len() == 3 && list.could_from.is_none())
+}
+
+/// Whether the costs are watched to the end of the run: four searches of the first constraint and two of the second found nothing.
+fn watches_costs<A: Allocator + Copy>(
+    alloc: A,
+    program: &Program<A>,
+    query: &Query<A>,
+) -> Result<bool, Memory>
+    requires { IsQueryBounded (query_view query.now) }
+{
+    let (_, profile) = costs_watched(alloc, program, query)?;
+    Ok(of_kind(&profile, Kind::Default) == 6)
+}
+
+/// Whether the guard of the first rule is found undecided.
+fn judges_guard<A: Allocator + Copy>(alloc: A, machine: &Machine<'_, A>) -> Result<bool, Memory> {
+    if machine.program().rules() == 0 {
+        return Ok(false);
+    }
+    let ids = HeadIds::of(&[Id(1), Id(2)]);
+    match judge(alloc, machine, 0, ids)? {
+        Verdict::Guard(test, Lack::Undecided) => Ok(test == 1),
+        _ => Ok(false),
+    }
+}
+
+/// Whether the head of the second rule is found unlike the constraint.
+fn judges_unlike<A: Allocator + Copy>(alloc: A, machine: &Machine<'_, A>) -> Result<bool, Memory> {
+    if machine.program().rules() < 2 {
+        return Ok(false);
+    }
+    match judge(alloc, machine, 1, HeadIds::of(&[Id(1)]))? {
+        Verdict::Unlike(way, _) => Ok(way.as_slice() == [1, 1].as_slice()),
+        _ => Ok(false),
+    }
+}
+
+/// Whether the test of the first rule is found.
+fn finds_test<A: Allocator + Copy>(alloc: A, machine: &Machine<'_, A>) -> Result<bool, Memory> {
+    if machine.program().rules() == 0 {
+        return Ok(false);
+    }
+    let ids = HeadIds::of(&[Id(1), Id(2)]);
+    match guard_test(alloc, machine, 0, ids, 1)? {
+        Some(Test::Identical(_, _)) => Ok(true),
+        _ => Ok(false),
+    }
+}
+
+/// Whether the one list for the first rule is found, with its guard.
+fn looks_at_lists<A: Allocator + Copy>(alloc: A, machine: &Machine<'_, A>) -> Result<bool, Memory> {
+    if machine.program().rules() == 0 {
+        return Ok(false);
+    }
+    let fronts = look_at_lists(alloc, machine, 0)?;
+    Ok(fronts.of_stage(7) == 1 && fronts.furthest().len() == 1)
+}
+
+/// Whether the call answers what is right, over a run that has ended.
+fn answers<A: Allocator + Copy>(
+    alloc: A,
+    call: Call,
+    query: &Query<A>,
+    ended: &Machine<'_, A>,
+) -> Result<bool, Memory>
+    requires { IsQueryBounded (query_view query.now) }
+{
+    match call {
+        Call::Watch => watches(alloc, ended.program(), query),
+        Call::WatchLife => watches_life(alloc, ended.program(), query),
+        Call::WatchList => watches_list(alloc, ended.program(), query),
+        Call::WatchCosts => watches_costs(alloc, ended.program(), query),
+        Call::JudgeGuard => judges_guard(alloc, ended),
+        Call::JudgeUnlike => judges_unlike(alloc, ended),
+        Call::GuardTest => finds_test(alloc, ended),
+        Call::LookAtLists => looks_at_lists(alloc, ended),
+    }
+}
+
+/// Whether the call goes through with `left` growths. A refused one can be called again.
+///
+/// For any allocator, here and below: proofs for the meter as the allocator would take much longer.
+fn is_through<M: Allocator + Copy>(
+    rt: &impl Abort,
+    alloc: M,
+    meter: &Refusing<Global>,
+    call: Call,
+    query: &Query<M>,
+    ended: &Machine<'_, M>,
+    left: u64,
+) -> bool
+    requires { IsQueryBounded (query_view query.now) }
+{
+    meter.allow(left);
+    let answer = answers(alloc, call, query, ended);
+    equal(rt, meter.asked() > left, answer.is_err());
+    meter.allow(AMPLE);
+    holds(rt, answer.is_err() || answer == Ok(true));
+    holds(rt, got(rt, answers(alloc, call, query, ended)));
+    answer.is_ok()
+}
+
+/// How often the call is refused, over a run of its own that has ended.
+fn refused<M: Allocator + Copy>(
+    rt: &impl Abort,
+    alloc: M,
+    meter: &Refusing<Global>,
+    call: Call,
+) -> u64 {
+    meter.allow(AMPLE);
+    // `got` would not say that the query is bounded.
+    let Ok((program, query)) = both_of(alloc, PROGRAM, QUERY) else {
+        panic!(rt; "the texts are refused");
+    };
+    let ended = got(rt, watched(alloc, &program, &query));
+    for left in 0..MOST {
+        if is_through(rt, alloc, meter, call, &query, ended.machine(), left) {
+            return left;
         }
     }
-    Ok(())
+    MOST
 }
 
-/// A search at a head of a rule.
-fn searched(rule: usize, head: usize, found: bool, tries: u64) -> Searched {
-    Searched {
-        rule,
-        head,
-        found,
-        tries,
-    }
-}
-
-/// Those of 4 and 2: each is tried with `zero`, then as the greater number, then as the less.
 #[test]
-fn searches_are_told(rt: HostRuntime) -> Result<(), Fail> {
-    let (program, query) = both_of(rt.alloc(), DIVIDING, "gcd(4), gcd(2).")?;
-    let (_, searches) = searches_watched(rt.alloc(), &program, query)?;
-    let expected = [
-        searched(0, 0, false, 0),
-        searched(1, 1, false, 0),
-        searched(1, 0, false, 0),
-        searched(0, 0, false, 0),
-        searched(1, 1, false, 1),
-        searched(1, 0, true, 1),
-        searched(0, 0, false, 0),
-        searched(1, 1, true, 1),
-        searched(0, 0, true, 1),
-        searched(1, 0, false, 0),
-    ];
-    assert!(&rt; searches.as_slice() == expected.as_slice());
-    Ok(())
+fn want_of_memory(rt: HostRuntime) {
+    let meter = Refusing::new(rt.alloc(), 0);
+    for call in [
+        Call::Watch,
+        Call::WatchLife,
+        Call::WatchList,
+        Call::WatchCosts,
+        Call::JudgeGuard,
+        Call::JudgeUnlike,
+        Call::GuardTest,
+        Call::LookAtLists,
+    ] {
+        let refused = refused(&rt, &meter, &meter, call);
+        assert!(&rt; refused > 0 && refused < MOST, "{call:?} {refused}");
+    }
 }

@@ -14,13 +14,14 @@ use smallvec::SmallVec;
 use std::alloc::{Allocator, Global};
 use std::marker::PhantomData;
 use std::process::Abort;
-use std::test::Fail;
 
 mod asked;
 mod calls;
+mod checks;
 mod refusals;
 
 use asked::{Lists, lists_of};
+use checks::{equal, got, holds};
 
 /// The calls of a machine, with no clause, so that a proof of a test does not follow the run.
 fn start<'p, A: Allocator + Copy>(
@@ -41,6 +42,20 @@ fn run_alone<A: Allocator + Copy>(machine: &mut Machine<A>, n: u64) -> Result<St
     machine.run_alone(n)
 }
 
+/// A program of a text, and a query over it.
+fn both<A: Allocator + Copy>(
+    rt: &impl Abort,
+    alloc: A,
+    texts: (&str, &str),
+) -> (Program<A>, Query<A>)
+    ensures { IsQueryBounded (query_view result.1) }
+{
+    match both_of(alloc, texts.0, texts.1) {
+        Ok(both) => both,
+        Err(mistake) => panic!(rt; "refused: {mistake:?}"),
+    }
+}
+
 /// The search for a constraint at an occurrence of its symbol.
 fn task(goal: u64, occurrence: u32) -> Task {
     Task {
@@ -51,9 +66,9 @@ fn task(goal: u64, occurrence: u32) -> Task {
 
 /// The lines so far are the first ones of a text.
 fn assert_lines<A: Allocator + Copy>(rt: &impl Abort, machine: &Machine<A>, text: &str) {
-    assert_eq!(rt; machine.lines().len() as u64, machine.steps());
+    equal(rt, machine.lines().len() as u64, machine.steps());
     for (line, wanted) in machine.lines().iter().zip(text.split('\n')) {
-        assert_eq!(rt; line, wanted.as_bytes());
+        equal(rt, line, wanted.as_bytes());
     }
 }
 
@@ -75,7 +90,7 @@ fn follow<A: Allocator + Copy>(
     lists: &Lists<A>,
     machine: &mut Machine<A>,
     script: Script<'_>,
-) -> Result<(), Memory> {
+) {
     match script {
         Script::Calls => calls::play(rt, machine),
         Script::Asked => asked::run_asked(rt, lists, machine),
@@ -93,20 +108,20 @@ fn follow_over<A: Allocator + Copy>(
     program: &Program<A>,
     query: Query<A>,
     script: Script<'_>,
-) -> Result<(), Memory>
+)
     requires { IsQueryBounded (query_view query) }
 {
-    let mut machine = start(lists.alloc, program, query)?;
-    follow(rt, lists, &mut machine, script)
+    let mut machine = got(rt, start(lists.alloc, program, query));
+    follow(rt, lists, &mut machine, script);
 }
 
 /// As `follow_over`, with the texts of a program and of a query.
 fn follow_anew<A: Allocator + Copy>(
     rt: &impl Abort,
     lists: &Lists<A>,
-    (program, query): (&str, &str),
+    texts: (&str, &str),
     script: Script<'_>,
-) -> Result<(), Fail> {
-    let (program, query) = both_of(lists.alloc, program, query)?;
-    Ok(follow_over(rt, lists, &program, query, script)?)
+) {
+    let (program, query) = both(rt, lists.alloc, texts);
+    follow_over(rt, lists, &program, query, script);
 }

@@ -2,7 +2,10 @@ use chr_read::{ReadError, ReadErrorKind, read_program, read_query};
 use refusing_alloc::{Refusing, refused_in_turn};
 use std::alloc::{Allocator, Global};
 use std::process::Abort;
-use std::test::Fail;
+
+mod checks;
+
+use checks::equal;
 
 /// More than a call that is refused in turn asks for.
 const MOST: u64 = 1000;
@@ -31,17 +34,12 @@ fn is_read(
     answer: Result<usize, ReadError>,
     parts: usize,
 ) -> bool {
-    assert_eq!(rt; meter.asked() > left, answer.is_err(), "{left}");
+    equal(rt, meter.asked() > left, answer.is_err());
     match answer {
-        Ok(read) => {
-            assert_eq!(rt; read, parts);
-            true
-        }
-        Err(error) => {
-            assert_eq!(rt; error, REFUSED);
-            false
-        }
+        Ok(read) => equal(rt, read, parts),
+        Err(error) => equal(rt, error, REFUSED),
     }
+    answer.is_ok()
 }
 
 /// Whether `read_program` goes through with `left` growths.
@@ -71,21 +69,15 @@ fn is_query_read<M: Allocator + Copy>(
 }
 
 #[test]
-fn programs_refused(rt: HostRuntime) -> Result<(), Fail> {
+fn programs_refused(rt: HostRuntime) {
     let meter = Refusing::new(rt.alloc(), 0);
-    let refused = refused_in_turn(MOST, |left| -> Result<bool, Fail> {
-        Ok(is_program_read(&rt, &meter, &meter, left))
-    })?;
+    let refused = refused_in_turn(MOST, |left| is_program_read(&rt, &meter, &meter, left));
     assert!(&rt; refused > 0 && refused < MOST, "{refused}");
-    Ok(())
 }
 
 #[test]
-fn queries_refused(rt: HostRuntime) -> Result<(), Fail> {
+fn queries_refused(rt: HostRuntime) {
     let meter = Refusing::new(rt.alloc(), 0);
-    let refused = refused_in_turn(MOST, |left| -> Result<bool, Fail> {
-        Ok(is_query_read(&rt, &meter, &meter, left))
-    })?;
+    let refused = refused_in_turn(MOST, |left| is_query_read(&rt, &meter, &meter, left));
     assert!(&rt; refused > 0 && refused < MOST, "{refused}");
-    Ok(())
 }

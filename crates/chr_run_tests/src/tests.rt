@@ -12,9 +12,9 @@ use std::alloc::{Allocator, Global};
 use std::io::{Error, ErrorKind, Write};
 use std::process::Abort;
 use std::sync::Wait;
-use std::test::Fail;
 use std::thread::Threads;
 
+mod checks;
 mod displays;
 mod gates;
 mod inputs;
@@ -22,6 +22,8 @@ mod marks;
 mod refusals;
 mod runs;
 mod texts;
+
+use checks::{equal, got, holds};
 
 /// More transitions than an example makes.
 const AMPLE: u64 = 100;
@@ -68,6 +70,20 @@ impl Gate for Open {
     fn at(&self, _point: Point) {}
 }
 
+/// A program of a text, and a query over it.
+fn both<A: Allocator + Copy>(
+    rt: &impl Abort,
+    alloc: A,
+    texts: (&str, &str),
+) -> (Program<A>, Query<A>)
+    ensures { IsQueryBounded (query_view result.1) }
+{
+    match both_of(alloc, texts.0, texts.1) {
+        Ok(both) => both,
+        Err(mistake) => panic!(rt; "refused: {mistake:?}"),
+    }
+}
+
 /// `run`, with no clause, so that a proof of a test does not follow the run.
 fn made<A: Allocator + Copy + Send + Sync, G: Gate, R: Threads + Wait + Sync>(
     rt: &R,
@@ -103,16 +119,10 @@ fn assert_text<A: Allocator + Copy>(
     example: Worked,
     program: &Program<A>,
     outcome: &Outcome<A>,
-) -> Result<(), Fail> {
+) {
     let mut text = Vec::new(alloc);
-    outcome.text(program, &mut text)?;
-    assert_eq!(rt;
-        text.as_slice(),
-        example.text.as_bytes(),
-        "{}",
-        example.query
-    );
-    Ok(())
+    got(rt, outcome.text(program, &mut text));
+    equal(rt, text.as_slice(), example.text.as_bytes());
 }
 
 /// A run of an example to its end, over its program and its query, whose text is that of the example.
@@ -124,12 +134,12 @@ fn run_with<A: Allocator + Copy + Send + Sync, G: Gate, R: Threads + Wait + Abor
     query: Query<A>,
     workers: u32,
     gate: &G,
-) -> Result<Run<A>, Fail>
+) -> Run<A>
     requires { IsQueryBounded (query_view query) }
 {
-    let run = made(rt, alloc, program, query, AMPLE, workers, gate)?;
-    assert_text(rt, alloc, example, program, &run.outcome)?;
-    Ok(run)
+    let run = got(rt, made(rt, alloc, program, query, AMPLE, workers, gate));
+    assert_text(rt, alloc, example, program, &run.outcome);
+    run
 }
 
 /// As `run_with`, with the texts of the example.
@@ -139,21 +149,21 @@ fn run_of<A: Allocator + Copy + Send + Sync, G: Gate, R: Threads + Wait + Abort 
     example: Worked,
     workers: u32,
     gate: &G,
-) -> Result<Run<A>, Fail> {
-    let (program, query) = both_of(alloc, example.program, example.query)?;
+) -> Run<A> {
+    let (program, query) = both(rt, alloc, (example.program, example.query));
     run_with(rt, alloc, example, &program, query, workers, gate)
 }
 
 /// The counts of a schedule of an example.
 fn counts_of<A: Allocator + Copy>(
-    rt: &impl Wait,
+    rt: &(impl Abort + Wait),
     alloc: A,
     example: Worked,
     events: &[Event],
-) -> Result<Counts, Fail> {
-    let (program, query) = both_of(alloc, example.program, example.query)?;
-    let (_, counts) = replayed(rt, alloc, &program, query, events)?;
-    Ok(counts)
+) -> Counts {
+    let (program, query) = both(rt, alloc, (example.program, example.query));
+    let (_, counts) = got(rt, replayed(rt, alloc, &program, query, events));
+    counts
 }
 
 /// The schedule of a run leads to the text of its example, and to its counts, over the program and the query.
@@ -164,12 +174,13 @@ fn assert_replayed_with<A: Allocator + Copy>(
     program: &Program<A>,
     query: Query<A>,
     run: &Run<A>,
-) -> Result<(), Fail>
+)
     requires { IsQueryBounded (query_view query) }
 {
-    let (outcome, counts) = replayed(rt, alloc, program, query, run.schedule.as_slice())?;
-    assert_eq!(rt; counts, run.counts, "{}", example.query);
-    assert_text(rt, alloc, example, program, &outcome)
+    let events = run.schedule.as_slice();
+    let (outcome, counts) = got(rt, replayed(rt, alloc, program, query, events));
+    equal(rt, counts, run.counts);
+    assert_text(rt, alloc, example, program, &outcome);
 }
 
 /// As `assert_replayed_with`, with the texts of the example.
@@ -178,7 +189,7 @@ fn assert_replayed<A: Allocator + Copy>(
     alloc: A,
     example: Worked,
     run: &Run<A>,
-) -> Result<(), Fail> {
-    let (program, query) = both_of(alloc, example.program, example.query)?;
-    assert_replayed_with(rt, alloc, example, &program, query, run)
+) {
+    let (program, query) = both(rt, alloc, (example.program, example.query));
+    assert_replayed_with(rt, alloc, example, &program, query, run);
 }

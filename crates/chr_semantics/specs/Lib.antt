@@ -40,4 +40,5 @@ pub mod Calls
 pub mod Verdict
 pub mod Life
 pub mod Suspicion
+pub mod Lists
 pub mod Profile

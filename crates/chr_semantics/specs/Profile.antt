@@ -1,6 +1,7 @@
 -- What a run costs: the searches at each head of each rule, and its transitions by kind (this project's own). Rules and heads are numbered
 -- from 0.
-use Rattle.std.specs.Prelude.{ℕ, zero, suc, ◌+◌, Bool, false, cond, ◌&&◌, ◌==◌, nat_lt, List, [], ◌∷◌, ◌++◌, Option, Some, None, length, option_map, option_to_list}
+use Rattle.std.specs.Prelude.{ℕ, zero, suc, ◌+◌, ◌-◌, Bool, false, true, cond, not, ◌&&◌, ◌||◌, ◌==◌, nat_lt, List, [], ◌∷◌, Option, Some, None, length, option_and_then, option_map}
+use Rattle.chr_semantics.specs.Life.{firing_at, origin}
 use Rattle.chr_semantics.specs.Match.{Row}
 use Rattle.chr_semantics.specs.Program.{Atom, Goal, Occurrence, Program, constraint, tell, evaluate, compare, fail, occurrence}
 use Rattle.chr_semantics.specs.Search.{Found, History, atom_of, firing, no_firing, no_occurrence}
@@ -52,16 +53,6 @@ finds p r k s = searches p r k s && nat_lt (length s.history) (length (step p s)
 abbrev pub tries : Program → ℕ → ℕ → State → ℕ
 tries p r k s = cond (searches p r k s) (tries_next p s) 0
 
--- the search of the next transition, where it makes one: at which head of which rule, whether it fires the rule, and how many lists it tries
-abbrev pub search_next : Program → State → Option (ℕ × ℕ × Bool × ℕ)
-search_next p s =
-    cond (is_running s.status) (option_map (λ (o : ℕ × ℕ). (o.0, o.1, nat_lt (length s.history) (length (step p s).history), tries_next p s)) (searched_on_top p s.stack)) None
-
--- those of the first n transitions
-abbrev pub searched : Program → State → ℕ → List (ℕ × ℕ × Bool × ℕ)
-searched p s zero = []
-searched p s (suc n) = searched p s n ++ option_to_list (search_next p (after p s n))
-
 -- ---- kinds of transitions
 
 pub data Kind : Type 0 where
@@ -95,17 +86,18 @@ kind_on_top p s (active i j a ∷ es) = Some (kind_of_search (search_at p s i j 
 abbrev pub kind_next : Program → State → Option Kind
 kind_next p s = cond (is_running s.status) (kind_on_top p s s.stack) None
 
+-- the kinds in an order
+abbrev pub rank : Kind → ℕ
+rank solve = 0
+rank activate = 1
+rank reactivate = 2
+rank drop = 3
+rank simplify = 4
+rank propagate = 5
+rank default = 6
+
 abbrev pub same_kind : Kind → Kind → Bool
-same_kind k l = place k == place l
-  where
-    place : Kind → ℕ
-    place solve = 1
-    place activate = 2
-    place reactivate = 3
-    place drop = 4
-    place simplify = 5
-    place propagate = 6
-    place default = 7
+same_kind k l = rank k == rank l
 
 abbrev pub is_kind : Kind → Option Kind → Bool
 is_kind k None = false
@@ -113,24 +105,70 @@ is_kind k (Some l) = same_kind k l
 
 -- ---- sums over a run
 
--- the sum over the states from which the first n transitions are made
-abbrev pub total : Program → (State → ℕ) → State → ℕ → ℕ
-total p f s zero = 0
-total p f s (suc n) = total p f s n + f (after p s n)
+-- the sum over the first n transitions, each by how many were made before it
+abbrev pub sum_to : (ℕ → ℕ) → ℕ → ℕ
+sum_to f zero = 0
+sum_to f (suc n) = sum_to f n + f n
 
-abbrev pub how_often : Program → (State → Bool) → State → ℕ → ℕ
-how_often p test = total p (λ t. cond (test t) 1 0)
+abbrev pub times_to : (ℕ → Bool) → ℕ → ℕ
+times_to test = sum_to (λ n. cond (test n) 1 0)
 
 -- how often a head of a rule was searched at in the first n transitions, how often that fired the rule, and how many lists it tried
 abbrev pub searches_in : Program → State → ℕ → ℕ → ℕ → ℕ
-searches_in p s n r k = how_often p (searches p r k) s n
+searches_in p s n r k = times_to (λ m. searches p r k (after p s m)) n
 
 abbrev pub finds_in : Program → State → ℕ → ℕ → ℕ → ℕ
-finds_in p s n r k = how_often p (finds p r k) s n
+finds_in p s n r k = times_to (λ m. finds p r k (after p s m)) n
 
 abbrev pub tries_in : Program → State → ℕ → ℕ → ℕ → ℕ
-tries_in p s n r k = total p (tries p r k) s n
+tries_in p s n r k = sum_to (λ m. tries p r k (after p s m)) n
 
 -- how many of the first n transitions are of a kind
 abbrev pub of_kind : Program → State → ℕ → Kind → ℕ
-of_kind p s n k = how_often p (λ t. is_kind k (kind_next p t)) s n
+of_kind p s n k = times_to (λ m. is_kind k (kind_next p (after p s m))) n
+
+-- ---- what woke
+
+-- a constraint fires
+abbrev pub is_firing : Option Kind → Bool
+is_firing k = is_kind simplify k || is_kind propagate k
+
+-- Of the first n transitions the last one that was made with a stack of the height h and was no Default: it made the constraint active again
+-- that stands there, which has done nothing since.
+abbrev pub is_woken_at : Program → State → ℕ → ℕ → Bool
+is_woken_at p s zero h = false
+is_woken_at p s (suc n) h =
+    cond (length (after p s n).stack == h && not (is_kind default (kind_next p (after p s n)))) (is_kind reactivate (kind_next p (after p s n))) (is_woken_at p s n h)
+
+-- the transition after the first n is the first firing of a constraint since it was made active again
+abbrev pub fires_woken : Program → State → ℕ → Bool
+fires_woken p s n = is_firing (kind_next p (after p s n)) && is_woken_at p s n (length (after p s n).stack)
+
+-- the rule whose firing put the goal on the stack that the transition after the first n takes off; there is none for a goal of the query
+abbrev pub goal_of : Program → State → ℕ → Option ℕ
+goal_of p s n = option_map (λ (f : ℕ × List ℕ). f.0) (option_and_then (firing_at p s) (origin p s (suc n)))
+
+abbrev pub same_rule : Option ℕ → Option ℕ → Bool
+same_rule None None = true
+same_rule None (Some r) = false
+same_rule (Some r) None = false
+same_rule (Some r) (Some q) = r == q
+
+-- that transition is a Solve of a goal of the rule, or of the query
+abbrev pub solves_for : Program → State → Option ℕ → ℕ → Bool
+solves_for p s o n = is_kind solve (kind_next p (after p s n)) && same_rule o (goal_of p s n)
+
+-- how many elements the next transition puts in the place of the top, where the run goes on: those that a Solve wakes
+abbrev pub put_by : Program → State → ℕ
+put_by p s = cond (is_running (step p s).status) (length (step p s).stack + 1 - length s.stack) 0
+
+-- how many of the constraints that were made active again in the first n transitions fired
+abbrev pub woken_fire_in : Program → State → ℕ → ℕ
+woken_fire_in p s = times_to (fires_woken p s)
+
+-- the Solves of the goals of a rule, or of the query, and how many constraints they woke
+abbrev pub solves_in : Program → State → ℕ → Option ℕ → ℕ
+solves_in p s n o = times_to (solves_for p s o) n
+
+abbrev pub wakes_in : Program → State → ℕ → Option ℕ → ℕ
+wakes_in p s n o = sum_to (λ k. cond (solves_for p s o k) (put_by p (after p s k)) 0) n

@@ -8,8 +8,8 @@ ghost use Rattle.chr_semantics.specs.State.{done, running};
 ghost use Rattle.chr_semantics.specs.Verdict.{could_fire, fired, guard, never, not_yet_there, other_symbol, removed, twice, undecided, unlike, untrue, waits};
 ghost use Rattle.chr_semantics.specs.Examples.Terms.{number, term};
 ghost use Rattle.chr_semantics.specs.Examples.Example.{EndsAfter, state_after};
-ghost use Rattle.chr_semantics.specs.Examples.Runs.{bound_guard};
-ghost use Rattle.chr_semantics.specs.Examples.Verdicts.{came_in, could_in, dup_rule, firings_in, gone_in, looks_in, made_in, paths, positive, positive_rule, prune_rule, pruning, same_rule, scheduling, taken_in, test_after, twice_rule, unlike_first, urgent_rule, verdict_after, woken_in};
+ghost use Rattle.chr_semantics.specs.Examples.Runs.{bound_guard, gcd_example, subtract};
+ghost use Rattle.chr_semantics.specs.Examples.Verdicts.{came_in, could_in, dup_rule, firings_in, fronts_after, furthest_after, gone_in, like_after, looks_in, made_in, paths, positive, positive_rule, prune_rule, pruning, same_rule, scheduling, stage_after, taken_in, test_after, twice_rule, unlike_first, urgent_rule, verdict_after, woken_in};
 
 /// Of `prune`, which waits for an integer: lists of constraints that have come or not, in order or
 /// not, and of `same`, whose head needs two variables to be one.
@@ -82,4 +82,18 @@ pub fn not_reached()
     ensures could { could_in paths 24 2 dup_rule (4 ∷ 6 ∷ []) ≡ Some 17 }
     ensures not_looked_for { looks_in paths 24 2 dup_rule (4 ∷ 6 ∷ []) ≡ [] }
     ensures still { verdict_after paths 24 2 dup_rule (4 ∷ 6 ∷ []) ≡ could_fire }
+{}
+
+/// The lists that are looked at for a rule, and how far they came: of constraints that wait for an
+/// integer, of one that is unlike its head, and of two numbers, of which each may be the greater.
+pub fn looked_at()
+    ensures all { fronts_after pruning 7 1 prune_rule ≡ [] ∷ (1 ∷ []) ∷ (1 ∷ 2 ∷ []) ∷ [] }
+    ensures furthest { furthest_after pruning 7 1 prune_rule ≡ (1 ∷ 2 ∷ [], guard 1 undecided) ∷ [] }
+    ensures undecided { stage_after pruning 7 1 prune_rule 7 ≡ 1 }
+    ensures waits { stage_after pruning 7 0 same_rule 6 ≡ 1 }
+    ensures unlike { stage_after (unlike_first (term 9 (number 1 ∷ []))) 1 0 twice_rule 5 ≡ 1 }
+    ensures none { like_after (unlike_first (term 9 (number 1 ∷ []))) 1 0 twice_rule 1 ≡ 0 }
+    ensures both { fronts_after gcd_example 6 1 subtract ≡ [] ∷ (1 ∷ []) ∷ (1 ∷ 2 ∷ []) ∷ (2 ∷ []) ∷ (2 ∷ 1 ∷ []) ∷ [] }
+    ensures like { like_after gcd_example 6 1 subtract 2 ≡ 2 }
+    ensures first { furthest_after gcd_example 6 1 subtract ≡ (2 ∷ 1 ∷ [], could_fire) ∷ (1 ∷ 2 ∷ [], guard 1 untrue) ∷ [] }
 {}

@@ -1,7 +1,8 @@
 //! Answers questions about the run of a query over a program of Constraint Handling Rules.
 //!
 //! `look answer PROGRAM QUERY` shows how the run ended, `look firings PROGRAM QUERY` each firing, `look life PROGRAM QUERY ID` how a constraint
-//! came and went, and `look why PROGRAM QUERY RULE ID ..` why a rule does not fire with a list of constraints.
+//! came and went, `look profile PROGRAM QUERY` what the run cost, `look why PROGRAM QUERY RULE ID ..` why a rule does not fire with a list of
+//! constraints, and `look check PROGRAM` what is wrong with a program.
 #![tactic(auto)]
 
 use chr_words::Disk;

@@ -7,28 +7,25 @@ ghost use Rattle.chr_rules.specs.RuleView.{query_view};
 use crate::again::run_again;
 use crate::firings::write_firings;
 use crate::life::write_life;
+use crate::lists::write_lists;
+use crate::page::Page;
+use crate::profile::write_profile;
 use crate::reading::Texts;
 use crate::refusal::Refusal;
 use crate::teller::Teller;
 use crate::unsought::Listed;
 use crate::why::{ids_of, rule_of, write_why};
-use chr_look::{ListLog, Watched, watch, watch_life, watch_list};
+use chr_look::{ListLog, Profile, Watched, watch, watch_costs, watch_life, watch_list};
 use chr_machine::{Id, Status, Stepped};
 use chr_rules::Program;
 use chr_term::Memory;
 use chr_trace::Ending;
-use chr_words::files::write_all;
 use look_words::Question;
 use std::alloc::Global;
 use std::io::Write;
 
-/// Writes a text that was made.
-fn send<W: Write>(text: &Vec<u8>, output: &mut W) -> Result<(), Refusal> {
-    write_all(output, text.as_slice()).ok_or(Refusal::Write)
-}
-
 /// Writes how a run ended.
-fn write_ending(watched: &Watched<'_>, out: &mut Vec<u8>) -> Result<Status, Refusal> {
+fn write_ending(watched: &Watched<'_>, page: &mut Page) -> Status {
     let machine = watched.machine();
     let ending = Ending {
         program: machine.program(),
@@ -39,22 +36,22 @@ fn write_ending(watched: &Watched<'_>, out: &mut Vec<u8>) -> Result<Status, Refu
         bindings: machine.bindings(),
         history: machine.history().list(),
     };
-    ending.write(out)?;
-    Ok(machine.status())
+    page.ending(&ending);
+    machine.status()
 }
 
 /// Answers how the run of n transitions or fewer ended.
-fn answer_ending(alloc: Global, texts: &Texts, n: u64, out: &mut Vec<u8>) -> Result<Status, Refusal>
+fn answer_ending(alloc: Global, texts: &Texts, n: u64, page: &mut Page) -> Result<Status, Refusal>
     requires { IsQueryBounded (query_view texts.now.query) }
 {
     let watched = watch(alloc, &texts.program, texts.query.copy()?, n)?;
-    write_ending(&watched, out)
+    Ok(write_ending(&watched, page))
 }
 
 /// Writes the last line of an answer about a run.
-fn write_end(teller: &Teller<'_, '_>, out: &mut Vec<u8>) -> Result<Status, Refusal> {
-    teller.write_end(out)?;
-    Ok(teller.watched.machine().status())
+fn write_end(teller: &Teller<'_, '_>, page: &mut Page) -> Status {
+    teller.write_end(page);
+    teller.watched.machine().status()
 }
 
 /// Writes the firings of a run while it makes n transitions or ends, and how it ended.
@@ -64,10 +61,10 @@ fn write_firings_and_end<W: Write>(
     watched: &mut Watched<'_>,
     n: u64,
     output: &mut W,
-    out: &mut Vec<u8>,
+    page: &mut Page,
 ) -> Result<Status, Refusal> {
-    write_firings(alloc, texts, watched, n, output, out)?;
-    write_end(&Teller::new(alloc, &*watched, texts), out)
+    write_firings(alloc, texts, watched, n, output, page)?;
+    Ok(write_end(&Teller::new(alloc, &*watched, texts), page))
 }
 
 /// Answers with the firings of the run of n transitions or fewer.
@@ -76,12 +73,12 @@ fn answer_firings<W: Write>(
     texts: &Texts,
     n: u64,
     output: &mut W,
-    out: &mut Vec<u8>,
+    page: &mut Page,
 ) -> Result<Status, Refusal>
     requires { IsQueryBounded (query_view texts.now.query) }
 {
     let mut watched = Watched::start(alloc, &texts.program, texts.query.copy()?)?;
-    write_firings_and_end(alloc, texts, &mut watched, n, output, out)
+    write_firings_and_end(alloc, texts, &mut watched, n, output, page)
 }
 
 /// Writes the life of a constraint, and how the run ended.
@@ -89,10 +86,10 @@ fn write_life_and_end(
     teller: &Teller<'_, '_>,
     id: u64,
     woken: &[u64],
-    out: &mut Vec<u8>,
+    page: &mut Page,
 ) -> Result<Status, Refusal> {
-    write_life(teller, id, woken, out)?;
-    write_end(teller, out)
+    write_life(teller, id, woken, page)?;
+    Ok(write_end(teller, page))
 }
 
 /// Answers with the life of a constraint in the run of n transitions or fewer.
@@ -101,7 +98,7 @@ fn answer_life(
     texts: &Texts,
     id: u64,
     n: u64,
-    out: &mut Vec<u8>,
+    page: &mut Page,
 ) -> Result<Status, Refusal>
     requires { IsQueryBounded (query_view texts.now.query) }
 {
@@ -111,8 +108,33 @@ fn answer_life(
         &Teller::new(alloc, &watched, texts),
         id,
         woken.as_slice(),
-        out,
+        page,
     )
+}
+
+/// Writes what a run cost, and how it ended.
+fn write_profile_and_end(
+    teller: &Teller<'_, '_>,
+    text: &[u8],
+    profile: &Profile,
+    page: &mut Page,
+) -> Status {
+    write_profile(teller, text, profile, page);
+    write_end(teller, page)
+}
+
+/// Answers with what the run cost of n transitions or fewer, of a program with this text.
+fn answer_profile(
+    alloc: Global,
+    texts: &Texts,
+    text: &[u8],
+    n: u64,
+    page: &mut Page,
+) -> Result<Status, Refusal>
+    requires { IsQueryBounded (query_view texts.now.query) }
+{
+    let (watched, profile) = watch_costs(alloc, &texts.program, texts.query.copy()?, n)?;
+    Ok(write_profile_and_end(&Teller::new(alloc, &watched, texts), text, &profile, page))
 }
 
 /// What is asked of a rule and a list of constraints: perhaps about the state after so many transitions.
@@ -154,7 +176,7 @@ fn write_listed(
     texts: &Texts,
     listed: Listed,
     list: &ListLog,
-    out: &mut Vec<u8>,
+    page: &mut Page,
 ) -> Result<(), Refusal>
     requires { IsQueryBounded (query_view texts.now.query) }
 {
@@ -163,7 +185,8 @@ fn write_listed(
         return Err(Refusal::UnknownTransition(steps));
     }
     let again = run_again(teller.alloc, texts, list)?;
-    Ok(write_why(teller, list, &again, listed, out)?)
+    write_why(teller, list, &again, listed, page);
+    Ok(())
 }
 
 /// Writes why a rule does not fire with a list where a run stands; then the run goes on until it made n transitions or ends, and how it ended
@@ -175,7 +198,7 @@ fn write_listed_and_end(
     list: &ListLog,
     watched: &mut Watched<'_>,
     n: u64,
-    out: &mut Vec<u8>,
+    page: &mut Page,
 ) -> Result<Status, Refusal>
     requires { IsQueryBounded (query_view texts.now.query) }
 {
@@ -184,10 +207,10 @@ fn write_listed_and_end(
         texts,
         listed,
         list,
-        out,
+        page,
     )?;
     go_on(watched, n)?;
-    write_end(&Teller::new(alloc, &*watched, texts), out)
+    Ok(write_end(&Teller::new(alloc, &*watched, texts), page))
 }
 
 /// Answers why a rule does not fire with a list of constraints in the run of n transitions or fewer.
@@ -196,7 +219,7 @@ fn answer_why(
     texts: &Texts,
     asked: Asked<'_>,
     n: u64,
-    out: &mut Vec<u8>,
+    page: &mut Page,
 ) -> Result<Status, Refusal>
     requires { IsQueryBounded (query_view texts.now.query) }
 {
@@ -211,33 +234,78 @@ fn answer_why(
         listed.rule,
         listed.ids,
     )?;
-    write_listed_and_end(alloc, texts, listed, &list, &mut watched, n, out)
+    write_listed_and_end(alloc, texts, listed, &list, &mut watched, n, page)
 }
 
-/// Answers a question about the run of a query, of n transitions or fewer, and says how that ended.
+/// Writes why a rule does not fire with the constraints of the store where a run stands; then the run goes on until it made n transitions or
+/// ends, and how it ended is written too.
+fn write_lists_and_end(
+    alloc: Global,
+    texts: &Texts,
+    text: &[u8],
+    asked: Asked<'_>,
+    watched: &mut Watched<'_>,
+    n: u64,
+    page: &mut Page,
+) -> Result<Status, Refusal> {
+    let Some(rule) = rule_of(&texts.program, asked.label) else {
+        return Err(Refusal::UnknownRule);
+    };
+    let steps = watched.machine().steps();
+    if asked.at.is_some_and(|at| at > steps) {
+        return Err(Refusal::UnknownTransition(steps));
+    }
+    write_lists(&Teller::new(alloc, &*watched, texts), text, rule, page);
+    go_on(watched, n)?;
+    Ok(write_end(&Teller::new(alloc, &*watched, texts), page))
+}
+
+/// Answers why a rule does not fire in the run of n transitions or fewer, by all lists of the store's constraints.
+fn answer_why_rule(
+    alloc: Global,
+    texts: &Texts,
+    text: &[u8],
+    asked: Asked<'_>,
+    n: u64,
+    page: &mut Page,
+) -> Result<Status, Refusal>
+    requires { IsQueryBounded (query_view texts.now.query) }
+{
+    let until = asked.at.unwrap_or(n).min(n);
+    let mut watched = watch(alloc, &texts.program, texts.query.copy()?, until)?;
+    write_lists_and_end(alloc, texts, text, asked, &mut watched, n, page)
+}
+
+/// Answers a question about the run of a query, of n transitions or fewer, over a program with this text, and says how that ended.
 pub(crate) fn answer<W: Write>(
     alloc: Global,
     question: &Question<'_>,
     texts: &Texts,
+    text: &[u8],
     n: u64,
     output: &mut W,
 ) -> Result<Status, Refusal>
     requires { IsQueryBounded (query_view texts.now.query) }
 {
-    let mut out = Vec::new(alloc);
+    let mut page = Page::new(alloc);
     let status = match question {
-        Question::Answer => answer_ending(alloc, texts, n, &mut out)?,
-        Question::Firings => answer_firings(alloc, texts, n, output, &mut out)?,
-        Question::Life(id) => answer_life(alloc, texts, *id, n, &mut out)?,
+        Question::Answer => answer_ending(alloc, texts, n, &mut page)?,
+        Question::Firings => answer_firings(alloc, texts, n, output, &mut page)?,
+        Question::Life(id) => answer_life(alloc, texts, *id, n, &mut page)?,
+        Question::Profile => answer_profile(alloc, texts, text, n, &mut page)?,
         Question::Why(label, numbers, at) => {
             let asked = Asked {
                 label: *label,
                 numbers: numbers.as_slice(),
                 at: *at,
             };
-            answer_why(alloc, texts, asked, n, &mut out)?
+            if numbers.is_empty() {
+                answer_why_rule(alloc, texts, text, asked, n, &mut page)?
+            } else {
+                answer_why(alloc, texts, asked, n, &mut page)?
+            }
         }
     };
-    send(&out, output)?;
+    page.send(output)?;
     Ok(status)
 }

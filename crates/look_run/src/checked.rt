@@ -2,6 +2,7 @@
 
 use crate::doubts::write_suspicions;
 use crate::mistakes::write_mistakes;
+use crate::page::Page;
 use chr_check::{mistakes, query_mistakes, suspicions};
 use chr_term::Memory;
 use std::alloc::Global;
@@ -20,15 +21,15 @@ fn write_wrong(
     alloc: Global,
     program: Source<'_>,
     query: Option<&str>,
-    out: &mut Vec<u8>,
+    page: &mut Page,
 ) -> Result<bool, Memory> {
     let found = mistakes(alloc, program.text)?;
-    write_mistakes(alloc, program.name, program.text, found.as_slice(), out)?;
+    write_mistakes(alloc, program.name, program.text, found.as_slice(), page);
     let Some(query) = query else {
         return Ok(!found.is_empty());
     };
     let of_query = query_mistakes(alloc, program.text, query.as_bytes())?;
-    write_mistakes(alloc, "query", query.as_bytes(), of_query.as_slice(), out)?;
+    write_mistakes(alloc, "query", query.as_bytes(), of_query.as_slice(), page);
     Ok(!found.is_empty() || !of_query.is_empty())
 }
 
@@ -37,9 +38,9 @@ pub(crate) fn write_checked(
     alloc: Global,
     program: Source<'_>,
     query: Option<&str>,
-    out: &mut Vec<u8>,
+    page: &mut Page,
 ) -> Result<bool, Memory> {
-    if write_wrong(alloc, program, query, out)? {
+    if write_wrong(alloc, program, query, page)? {
         return Ok(true);
     }
     let query = match query {
@@ -47,6 +48,6 @@ pub(crate) fn write_checked(
         None => None,
     };
     let found = suspicions(alloc, program.text, query)?;
-    write_suspicions(alloc, program.name, program.text, found.as_slice(), out)?;
+    write_suspicions(alloc, program.name, program.text, found.as_slice(), page);
     Ok(false)
 }

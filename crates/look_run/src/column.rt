@@ -1,12 +1,15 @@
 //! Texts under one another, each as wide as the widest.
 
-use chr_term::{Memory, write_byte, write_bytes};
+use crate::page::Page;
+use crate::teller::Teller;
+use chr_machine::Id;
+use chr_term::Memory;
 use std::alloc::Global;
 
 /// Texts that stand under one another.
 #[derive(Drop)]
 pub(crate) struct Column {
-    texts: Vec<Vec<u8>>,
+    texts: Vec<Page>,
     width: usize,
 }
 
@@ -22,7 +25,7 @@ fn width_of(text: &[u8]) -> usize {
 }
 
 impl Column {
-    pub(crate) fn new(alloc: Global) -> Column {
+    fn new(alloc: Global) -> Column {
         Column {
             texts: Vec::new(alloc),
             width: 0,
@@ -30,21 +33,34 @@ impl Column {
     }
 
     /// Puts a text below the others.
-    pub(crate) fn push(&mut self, text: Vec<u8>) -> Result<(), Memory> {
-        self.width = self.width.max(width_of(text.as_slice()));
-        self.texts.push(text)?;
+    fn push(&mut self, page: Page) -> Result<(), Memory> {
+        self.width = self.width.max(width_of(page.whole()?));
+        self.texts.push(page)?;
         Ok(())
     }
 
-    /// Writes the text at a place, from 0, and spaces up to the end of the widest one.
-    pub(crate) fn write(&self, place: usize, out: &mut Vec<u8>) -> Result<(), Memory> {
-        let Some(text) = self.texts.get(place) else {
-            return Ok(());
-        };
-        write_bytes(text.as_slice(), out)?;
-        for _ in width_of(text.as_slice())..self.width {
-            write_byte(b' ', out)?;
+    /// The constraints of identities.
+    pub(crate) fn of(teller: &Teller<'_, '_>, ids: &[Id]) -> Result<Column, Memory> {
+        let mut column = Column::new(teller.alloc);
+        for id in ids {
+            let mut page = Page::new(teller.alloc);
+            teller.write_constraint(*id, &mut page);
+            column.push(page)?;
         }
-        Ok(())
+        Ok(column)
+    }
+
+    /// Writes the text at a place, from 0, and spaces up to the end of the widest one.
+    pub(crate) fn write(&self, place: usize, page: &mut Page) {
+        let Some(entry) = self.texts.get(place) else {
+            return;
+        };
+        let Some(text) = page.made(entry.whole()) else {
+            return;
+        };
+        page.bytes(text);
+        for _ in width_of(text)..self.width {
+            page.byte(b' ');
+        }
     }
 }

@@ -2,6 +2,7 @@
 
 use crate::answering::answer;
 use crate::checked::{Source, write_checked};
+use crate::page::Page;
 use crate::reading::read_texts;
 use crate::refusal::Refusal;
 use chr_machine::Status;
@@ -47,9 +48,9 @@ fn tell<E: Write>(
     query: &str,
     error: &mut E,
 ) -> Result<u8, Refusal> {
-    let mut out = Vec::new(alloc);
-    write_checked(alloc, program, Some(query), &mut out)?;
-    let _ = write_all(error, out.as_slice());
+    let mut page = Page::new(alloc);
+    write_checked(alloc, program, Some(query), &mut page)?;
+    let _ = write_all(error, page.whole()?);
     Ok(REFUSED)
 }
 
@@ -68,7 +69,14 @@ fn look<O: Opens, W: Write, E: Write>(
     }
     let program = read_file(alloc, files, run.program).ok_or(Refusal::Unreadable)?;
     match read_texts(alloc, program.as_slice(), run.query.as_bytes()) {
-        Ok(texts) => Ok(status_code(answer(alloc, question, &texts, budget, output)?)),
+        Ok(texts) => Ok(status_code(answer(
+            alloc,
+            question,
+            &texts,
+            program.as_slice(),
+            budget,
+            output,
+        )?)),
         Err(Refusal::Mistaken) => {
             let source = Source {
                 name: run.program,
@@ -93,14 +101,14 @@ fn check<O: Opens, W: Write>(
         name: path,
         text: text.as_slice(),
     };
-    let mut out = Vec::new(alloc);
-    let is_wrong = write_checked(alloc, source, query, &mut out)?;
-    write_all(output, out.as_slice()).ok_or(Refusal::Write)?;
+    let mut page = Page::new(alloc);
+    let is_wrong = write_checked(alloc, source, query, &mut page)?;
+    page.send(output)?;
     Ok(if is_wrong { REFUSED } else { 0 })
 }
 
-/// What the program `look` does with the words after its name: `answer`, `firings`, `life` or `why`, then PROGRAM, the path of a file, and
-/// QUERY, the text of a query, for `life` the identity of a constraint, for `why` a rule and the identities of its list, and perhaps
+/// What the program `look` does with the words after its name: `answer`, `firings`, `life`, `profile` or `why`, then PROGRAM, the path of a
+/// file, and QUERY, the text of a query, for `life` the identity of a constraint, for `why` a rule and the identities of its list, and perhaps
 /// `--budget N`; or `check`, then PROGRAM and perhaps QUERY. The answer goes out; it is about a run of 100,000 transitions where there is no
 /// N. The answer of this call is the exit status: 0 done, 2 refused, 3 failed, 4 a fault, 5 the budget used up. Where a text is refused, what
 /// is wrong with it goes out of `check`, and else to `error`; where else it is 2, a line on `error` says why.

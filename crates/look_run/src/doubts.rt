@@ -1,8 +1,8 @@
 //! What looks wrong in a program that is accepted, each place with its line and a mark under its token.
 
 use crate::excerpt::{Excerpt, characters};
+use crate::page::Page;
 use chr_check::{Doubt, Suspicion};
-use chr_term::{Memory, write_byte, write_number, write_text};
 use std::alloc::Global;
 
 /// What a suspicion is called.
@@ -21,14 +21,14 @@ fn doubt_word(doubt: Doubt) -> &'static str {
 }
 
 /// Writes a line number between two texts.
-fn write_around(front: &str, line: u64, behind: &str, out: &mut Vec<u8>) -> Result<(), Memory> {
-    write_text(front, out)?;
-    write_number(line, out)?;
-    write_text(behind, out)
+fn write_around(front: &str, line: u64, behind: &str, page: &mut Page) {
+    page.text(front);
+    page.number(line);
+    page.text(behind);
 }
 
 /// Writes what is said of a suspicion.
-fn write_doubt(doubt: Doubt, out: &mut Vec<u8>) -> Result<(), Memory> {
+fn write_doubt(doubt: Doubt, page: &mut Page) {
     let text = match doubt {
         Doubt::LoneVariable => "it stands once in the rule; where that is meant, begin it with `_`",
         Doubt::UnusedSymbol => "no rule has it, and no query that is given",
@@ -36,35 +36,30 @@ fn write_doubt(doubt: Doubt, out: &mut Vec<u8>) -> Result<(), Memory> {
         Doubt::PassiveRule => "all its heads are passive, so it never fires",
         Doubt::TakenBefore(line) => {
             let behind = " takes constraints of this one first, wherever both could fire";
-            return write_around("the rule in line ", line, behind, out);
+            return write_around("the rule in line ", line, behind, page);
         }
         Doubt::LateDuplicates(line) => {
             let behind = " looks for the duplicates before this one drops them";
-            return write_around("the rule in line ", line, behind, out);
+            return write_around("the rule in line ", line, behind, page);
         }
         Doubt::MadeAgain => "the rule removes it and makes the same again",
         Doubt::Unevaluated => "nothing is evaluated in a constraint: let X is E stand before it",
         Doubt::HopelessTest => "it holds for no values, so the rule never fires",
     };
-    write_text(text, out)
+    page.text(text);
 }
 
 /// Writes a suspicion by the name of the text, its place, what it is, and the line with a mark under the token.
-fn write_suspicion(
-    name: &str,
-    text: &[char],
-    suspicion: Suspicion,
-    out: &mut Vec<u8>,
-) -> Result<(), Memory> {
+fn write_suspicion(name: &str, text: &[char], suspicion: Suspicion, page: &mut Page) {
     let excerpt = Excerpt::of(text, suspicion.begin, suspicion.width);
-    write_text(name, out)?;
-    excerpt.write_place(out)?;
-    write_text(": ", out)?;
-    write_text(doubt_word(suspicion.doubt), out)?;
-    write_text(": ", out)?;
-    write_doubt(suspicion.doubt, out)?;
-    write_byte(b'\n', out)?;
-    excerpt.write_lines(out)
+    page.text(name);
+    excerpt.write_place(page);
+    page.text(": ");
+    page.text(doubt_word(suspicion.doubt));
+    page.text(": ");
+    write_doubt(suspicion.doubt, page);
+    page.byte(b'\n');
+    excerpt.write_lines(page);
 }
 
 /// Writes suspicions of a text.
@@ -73,11 +68,12 @@ pub(crate) fn write_suspicions(
     name: &str,
     text: &[u8],
     suspicions: &[Suspicion],
-    out: &mut Vec<u8>,
-) -> Result<(), Memory> {
-    let text = characters(alloc, text)?;
+    page: &mut Page,
+) {
+    let Some(text) = page.made(characters(alloc, text)) else {
+        return;
+    };
     for suspicion in suspicions {
-        write_suspicion(name, text.as_slice(), *suspicion, out)?;
+        write_suspicion(name, text.as_slice(), *suspicion, page);
     }
-    Ok(())
 }

@@ -1,6 +1,7 @@
 //! A line of a text, with a mark under a part of it.
 
-use chr_term::{Memory, write_byte, write_number};
+use crate::page::Page;
+use chr_term::Memory;
 use std::alloc::Global;
 
 /// How many characters of a line stand before the mark at most.
@@ -31,15 +32,14 @@ pub(crate) struct Excerpt<'a> {
 }
 
 /// Writes a character, and a blank in the place of one that moves what stands behind it.
-fn write_character(c: char, out: &mut Vec<u8>) -> Result<(), Memory> {
+fn write_character(c: char, page: &mut Page) {
     if c != '\t' && (c as u32) < 0x20 {
-        return write_byte(b' ', out);
+        return page.byte(b' ');
     }
     let mut units = [0; 4];
     for byte in c.encode_utf8(&mut units).as_bytes() {
-        write_byte(*byte, out)?;
+        page.byte(*byte);
     }
-    Ok(())
 }
 
 /// The front of a text up to the end of its first line.
@@ -79,52 +79,65 @@ impl<'a> Excerpt<'a> {
     }
 
     /// Writes `:LINE:COLUMN`.
-    pub(crate) fn write_place(self, out: &mut Vec<u8>) -> Result<(), Memory> {
-        write_byte(b':', out)?;
-        write_number(self.line, out)?;
-        write_byte(b':', out)?;
-        write_number(self.before.len() as u64 + 1, out)
+    pub(crate) fn write_place(self, page: &mut Page) {
+        page.byte(b':');
+        page.number(self.line);
+        page.byte(b':');
+        page.number(self.before.len() as u64 + 1);
     }
 
     /// Writes the part.
-    pub(crate) fn write_marked(self, out: &mut Vec<u8>) -> Result<(), Memory> {
+    pub(crate) fn write_marked(self, page: &mut Page) {
         for c in self.rest.iter().take(self.width) {
-            write_character(*c, out)?;
+            write_character(*c, page);
         }
-        Ok(())
     }
 
     /// Writes the line, and below it the mark. Of a long line only what stands around the mark is written.
-    pub(crate) fn write_lines(self, out: &mut Vec<u8>) -> Result<(), Memory> {
+    pub(crate) fn write_lines(self, page: &mut Page) {
         let hidden = self.before.len().saturating_sub(BEFORE);
         let (_, before) = self
             .before
             .split_at_checked(hidden)
             .unwrap_or((&[], self.before));
         let room = SHOWN - BEFORE;
-        write_indent(out)?;
+        write_indent(page);
         for c in before {
-            write_character(*c, out)?;
+            write_character(*c, page);
         }
         for c in self.rest.iter().take(room) {
-            write_character(*c, out)?;
+            write_character(*c, page);
         }
-        write_byte(b'\n', out)?;
-        write_indent(out)?;
+        page.byte(b'\n');
+        write_indent(page);
         for c in before {
-            write_byte(if *c == '\t' { b'\t' } else { b' ' }, out)?;
+            page.byte(if *c == '\t' { b'\t' } else { b' ' });
         }
         for _ in 0..self.width.min(self.rest.len()).min(room).max(1) {
-            write_byte(b'^', out)?;
+            page.byte(b'^');
         }
-        write_byte(b'\n', out)
+        page.byte(b'\n');
     }
 }
 
 /// Writes what stands before each line.
-fn write_indent(out: &mut Vec<u8>) -> Result<(), Memory> {
+fn write_indent(page: &mut Page) {
     for _ in 0..4 {
-        write_byte(b' ', out)?;
+        page.byte(b' ');
     }
-    Ok(())
+}
+
+/// Writes a part of a text in one line, with a blank for each run of white space.
+pub(crate) fn write_flat(text: &[char], begin: usize, width: usize, page: &mut Page) {
+    let (_, rest) = text.split_at_checked(begin).unwrap_or((text, &[]));
+    let mut is_behind_space = false;
+    for c in rest.iter().take(width) {
+        let is_space = c.is_whitespace();
+        if !is_space {
+            write_character(*c, page);
+        } else if !is_behind_space {
+            page.byte(b' ');
+        }
+        is_behind_space = is_space;
+    }
 }

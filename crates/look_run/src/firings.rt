@@ -1,5 +1,6 @@
 //! The firings of a run.
 
+use crate::page::Page;
 use crate::reading::Texts;
 use crate::refusal::Refusal;
 use crate::standing::rule_at;
@@ -7,8 +8,6 @@ use crate::teller::Teller;
 use chr_look::Watched;
 use chr_machine::{Id, Stepped};
 use chr_store::Entry;
-use chr_term::{Memory, write_byte, write_number, write_text};
-use chr_words::files::write_all;
 use std::alloc::Global;
 use std::io::Write;
 
@@ -16,35 +15,24 @@ use std::io::Write;
 const PORTION: usize = 0x2000;
 
 /// Writes a constraint at a head of a rule that fired, and whether the rule kept it.
-fn write_head(
-    teller: &Teller<'_, '_>,
-    is_kept: bool,
-    id: Id,
-    out: &mut Vec<u8>,
-) -> Result<(), Memory> {
-    write_text(if is_kept { "  keeps " } else { "  removes " }, out)?;
-    teller.write_constraint(id, out)?;
-    write_byte(b'\n', out)
+fn write_head(teller: &Teller<'_, '_>, is_kept: bool, id: Id, page: &mut Page) {
+    page.text(if is_kept { "  keeps " } else { "  removes " });
+    teller.write_constraint(id, page);
+    page.byte(b'\n');
 }
 
 /// Writes a firing, with its constraints.
-fn write_firing(
-    teller: &Teller<'_, '_>,
-    at: u64,
-    entry: &Entry,
-    out: &mut Vec<u8>,
-) -> Result<(), Memory> {
-    write_number(at, out)?;
-    write_byte(b' ', out)?;
-    teller.write_rule(entry.rule(), out)?;
-    write_byte(b'\n', out)?;
+fn write_firing(teller: &Teller<'_, '_>, at: u64, entry: &Entry, page: &mut Page) {
+    page.number(at);
+    page.byte(b' ');
+    teller.write_rule(entry.rule(), page);
+    page.byte(b'\n');
     let program = teller.watched.machine().program();
     let kept = rule_at(program, entry.rule()).map_or(0, |rule| rule.kept);
     let ids = entry.ids();
     for k in 0..ids.len() {
-        write_head(teller, k < kept, ids[k], out)?;
+        write_head(teller, k < kept, ids[k], page);
     }
-    Ok(())
 }
 
 /// Writes the firings of a run while it makes n transitions or ends. They go out in portions, but for the last lines.
@@ -54,7 +42,7 @@ pub(crate) fn write_firings<W: Write>(
     watched: &mut Watched<'_>,
     n: u64,
     output: &mut W,
-    out: &mut Vec<u8>,
+    page: &mut Page,
 ) -> Result<(), Refusal> {
     for _ in 0..n {
         let before = watched.machine().history().list().len();
@@ -65,11 +53,10 @@ pub(crate) fn write_firings<W: Write>(
         let teller = Teller::new(alloc, &*watched, texts);
         let machine = teller.watched.machine();
         if let Some(entry) = machine.history().list().get(before) {
-            write_firing(&teller, machine.steps(), entry, out)?;
+            write_firing(&teller, machine.steps(), entry, page);
         }
-        if out.len() >= PORTION {
-            write_all(output, out.as_slice()).ok_or(Refusal::Write)?;
-            out.clear();
+        if page.len()? >= PORTION {
+            page.send(output)?;
         }
     }
     Ok(())

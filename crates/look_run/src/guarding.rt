@@ -1,8 +1,9 @@
 //! Tests of guards that are not entailed.
 
+use crate::page::Page;
 use crate::teller::Teller;
 use chr_bind::{Fault, Lack, Test, value};
-use chr_term::{Memory, Term, write_text};
+use chr_term::Term;
 use std::alloc::Allocator;
 
 /// The terms of a test: where it has one, that twice.
@@ -33,18 +34,18 @@ fn sign(test: &Test) -> &'static str {
 }
 
 /// Writes a test.
-fn write_test(teller: &Teller<'_, '_>, test: &Test, out: &mut Vec<u8>) -> Result<(), Memory> {
+fn write_test(teller: &Teller<'_, '_>, test: &Test, page: &mut Page) {
     match test {
         Test::Integer(term) | Test::Ground(term) => {
-            write_text(sign(test), out)?;
-            teller.write_term(term, out)?;
-            write_text(")", out)
+            page.text(sign(test));
+            teller.write_term(term, page);
+            page.text(")");
         }
         _ => {
             let (left, right) = terms(test);
-            teller.write_term(left, out)?;
-            write_text(sign(test), out)?;
-            teller.write_term(right, out)
+            teller.write_term(left, page);
+            page.text(sign(test));
+            teller.write_term(right, page);
         }
     }
 }
@@ -71,13 +72,13 @@ fn first_of_all<A: Allocator>(terms: &[Term<A>]) -> Option<u64> {
 }
 
 /// Writes which variable has to have a value before a test is decided.
-fn write_unbound(teller: &Teller<'_, '_>, test: &Test, out: &mut Vec<u8>) -> Result<(), Memory> {
+fn write_unbound(teller: &Teller<'_, '_>, test: &Test, page: &mut Page) {
     let (left, right) = terms(test);
     match first_variable(left).or(first_variable(right)) {
-        None => Ok(()),
+        None => {}
         Some(variable) => {
-            teller.write_term(&Term::Var(variable), out)?;
-            write_text(" has no value yet", out)
+            teller.write_term(&Term::Var(variable), page);
+            page.text(" has no value yet");
         }
     }
 }
@@ -94,31 +95,26 @@ fn untruth(test: &Test) -> &'static str {
 }
 
 /// Writes which side of a comparison has no value whatever is bound, and why.
-fn write_fault(teller: &Teller<'_, '_>, test: &Test, out: &mut Vec<u8>) -> Result<(), Memory> {
+fn write_fault(teller: &Teller<'_, '_>, test: &Test, page: &mut Page) {
     let (left, right) = terms(test);
     let (side, fault) = match (value(left), value(right)) {
         (Err(fault), _) if fault != Fault::Unbound => (left, fault),
         (_, Err(fault)) => (right, fault),
-        _ => return Ok(()),
+        _ => return,
     };
-    teller.write_term(side, out)?;
-    write_text(" has no value: fault ", out)?;
-    write_text(fault.word(), out)
+    teller.write_term(side, page);
+    page.text(" has no value: fault ");
+    page.text(fault.word());
 }
 
 /// Writes a test that is not entailed, and why it is not.
-pub(crate) fn write_lack(
-    teller: &Teller<'_, '_>,
-    test: &Test,
-    lack: Lack,
-    out: &mut Vec<u8>,
-) -> Result<(), Memory> {
-    write_text("  ", out)?;
-    write_test(teller, test, out)?;
-    write_text(": ", out)?;
+pub(crate) fn write_lack(teller: &Teller<'_, '_>, test: &Test, lack: Lack, page: &mut Page) {
+    page.text("  ");
+    write_test(teller, test, page);
+    page.text(": ");
     match lack {
-        Lack::Untrue => write_text(untruth(test), out),
-        Lack::Undecided => write_unbound(teller, test, out),
-        Lack::Never => write_fault(teller, test, out),
+        Lack::Untrue => page.text(untruth(test)),
+        Lack::Undecided => write_unbound(teller, test, page),
+        Lack::Never => write_fault(teller, test, page),
     }
 }

@@ -1,11 +1,12 @@
 //! How a constraint came and went, and what it came from.
 
 use crate::column::Column;
+use crate::page::Page;
 use crate::refusal::Refusal;
 use crate::teller::Teller;
 use chr_look::Watched;
 use chr_machine::Id;
-use chr_term::{Memory, write_byte, write_text};
+use chr_term::Memory;
 use std::alloc::Global;
 
 /// Marks the constraints that the firing had which made one.
@@ -37,12 +38,12 @@ fn sources(alloc: Global, watched: &Watched<'_>, id: Id) -> Result<Vec<Id>, Memo
 }
 
 /// Writes how a constraint was made.
-fn write_origin(teller: &Teller<'_, '_>, id: Id, out: &mut Vec<u8>) -> Result<(), Memory> {
+fn write_origin(teller: &Teller<'_, '_>, id: Id, page: &mut Page) {
     match teller.watched.maker(id) {
-        None => write_text(", a goal of the query", out),
+        None => page.text(", a goal of the query"),
         Some(entry) => {
-            write_text(", made by ", out)?;
-            teller.write_entry(entry, out)
+            page.text(", made by ");
+            teller.write_entry(entry, page);
         }
     }
 }
@@ -52,25 +53,21 @@ pub(crate) fn write_life(
     teller: &Teller<'_, '_>,
     id: u64,
     woken: &[u64],
-    out: &mut Vec<u8>,
+    page: &mut Page,
 ) -> Result<(), Refusal> {
     if teller.watched.birth(Id(id)).is_none() {
         return Err(Refusal::UnknownConstraint(id));
     }
     let ids = sources(teller.alloc, teller.watched, Id(id))?;
-    let mut column = Column::new(teller.alloc);
-    for id in ids.as_slice() {
-        let mut text = Vec::new(teller.alloc);
-        teller.write_constraint(*id, &mut text)?;
-        column.push(text)?;
-    }
+    let removals = teller.watched.removals(teller.alloc)?;
+    let column = Column::of(teller, ids.as_slice())?;
     for place in 0..ids.len() {
-        column.write(place, out)?;
-        write_text("  ", out)?;
+        column.write(place, page);
+        page.text("  ");
         let woken = if place == 0 { woken } else { &[] };
-        teller.write_fate(ids[place], woken, out)?;
-        write_origin(teller, ids[place], out)?;
-        write_byte(b'\n', out)?;
+        teller.write_fate(&removals, ids[place], woken, page);
+        write_origin(teller, ids[place], page);
+        page.byte(b'\n');
     }
     Ok(())
 }

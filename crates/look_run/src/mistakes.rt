@@ -1,10 +1,11 @@
 //! Mistakes of a text, each with its line and a mark under its token.
 
 use crate::excerpt::{Excerpt, characters};
+use crate::page::Page;
 use chr_check::{Candidate, Detail, Kind, Mistake};
 use chr_read::ReadErrorKind;
 use chr_rules::RuleErrorKind;
-use chr_term::{Memory, write_byte, write_number, write_text};
+use chr_term::Memory;
 use std::alloc::Global;
 
 /// What is said of a text that is not read.
@@ -42,89 +43,81 @@ fn rule_text(kind: RuleErrorKind) -> &'static str {
 }
 
 /// Writes the name of a mistake and what is said of it in general.
-fn write_kind(kind: Kind, out: &mut Vec<u8>) -> Result<(), Memory> {
+fn write_kind(kind: Kind, page: &mut Page) {
     match kind {
-        Kind::Read(kind) => write_named(kind.word(), reading_text(kind), out),
-        Kind::Rule(kind) => write_named(kind.word(), rule_text(kind), out),
+        Kind::Read(kind) => write_named(kind.word(), reading_text(kind), page),
+        Kind::Rule(kind) => write_named(kind.word(), rule_text(kind), page),
     }
 }
 
 /// Writes a name and what is said of it.
-fn write_named(name: &str, text: &str, out: &mut Vec<u8>) -> Result<(), Memory> {
-    write_text(name, out)?;
-    write_text(": ", out)?;
-    write_text(text, out)
+fn write_named(name: &str, text: &str, page: &mut Page) {
+    page.text(name);
+    page.text(": ");
+    page.text(text);
 }
 
 /// Writes candidates with commas between them.
-fn write_listed(candidates: &[Candidate], out: &mut Vec<u8>) -> Result<(), Memory> {
+fn write_listed(candidates: &[Candidate], page: &mut Page) {
     for k in 0..candidates.len() {
         if k > 0 {
-            write_text(", ", out)?;
+            page.text(", ");
         }
-        write_text(candidates[k].word(), out)?;
+        page.text(candidates[k].word());
     }
-    Ok(())
 }
 
 /// Writes a name with the number of its arguments.
-fn write_symbol(name: &str, arity: u128, out: &mut Vec<u8>) -> Result<(), Memory> {
-    write_text(name, out)?;
-    write_byte(b'/', out)?;
-    write_number(arity.min(u64::MAX as u128) as u64, out)
+fn write_symbol(name: &str, arity: u128, page: &mut Page) {
+    page.text(name);
+    page.byte(b'/');
+    page.number(arity.min(u64::MAX as u128) as u64);
 }
 
 /// Writes what is wrong, in a line.
-fn write_what(excerpt: Excerpt<'_>, mistake: &Mistake, out: &mut Vec<u8>) -> Result<(), Memory> {
+fn write_what(excerpt: Excerpt<'_>, mistake: &Mistake, page: &mut Page) {
     match &mistake.detail {
         Detail::Expected(candidates) if !candidates.is_empty() => {
-            write_text("Expected: here may stand ", out)?;
-            write_listed(candidates.as_slice(), out)
+            page.text("Expected: here may stand ");
+            write_listed(candidates.as_slice(), page);
         }
         Detail::Undeclared(arity, near) => {
-            write_text("Undeclared: no directive declares ", out)?;
-            excerpt.write_marked(out)?;
-            write_byte(b'/', out)?;
-            write_number((*arity).min(u64::MAX as u128) as u64, out)?;
+            page.text("Undeclared: no directive declares ");
+            excerpt.write_marked(page);
+            page.byte(b'/');
+            page.number((*arity).min(u64::MAX as u128) as u64);
             if let Some(near) = near {
-                write_text("; one declares ", out)?;
-                write_symbol(near.name.as_str(), near.arity, out)?;
+                page.text("; one declares ");
+                write_symbol(near.name.as_str(), near.arity, page);
             }
-            Ok(())
         }
         Detail::NamedBefore(line) => {
-            write_text("DuplicateName: the rule in line ", out)?;
-            write_number(*line, out)?;
-            write_text(" has it", out)
+            page.text("DuplicateName: the rule in line ");
+            page.number(*line);
+            page.text(" has it");
         }
-        _ => write_kind(mistake.kind, out),
+        _ => write_kind(mistake.kind, page),
     }
 }
 
 /// Writes a mistake of a text by the name of that text, its place, what is wrong, the line with a mark under the token, and a hint.
-fn write_mistake(
-    name: &str,
-    text: &[char],
-    mistake: &Mistake,
-    out: &mut Vec<u8>,
-) -> Result<(), Memory> {
+fn write_mistake(name: &str, text: &[char], mistake: &Mistake, page: &mut Page) {
     let excerpt = Excerpt::of(text, mistake.begin, mistake.width);
-    write_text(name, out)?;
+    page.text(name);
     if mistake.width > 0 {
-        excerpt.write_place(out)?;
+        excerpt.write_place(page);
     }
-    write_text(": ", out)?;
-    write_what(excerpt, mistake, out)?;
-    write_byte(b'\n', out)?;
+    page.text(": ");
+    write_what(excerpt, mistake, page);
+    page.byte(b'\n');
     if mistake.width > 0 {
-        excerpt.write_lines(out)?;
+        excerpt.write_lines(page);
     }
     if let Some(hint) = mistake.hint {
-        write_text("  hint: ", out)?;
-        write_text(hint.word(), out)?;
-        write_byte(b'\n', out)?;
+        page.text("  hint: ");
+        page.text(hint.word());
+        page.byte(b'\n');
     }
-    Ok(())
 }
 
 /// Writes mistakes of a text.
@@ -133,11 +126,12 @@ pub(crate) fn write_mistakes(
     name: &str,
     text: &[u8],
     mistakes: &[Mistake],
-    out: &mut Vec<u8>,
-) -> Result<(), Memory> {
-    let text = characters(alloc, text)?;
+    page: &mut Page,
+) {
+    let Some(text) = page.made(characters(alloc, text)) else {
+        return;
+    };
     for mistake in mistakes {
-        write_mistake(name, text.as_slice(), mistake, out)?;
+        write_mistake(name, text.as_slice(), mistake, page);
     }
-    Ok(())
 }

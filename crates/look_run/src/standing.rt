@@ -1,8 +1,8 @@
 //! Where constraints stand: on the goal stack, and at the heads of a rule.
 
+use crate::page::Page;
 use chr_machine::Id;
 use chr_rules::{Program, Rule};
-use chr_term::{Memory, write_number, write_text};
 use chr_trace::Elem;
 
 /// Where a constraint stands on a goal stack.
@@ -53,16 +53,13 @@ pub(crate) fn occurrence_of(program: &Program, rule: usize, head: usize) -> Opti
 }
 
 /// Writes a number as the place that it is: 1st, 2nd, 3rd, 4th.
-pub(crate) fn write_ordinal(number: u64, out: &mut Vec<u8>) -> Result<(), Memory> {
-    write_number(number, out)?;
+pub(crate) fn write_ordinal(number: u64, page: &mut Page) {
+    page.number(number);
     let is_teen = number / 10 % 10 == 1;
-    write_text(
-        match number % 10 {
-            1 if !is_teen => "st",
-            2 if !is_teen => "nd",
-            3 if !is_teen => "rd",
-            _ => "th",
-        },
-        out,
-    )
+    page.text(match number % 10 {
+        1 if !is_teen => "st",
+        2 if !is_teen => "nd",
+        3 if !is_teen => "rd",
+        _ => "th",
+    })
 }

@@ -1,13 +1,12 @@
 //! How rules, constraints and firings are named.
 
+use crate::page::Page;
 use crate::reading::Texts;
 use crate::standing::{rule_at, standing_on, write_ordinal};
-use chr_look::Watched;
+use chr_look::{Removals, Watched};
 use chr_machine::{Id, Status};
 use chr_store::Entry;
-use chr_term::{
-    Memory, Term, print, print_atom, print_numbers, write_byte, write_number, write_text,
-};
+use chr_term::Term;
 use std::alloc::Global;
 
 /// A run, and the lines of its program's rules.
@@ -22,26 +21,25 @@ pub(crate) struct Teller<'a, 'p> {
 const FEW: usize = 5;
 
 /// Writes at which transitions a constraint was made active again, if it was.
-fn write_woken(woken: &[u64], out: &mut Vec<u8>) -> Result<(), Memory> {
+fn write_woken(woken: &[u64], page: &mut Page) {
     let (Some(first), Some(last)) = (woken.first(), woken.last()) else {
-        return Ok(());
+        return;
     };
-    write_text(", woken ", out)?;
+    page.text(", woken ");
     if woken.len() > FEW {
-        write_number(woken.len() as u64, out)?;
-        write_text(" times, from ", out)?;
-        write_number(*first, out)?;
-        write_text(" to ", out)?;
-        return write_number(*last, out);
+        page.number(woken.len() as u64);
+        page.text(" times, from ");
+        page.number(*first);
+        page.text(" to ");
+        return page.number(*last);
     }
-    write_text("at ", out)?;
+    page.text("at ");
     for k in 0..woken.len() {
         if k > 0 {
-            write_text(", ", out)?;
+            page.text(", ");
         }
-        write_number(woken[k], out)?;
+        page.number(woken[k]);
     }
-    Ok(())
 }
 
 impl<'a, 'p> Teller<'a, 'p> {
@@ -57,132 +55,126 @@ impl<'a, 'p> Teller<'a, 'p> {
 
 impl Teller<'_, '_> {
     /// Writes the label of a rule.
-    pub(crate) fn write_label(&self, rule: usize, out: &mut Vec<u8>) -> Result<(), Memory> {
+    pub(crate) fn write_label(&self, rule: usize, page: &mut Page) {
         match rule_at(self.watched.machine().program(), rule) {
-            Some(rule) => write_text(rule.label.as_str(), out),
-            None => Ok(()),
+            Some(rule) => page.text(rule.label.as_str()),
+            None => {}
         }
     }
 
     /// Writes the label of a rule, and the line where it begins.
-    pub(crate) fn write_rule(&self, rule: usize, out: &mut Vec<u8>) -> Result<(), Memory> {
-        self.write_label(rule, out)?;
+    pub(crate) fn write_rule(&self, rule: usize, page: &mut Page) {
+        self.write_label(rule, page);
         match self.lines.get(rule) {
-            None => Ok(()),
+            None => {}
             Some(line) => {
-                write_text(" (line ", out)?;
-                write_number(*line, out)?;
-                write_byte(b')', out)
+                page.text(" (line ");
+                page.number(*line);
+                page.byte(b')');
             }
         }
     }
 
     /// Writes a firing: the label of its rule and the identities.
-    pub(crate) fn write_entry(&self, entry: &Entry, out: &mut Vec<u8>) -> Result<(), Memory> {
-        self.write_label(entry.rule(), out)?;
-        write_byte(b' ', out)?;
-        print_numbers(entry.ids(), out)
+    pub(crate) fn write_entry(&self, entry: &Entry, page: &mut Page) {
+        self.write_label(entry.rule(), page);
+        page.byte(b' ');
+        page.numbers(entry.ids());
     }
 
     /// Writes a constraint with its identity, as the bindings show it.
-    pub(crate) fn write_constraint(&self, id: Id, out: &mut Vec<u8>) -> Result<(), Memory> {
-        write_number(id.0, out)?;
+    pub(crate) fn write_constraint(&self, id: Id, page: &mut Page) {
+        page.number(id.0);
         let Some(birth) = self.watched.birth(id) else {
-            return Ok(());
+            return;
         };
         let machine = self.watched.machine();
-        let args = machine.bindings().resolve_args(&birth.args)?;
-        write_byte(b' ', out)?;
-        print_atom(
+        let Some(args) = page.made(machine.bindings().resolve_args(&birth.args)) else {
+            return;
+        };
+        page.byte(b' ');
+        page.atom(
             machine.program().names(),
             machine.var_names(),
             birth.sym,
             args.as_slice(),
-            out,
-        )
+        );
     }
 
     /// Writes the number of an occurrence of a constraint, and which rule that is.
-    pub(crate) fn write_occurrence(
-        &self,
-        id: Id,
-        number: u32,
-        out: &mut Vec<u8>,
-    ) -> Result<(), Memory> {
-        write_number(number as u64, out)?;
+    pub(crate) fn write_occurrence(&self, id: Id, number: u32, page: &mut Page) {
+        page.number(number as u64);
         let Some(birth) = self.watched.birth(id) else {
-            return Ok(());
+            return;
         };
         let program = self.watched.machine().program();
         match program.occurrence(birth.sym, number) {
-            None => write_text(", behind the last one", out),
+            None => page.text(", behind the last one"),
             Some(occurrence) => {
-                write_text(", ", out)?;
-                self.write_rule(occurrence.rule, out)
+                page.text(", ");
+                self.write_rule(occurrence.rule, page);
             }
         }
     }
 
     /// Writes where a constraint stands on the goal stack, if it does.
-    pub(crate) fn write_standing(&self, id: Id, out: &mut Vec<u8>) -> Result<(), Memory> {
+    pub(crate) fn write_standing(&self, id: Id, page: &mut Page) {
         let Some(place) = standing_on(self.watched.machine().stack(), id) else {
-            return Ok(());
+            return;
         };
-        write_text(", ", out)?;
-        write_ordinal(place.depth, out)?;
-        write_text(" on the stack", out)?;
+        page.text(", ");
+        write_ordinal(place.depth, page);
+        page.text(" on the stack");
         match place.occurrence {
-            None => Ok(()),
+            None => {}
             Some(number) => {
-                write_text(" at occurrence ", out)?;
-                self.write_occurrence(id, number, out)
+                page.text(" at occurrence ");
+                self.write_occurrence(id, number, page);
             }
         }
     }
 
     /// Writes a term as it stands.
-    pub(crate) fn write_term(&self, term: &Term, out: &mut Vec<u8>) -> Result<(), Memory> {
+    pub(crate) fn write_term(&self, term: &Term, page: &mut Page) {
         let machine = self.watched.machine();
-        print(machine.program().names(), machine.var_names(), term, out)
+        page.term(machine.program().names(), machine.var_names(), term);
     }
 
-    /// Writes when a constraint came and went, and at which transitions it was made active again.
-    pub(crate) fn write_fate(
-        &self,
-        id: Id,
-        woken: &[u64],
-        out: &mut Vec<u8>,
-    ) -> Result<(), Memory> {
+    /// Writes when a constraint came and went, by the run's removals, and at which transitions it was made active again.
+    pub(crate) fn write_fate(&self, removals: &Removals, id: Id, woken: &[u64], page: &mut Page) {
         let Some(birth) = self.watched.birth(id) else {
-            return write_text("has not come", out);
+            return page.text("has not come");
         };
-        write_text("came at ", out)?;
-        write_number(birth.at, out)?;
-        write_woken(woken, out)?;
-        let (Some(at), Some(entry)) = (self.watched.departure(id), self.watched.remover(id)) else {
-            return write_text(", lives", out);
+        page.text("came at ");
+        page.number(birth.at);
+        write_woken(woken, page);
+        let (Some(at), Some(entry)) = (
+            self.watched.departure(removals, id),
+            self.watched.remover(removals, id),
+        ) else {
+            return page.text(", lives");
         };
-        write_text(", removed at ", out)?;
-        write_number(at, out)?;
-        write_text(" by ", out)?;
-        self.write_entry(entry, out)
+        page.text(", removed at ");
+        page.number(at);
+        page.text(" by ");
+        self.write_entry(entry, page);
     }
 
     /// Writes the line that says how the run stands, and after how many transitions.
-    pub(crate) fn write_end(&self, out: &mut Vec<u8>) -> Result<(), Memory> {
+    pub(crate) fn write_end(&self, page: &mut Page) {
         let machine = self.watched.machine();
-        write_text("end ", out)?;
+        page.text("end ");
         match machine.status() {
-            Status::Running => write_text("budget", out)?,
-            Status::Done => write_text("done", out)?,
-            Status::Failed => write_text("failed", out)?,
+            Status::Running => page.text("budget"),
+            Status::Done => page.text("done"),
+            Status::Failed => page.text("failed"),
             Status::Faulted(fault) => {
-                write_text("fault ", out)?;
-                write_text(fault.word(), out)?;
+                page.text("fault ");
+                page.text(fault.word());
             }
         }
-        write_text(" after ", out)?;
-        write_number(machine.steps(), out)?;
-        write_byte(b'\n', out)
+        page.text(" after ");
+        page.number(machine.steps());
+        page.byte(b'\n');
     }
 }

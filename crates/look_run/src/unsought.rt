@@ -1,11 +1,11 @@
 //! Why a list that could fire a rule was not looked for.
 
+use crate::page::Page;
 use crate::standing::{occurrence_of, standing_on};
 use crate::teller::Teller;
-use chr_look::{ListLog, Watched};
+use chr_look::{ListLog, Removals, Watched};
 use chr_machine::{Id, Machine};
 use chr_store::HeadIds;
-use chr_term::{Memory, write_byte, write_number, write_text};
 use chr_trace::Elem;
 
 /// Whether a list was looked for after so many transitions.
@@ -14,10 +14,10 @@ pub(crate) fn is_sought_after(list: &ListLog, at: u64) -> bool {
 }
 
 /// The first transition, if any, by which one of some constraints left.
-fn first_departure(watched: &Watched<'_>, ids: &[Id]) -> Option<u64> {
+fn first_departure(watched: &Watched<'_>, removals: &Removals, ids: &[Id]) -> Option<u64> {
     let mut first: Option<u64> = None;
     for id in ids {
-        first = match (first, watched.departure(*id)) {
+        first = match (first, watched.departure(removals, *id)) {
             (Some(one), Some(other)) => Some(one.min(other)),
             (None, at) => at,
             (at, None) => at,
@@ -44,66 +44,55 @@ impl Listed {
     }
 
     /// Writes which occurrence of the constraint for a head the rule is, or that the head is passive.
-    fn write_occurrence(
-        self,
-        teller: &Teller<'_, '_>,
-        head: usize,
-        out: &mut Vec<u8>,
-    ) -> Result<(), Memory> {
+    fn write_occurrence(self, teller: &Teller<'_, '_>, head: usize, page: &mut Page) {
         match self.occurrence(teller.watched.machine(), head) {
             Some(number) => {
-                write_text("occurrence ", out)?;
-                write_number(number as u64, out)
+                page.text("occurrence ");
+                page.number(number as u64);
             }
-            None => write_text("passive", out),
+            None => page.text("passive"),
         }
     }
 
     /// Writes which occurrences of its constraints the rule is.
-    fn write_occurrences(self, teller: &Teller<'_, '_>, out: &mut Vec<u8>) -> Result<(), Memory> {
-        write_text("    ", out)?;
-        teller.write_label(self.rule, out)?;
-        write_text(" is ", out)?;
+    fn write_occurrences(self, teller: &Teller<'_, '_>, page: &mut Page) {
+        page.text("    ");
+        teller.write_label(self.rule, page);
+        page.text(" is ");
         for head in 0..self.ids.as_slice().len() {
             if head > 0 {
-                write_text(", ", out)?;
+                page.text(", ");
             }
             let is_passive = self.occurrence(teller.watched.machine(), head).is_none();
-            self.write_occurrence(teller, head, out)?;
-            write_text(if is_passive { " at " } else { " of " }, out)?;
-            write_number(self.ids.as_slice().get(head).map_or(0, |id| id.0), out)?;
+            self.write_occurrence(teller, head, page);
+            page.text(if is_passive { " at " } else { " of " });
+            page.number(self.ids.as_slice().get(head).map_or(0, |id| id.0));
         }
-        write_byte(b'\n', out)
+        page.byte(b'\n');
     }
 
     /// Writes where the constraint for a head stood on a stack, if it did.
-    fn write_place(
-        self,
-        teller: &Teller<'_, '_>,
-        stack: &[Elem],
-        head: usize,
-        out: &mut Vec<u8>,
-    ) -> Result<(), Memory> {
+    fn write_place(self, teller: &Teller<'_, '_>, stack: &[Elem], head: usize, page: &mut Page) {
         let Some(id) = self.ids.as_slice().get(head) else {
-            return Ok(());
+            return;
         };
         let Some(place) = standing_on(stack, *id) else {
-            return Ok(());
+            return;
         };
-        write_text("    ", out)?;
-        write_number(id.0, out)?;
+        page.text("    ");
+        page.number(id.0);
         match place.occurrence {
             Some(number) => {
-                write_text(" was at its occurrence ", out)?;
-                teller.write_occurrence(*id, number, out)?;
+                page.text(" was at its occurrence ");
+                teller.write_occurrence(*id, number, page);
             }
-            None => write_text(" was still to be looked at", out)?,
+            None => page.text(" was still to be looked at"),
         }
-        write_text("; ", out)?;
-        teller.write_label(self.rule, out)?;
-        write_text(" is its ", out)?;
-        self.write_occurrence(teller, head, out)?;
-        write_byte(b'\n', out)
+        page.text("; ");
+        teller.write_label(self.rule, page);
+        page.text(" is its ");
+        self.write_occurrence(teller, head, page);
+        page.byte(b'\n');
     }
 
     /// Whether all heads of the rule are passive.
@@ -116,32 +105,32 @@ impl Listed {
     pub(crate) fn write_unsought(
         self,
         teller: &Teller<'_, '_>,
+        removals: &Removals,
         then: &Machine<'_>,
-        out: &mut Vec<u8>,
-    ) -> Result<(), Memory> {
-        let departure = first_departure(teller.watched, self.ids.as_slice());
+        page: &mut Page,
+    ) {
+        let departure = first_departure(teller.watched, removals, self.ids.as_slice());
         match departure {
             Some(at) => {
-                write_text("; not looked for before ", out)?;
-                write_number(at, out)?;
+                page.text("; not looked for before ");
+                page.number(at);
             }
             None => {
-                write_text("; not looked for up to ", out)?;
-                write_text(if self.at.is_some() { "then" } else { "the end" }, out)?;
+                page.text("; not looked for up to ");
+                page.text(if self.at.is_some() { "then" } else { "the end" });
             }
         }
-        write_text(":\n", out)?;
+        page.text(":\n");
         if self.is_passive(then) {
-            write_text("    all heads of ", out)?;
-            teller.write_label(self.rule, out)?;
-            return write_text(" are passive\n", out);
+            page.text("    all heads of ");
+            teller.write_label(self.rule, page);
+            return page.text(" are passive\n");
         }
         if departure.is_none() {
-            return self.write_occurrences(teller, out);
+            return self.write_occurrences(teller, page);
         }
         for head in 0..self.ids.as_slice().len() {
-            self.write_place(teller, then.stack(), head, out)?;
+            self.write_place(teller, then.stack(), head, page);
         }
-        Ok(())
     }
 }

@@ -4,18 +4,17 @@ ghost use Rattle.chr_rules.specs.ProgramView.{rules_of};
 
 use crate::again::Again;
 use crate::column::Column;
-use crate::guarding::write_lack;
+use crate::judged::{judge_listed, verdict_word, write_detail, write_numbered};
+use crate::page::Page;
 use crate::refusal::Refusal;
 use crate::standing::rule_at;
 use crate::teller::Teller;
 use crate::unsought::Listed;
-use chr_bind::{Lack, Test};
-use chr_look::{ListLog, Verdict, guard_test, judge};
+use chr_look::{ListLog, Removals, Verdict};
 use chr_machine::Id;
 use chr_rules::Program;
 use chr_semantics::limits::MAX_HEADS;
 use chr_store::HeadIds;
-use chr_term::{Memory, Term, print_numbers, write_byte, write_number, write_text};
 use std::alloc::Global;
 
 /// The number of the rule, from 0, with this label, or with the number k from 1 where it is `#k`.
@@ -54,150 +53,41 @@ pub(crate) fn ids_of(
     Ok(HeadIds::of(ids.as_slice()))
 }
 
-/// What a lack is called.
-fn lack_word(lack: Lack) -> &'static str {
-    match lack {
-        Lack::Untrue => "guard, false",
-        Lack::Undecided => "guard, not yet",
-        Lack::Never => "guard, never",
-    }
-}
-
-/// What a verdict is called.
-fn verdict_word(verdict: &Verdict) -> &'static str {
-    match verdict {
-        Verdict::Fired => "fired",
-        Verdict::NotYetThere(_) => "not yet there",
-        Verdict::Removed(_) => "removed",
-        Verdict::Twice(_) => "twice",
-        Verdict::OtherSymbol(_) => "other symbol",
-        Verdict::Unlike(_, _) => "unlike",
-        Verdict::Waits(_, _) => "waits",
-        Verdict::Guard(_, lack) => lack_word(*lack),
-        Verdict::CouldFire => "could fire",
-    }
-}
-
-/// Writes a word and a number behind it.
-fn write_numbered(word: &str, number: u64, out: &mut Vec<u8>) -> Result<(), Memory> {
-    write_text(word, out)?;
-    write_number(number, out)
-}
-
-/// Writes where a head and a constraint part: the head, and the arguments that lead there.
-fn write_way(way: &[usize], out: &mut Vec<u8>) -> Result<(), Memory> {
-    for k in 0..way.len() {
-        let word = match k {
-            0 => "  head ",
-            1 => ", argument ",
-            _ => " of ",
-        };
-        write_numbered(word, way[k] as u64, out)?;
-    }
-    Ok(())
-}
-
-/// A verdict, and the test that it is about.
-#[derive(Drop)]
-struct Judged {
-    verdict: Verdict,
-    test: Option<Test>,
-}
-
-/// The verdict on a rule of the program and a list where a run stands, and the test that it is about, as it stands.
-fn judge_listed(
-    teller: &Teller<'_, '_>,
-    rule: usize,
-    ids: HeadIds,
-) -> Result<Option<Judged>, Memory> {
-    let machine = teller.watched.machine();
-    if rule >= machine.program().rules() {
-        return Ok(None);
-    }
-    let verdict = judge(teller.alloc, machine, rule, ids)?;
-    let test = match &verdict {
-        Verdict::Guard(k, _) => guard_test(teller.alloc, machine, rule, ids, *k)?,
-        _ => None,
-    };
-    Ok(Some(Judged { verdict, test }))
-}
-
-/// Writes the line that says more of a verdict, where there is more.
-fn write_detail(teller: &Teller<'_, '_>, judged: &Judged, out: &mut Vec<u8>) -> Result<(), Memory> {
-    match &judged.verdict {
-        Verdict::Fired | Verdict::NotYetThere(_) | Verdict::Removed(_) | Verdict::CouldFire =>
-            return Ok(()),
-        Verdict::Twice(id) => write_numbered("  two heads have ", id.0, out)?,
-        Verdict::OtherSymbol(head) => {
-            write_numbered("  head ", *head as u64, out)?;
-            write_text(" has another symbol", out)?;
-        }
-        Verdict::Unlike(way, parting) => {
-            write_way(way.as_slice(), out)?;
-            write_text(": the rule has ", out)?;
-            teller.write_term(&parting.left, out)?;
-            write_text(", the constraint ", out)?;
-            teller.write_term(&parting.right, out)?;
-        }
-        Verdict::Waits(head, variable) => {
-            write_numbered("  head ", *head as u64, out)?;
-            write_text(": ", out)?;
-            teller.write_term(&Term::Var(*variable), out)?;
-            write_text(" has no value yet", out)?;
-        }
-        Verdict::Guard(k, lack) => match &judged.test {
-            Some(test) => write_lack(teller, test, *lack, out)?,
-            None => write_numbered("  test ", *k as u64, out)?,
-        },
-    }
-    write_byte(b'\n', out)
-}
-
 /// Writes the constraints of a list, a line each, with when they came and went.
-fn write_constraints(teller: &Teller<'_, '_>, ids: &[Id], out: &mut Vec<u8>) -> Result<(), Memory> {
-    let mut column = Column::new(teller.alloc);
-    for id in ids {
-        let mut text = Vec::new(teller.alloc);
-        teller.write_constraint(*id, &mut text)?;
-        column.push(text)?;
-    }
+fn write_constraints(teller: &Teller<'_, '_>, removals: &Removals, ids: &[Id], page: &mut Page) {
+    let Some(column) = page.made(Column::of(teller, ids)) else {
+        return;
+    };
     for place in 0..ids.len() {
-        write_text("  ", out)?;
-        column.write(place, out)?;
-        write_text("  ", out)?;
-        teller.write_fate(ids[place], &[], out)?;
-        teller.write_standing(ids[place], out)?;
-        write_byte(b'\n', out)?;
+        page.text("  ");
+        column.write(place, page);
+        page.text("  ");
+        teller.write_fate(removals, ids[place], &[], page);
+        teller.write_standing(ids[place], page);
+        page.byte(b'\n');
     }
-    Ok(())
 }
 
 /// Writes the searches for the rule with the list, a line each; for one that found a lesser list, which that was.
-fn write_searches(
-    list: &ListLog,
-    ids: HeadIds,
-    again: &Again<'_>,
-    out: &mut Vec<u8>,
-) -> Result<(), Memory> {
+fn write_searches(list: &ListLog, ids: HeadIds, again: &Again<'_>, page: &mut Page) {
     let searches = list.searches.as_slice();
     for k in 0..searches.len() {
         let Some(search) = searches.get(k) else {
-            return Ok(());
+            return;
         };
-        write_numbered("  looked for at ", search.at, out)?;
-        write_numbered(", by ", search.active.0, out)?;
-        write_text(": ", out)?;
-        write_text(verdict_word(&search.verdict), out)?;
+        write_numbered("  looked for at ", search.at, page);
+        write_numbered(", by ", search.active.0, page);
+        page.text(": ");
+        page.text(verdict_word(&search.verdict));
         if let (Verdict::CouldFire, Some(first)) = (&search.verdict, again.fired(k)) {
             if first != ids {
-                write_text("; ", out)?;
-                print_numbers(first.as_slice(), out)?;
-                write_text(" went first", out)?;
+                page.text("; ");
+                page.numbers(first.as_slice());
+                page.text(" went first");
             }
         }
-        write_byte(b'\n', out)?;
+        page.byte(b'\n');
     }
-    Ok(())
 }
 
 /// The transition by which the rule fired with the list, where it did: the last search that could find it.
@@ -217,44 +107,48 @@ pub(crate) fn write_why(
     list: &ListLog,
     again: &Again<'_>,
     listed: Listed,
-    out: &mut Vec<u8>,
-) -> Result<(), Memory> {
+    page: &mut Page,
+) {
     let Listed { rule, ids, at } = listed;
-    let Some(judged) = judge_listed(teller, rule, ids)? else {
-        return Ok(());
+    let Some(judged) = judge_listed(teller, rule, ids, page) else {
+        return;
     };
-    teller.write_rule(rule, out)?;
-    write_byte(b' ', out)?;
-    print_numbers(ids.as_slice(), out)?;
+    teller.write_rule(rule, page);
+    page.byte(b' ');
+    page.numbers(ids.as_slice());
     if let Some(at) = at {
-        write_numbered(" after ", at, out)?;
+        write_numbered(" after ", at, page);
     }
-    write_text(": ", out)?;
-    write_text(verdict_word(&judged.verdict), out)?;
+    page.text(": ");
+    page.text(verdict_word(&judged.verdict));
     if let Verdict::Fired = judged.verdict {
-        write_numbered(" at ", fired_at(list), out)?;
+        write_numbered(" at ", fired_at(list), page);
     }
-    write_byte(b'\n', out)?;
-    write_constraints(teller, ids.as_slice(), out)?;
-    write_detail(teller, &judged, out)?;
-    write_could_fire(teller, list, again, listed, out)?;
-    write_searches(list, ids, again, out)
+    page.byte(b'\n');
+    let Some(removals) = page.made(teller.watched.removals(teller.alloc)) else {
+        return;
+    };
+    write_constraints(teller, &removals, ids.as_slice(), page);
+    write_detail(teller, &judged, page);
+    write_could_fire(teller, &removals, list, again, listed, page);
+    write_searches(list, ids, again, page);
 }
 
 /// Writes from when on the list could fire the rule, and why it was not looked for, if it was not.
 fn write_could_fire(
     teller: &Teller<'_, '_>,
+    removals: &Removals,
     list: &ListLog,
     again: &Again<'_>,
     listed: Listed,
-    out: &mut Vec<u8>,
-) -> Result<(), Memory> {
+    page: &mut Page,
+) {
     let Some(at) = list.could_from else {
-        return Ok(());
+        return;
     };
-    write_numbered("  could fire after ", at, out)?;
+    write_numbered("  could fire after ", at, page);
     match again {
-        Again::Then(then) => listed.write_unsought(teller, then.machine(), out),
-        Again::Nothing | Again::Fired(_) => write_byte(b'\n', out),
+        Again::Then(then) => listed.write_unsought(teller, removals, then.machine(), page),
+        Again::Nothing | Again::Fired(_) => page.byte(b'\n'),
     }
 }

@@ -43,10 +43,11 @@ fn why<'a>(alloc: Global) -> Result<Command<'a>, AllocError> {
         .required(true)
         .help("The label of the rule, or #k for the k-th one");
     let ids = Arg::new(alloc, "ID")
-        .required(true)
         .num_args(1..)
         .value_parser(value_parser!(u64))
-        .help("The identities of the constraints, in the order of the rule's heads");
+        .help(
+            "The identities of the constraints, in the order of the rule's heads; all lists of the store where there are none",
+        );
     let at = Arg::new(alloc, "at")
         .long("at")
         .value_name("K")
@@ -55,7 +56,7 @@ fn why<'a>(alloc: Global) -> Result<Command<'a>, AllocError> {
     question(
         alloc,
         "why",
-        "Tells why a rule does not fire with a list of constraints",
+        "Tells why a rule does not fire: with a list of constraints, or with those of the store",
     )?
     .arg(rule)?
     .arg(ids)?
@@ -85,6 +86,11 @@ pub(crate) fn look_command<'a>(alloc: Global) -> Result<Command<'a>, AllocError>
         .subcommand(question(alloc, "answer", "Shows how the run ended")?)?
         .subcommand(question(alloc, "firings", "Shows each firing with its constraints")?)?
         .subcommand(life(alloc)?)?
+        .subcommand(question(
+            alloc,
+            "profile",
+            "Shows what the run cost, by heads, rules and kinds",
+        )?)?
         .subcommand(why(alloc)?)?
         .subcommand(check(alloc)?)
 }

@@ -25,7 +25,10 @@ pub enum Question<'a> {
     Firings,
     /// How the constraint of an identity came and went.
     Life(u64),
-    /// Why the rule of a label does not fire with these, where the run stands, or after so many transitions.
+    /// What it cost.
+    Profile,
+    /// Why the rule of a label does not fire with these, or where there are none with those of the store: where the run stands, or after so many
+    /// transitions.
     Why(&'a str, Vec<u64>, Option<u64>),
 }
 
@@ -74,6 +77,7 @@ fn question_of<'a>(
     let question = match name {
         "answer" => Question::Answer,
         "firings" => Question::Firings,
+        "profile" => Question::Profile,
         "life" => match matches.get_one::<u64>("ID") {
             Some(id) => Question::Life(id),
             None => return Ok(None),

@@ -10,12 +10,12 @@
 //! let memory = Refusing::new(rt.alloc(), 0);
 //! let refused = refused_in_turn(1000, |left| {
 //!     memory.allow(left);
-//!     Ok(call(&memory).is_ok())
-//! })?;
+//!     call(&memory).is_ok()
+//! });
 //! ```
 #![tactic(auto)]
 
-ghost use Rattle.std.specs.Prelude.{◌≤◌, IfOk};
+ghost use Rattle.std.specs.Prelude.{◌≤◌};
 
 use std::alloc::{AllocError, Allocator};
 use std::sync::atomic::{AtomicU64, Ordering};
@@ -90,20 +90,17 @@ unsafe impl<B: Allocator> Allocator for Refusing<B> {
 }
 
 /// Calls `call` with 0, 1, 2, .. up to `most` - 1, until it answers that nothing was refused. How many calls answered that something
-/// was: where that is `most`, all did. An error of `call` ends it at once.
-pub fn refused_in_turn<E, F: FnMut(u64) -> Result<bool, E>>(
-    most: u64,
-    mut call: F,
-) -> Result<u64, E>
+/// was: where that is `most`, all did.
+pub fn refused_in_turn<F: FnMut(u64) -> bool>(most: u64, mut call: F) -> u64
     requires { F.IsAlwaysCallable call }
-    ensures { IfOk result (λ refused. refused ≤ most) }
+    ensures { result ≤ most }
 {
     for left in 0..most {
-        if call(left)? {
-            return Ok(left);
+        if call(left) {
+            return left;
         }
     }
-    Ok(most)
+    most
 }
 
 /// A turn of a test whose calls may each have `left` growths: the first refusal of a call is seen, and then memory is ample, so that the

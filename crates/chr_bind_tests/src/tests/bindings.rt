@@ -1,8 +1,8 @@
 //! Bindings, guards and values.
 use super::*;
-use chr_bind::{Bindings, Fault, Match, Test, Unified, are_below, fit, holds, is_below, value};
+use chr_bind::{Bindings, Fault, Match, Test, Unified, are_below, fit, is_below, value};
 use chr_semantics::limits::MAX_RULE_VARIABLES;
-use chr_term::same;
+use chr_term::{Memory, same};
 
 const F: Sym = Sym(7);
 
@@ -16,67 +16,65 @@ fn unify<A: Allocator + Copy>(
     right: &Term<A>,
 ) -> Result<Unified, Memory> {
     let len = bindings.len();
-    assert!(rt; is_below(len, left) && is_below(len, right));
+    holds(rt, is_below(len, left));
+    holds(rt, is_below(len, right));
     bindings.unify(left, right)
 }
 
 /// Whether a term stands for another one, by each call that says so.
 fn stands_for<A: Allocator + Copy>(
+    rt: &impl Abort,
     bindings: &Bindings<A>,
     term: &Term<A>,
     wanted: &Term<A>,
-) -> Result<bool, Memory> {
-    Ok(same(&bindings.resolve(term)?, wanted) && bindings.resolves_to(term, wanted))
+) -> bool {
+    let resolved = got(rt, bindings.resolve(term));
+    same(&resolved, wanted) && bindings.resolves_to(term, wanted)
 }
 
 /// X is Y, and so is no f(Y).
-fn follow<A: Allocator + Copy>(
-    rt: &impl Abort,
-    bindings: &mut Bindings<A>,
-    inside: &Term<A>,
-) -> Result<(), Memory> {
+fn follow<A: Allocator + Copy>(rt: &impl Abort, bindings: &mut Bindings<A>, inside: &Term<A>) {
     let (x, y) = (Term::Var(0), Term::Var(1));
-    assert_eq!(rt; unify(rt, bindings, &x, &y)?, Unified::Bound);
-    assert!(rt; stands_for(bindings, &y, &x)?);
-    assert_eq!(rt; unify(rt, bindings, &x, &y)?, Unified::Same);
-    assert_eq!(rt; unify(rt, bindings, &x, inside)?, Unified::Clash);
-    assert!(rt; stands_for(bindings, &y, &x)?);
-    assert!(rt; !bindings.ground(inside));
-    Ok(())
+    equal(rt, got(rt, unify(rt, bindings, &x, &y)), Unified::Bound);
+    holds(rt, stands_for(rt, bindings, &y, &x));
+    equal(rt, got(rt, unify(rt, bindings, &x, &y)), Unified::Same);
+    equal(rt, got(rt, unify(rt, bindings, &x, inside)), Unified::Clash);
+    holds(rt, stands_for(rt, bindings, &y, &x));
+    holds(rt, !bindings.ground(inside));
 }
 
 #[test]
-fn binding_calls(rt: HostRuntime) -> Result<(), Fail> {
+fn binding_calls(rt: HostRuntime) {
     let mut bindings = Bindings::new(rt.alloc());
-    bindings.room(2)?;
-    assert_eq!(&rt; bindings.fresh(2)?, 0);
-    assert_eq!(&rt; bindings.len(), 2);
-    let inside = node(rt.alloc(), F, [Term::Var(1)])?;
-    follow(&rt, &mut bindings, &inside)?;
-    Ok(())
+    got(&rt, bindings.room(2));
+    equal(&rt, got(&rt, bindings.fresh(2)), 0);
+    equal(&rt, bindings.len(), 2);
+    let inside = node(&rt, rt.alloc(), F, [Term::Var(1)]);
+    follow(&rt, &mut bindings, &inside);
 }
 
 /// Binds a variable to the one before it.
-fn bind_back<A: Allocator + Copy>(
-    rt: &impl Abort,
-    bindings: &mut Bindings<A>,
-    var: u64,
-) -> Result<(), Memory> {
+fn bind_back<A: Allocator + Copy>(rt: &impl Abort, bindings: &mut Bindings<A>, var: u64) {
     let (var, less) = (Term::Var(var), Term::Var(var.saturating_sub(1)));
-    assert_eq!(rt; unify(rt, bindings, &var, &less)?, Unified::Bound);
-    Ok(())
+    equal(
+        rt,
+        got(rt, unify(rt, bindings, &var, &less)),
+        Unified::Bound,
+    );
 }
 
 /// Variables that are bound one by one, each to the one before it, the last one first.
 #[test]
-fn a_chain_of_variables(rt: HostRuntime) -> Result<(), Fail> {
+fn a_chain_of_variables(rt: HostRuntime) {
     let mut bindings = Bindings::new(rt.alloc());
-    bindings.fresh(1000)?;
+    got(&rt, bindings.fresh(1000));
     for var in (1..1000u64).rev() {
-        bind_back(&rt, &mut bindings, var)?;
+        bind_back(&rt, &mut bindings, var);
     }
-    assert!(&rt; stands_for(&bindings, &Term::Var(999), &Term::Var(0))?);
-    Ok(())
+    holds(
+        &rt,
+        stands_for(&rt, &bindings, &Term::Var(999), &Term::Var(0)),
+    );
 }
 
 /// A call that is refused in turn.
@@ -122,27 +120,19 @@ fn is_through<M: Allocator + Copy>(
 ) -> bool {
     meter.allow(left);
     let is_done = answers(rt, call, bindings, terms);
-    assert_eq!(rt; !is_done, was_refused(meter, left), "{call:?} {left}");
+    equal(rt, !is_done, was_refused(meter, left));
     if !is_done {
-        assert_eq!(rt; bindings.len(), 3, "{call:?} {left}");
-        assert!(rt;
-            bindings.resolves_to(&Term::Var(1), &Term::Var(0)),
-            "{call:?} {left}"
-        );
-        assert!(rt;
-            bindings.resolves_to(&Term::Var(2), &Term::Var(2)),
-            "{call:?} {left}"
-        );
-        assert!(rt; answers(rt, call, bindings, terms), "{call:?} {left}");
+        equal(rt, bindings.len(), 3);
+        holds(rt, bindings.resolves_to(&Term::Var(1), &Term::Var(0)));
+        holds(rt, bindings.resolves_to(&Term::Var(2), &Term::Var(2)));
+        holds(rt, answers(rt, call, bindings, terms));
     }
     is_done
 }
 
 /// A list of one term.
-fn one<M: Allocator + Copy>(alloc: M, only: Term<M>) -> Result<Vec<Term<M>, M>, Memory> {
-    let mut terms = Vec::new(alloc);
-    terms.push(only)?;
-    Ok(terms)
+fn one<M: Allocator + Copy>(rt: &impl Abort, alloc: M, only: Term<M>) -> Vec<Term<M>, M> {
+    got(rt, Vec::from_array(alloc, [only]))
 }
 
 /// As `is_through`, over bindings of its own.
@@ -152,26 +142,25 @@ fn is_called<M: Allocator + Copy>(
     meter: &Refusing<Global>,
     call: Call,
     left: u64,
-) -> Result<bool, Memory> {
+) -> bool {
     meter.allow(AMPLE);
     let mut bindings = Bindings::new(alloc);
-    bindings.fresh(3)?;
-    unify(rt, &mut bindings, &Term::Var(0), &Term::Var(1))?;
-    let term = Term::node(alloc, F, one(alloc, Term::Var(1))?)?;
-    let wanted = Term::node(alloc, F, one(alloc, Term::Var(0))?)?;
-    let other = Term::node(alloc, F, one(alloc, Term::Var(2))?)?;
+    got(rt, bindings.fresh(3));
+    got(rt, unify(rt, &mut bindings, &Term::Var(0), &Term::Var(1)));
+    let term = node(rt, alloc, F, [Term::Var(1)]);
+    let wanted = node(rt, alloc, F, [Term::Var(0)]);
+    let other = node(rt, alloc, F, [Term::Var(2)]);
     let terms = (&term, &wanted, &other);
-    Ok(is_through(rt, meter, call, &mut bindings, terms, left))
+    is_through(rt, meter, call, &mut bindings, terms, left)
 }
 
 #[test]
-fn bindings_refused(rt: HostRuntime) -> Result<(), Fail> {
+fn bindings_refused(rt: HostRuntime) {
     let meter = Refusing::new(rt.alloc(), 0);
     for call in [Call::Room, Call::Fresh, Call::Resolve, Call::Unify] {
-        let refused = refused_in_turn(MOST, |left| is_called(&rt, &meter, &meter, call, left))?;
+        let refused = refused_in_turn(MOST, |left| is_called(&rt, &meter, &meter, call, left));
         assert!(&rt; refused > 0 && refused < MOST, "{call:?} {refused}");
     }
-    Ok(())
 }
 
 /// Whether `holds`, with the patterns matched to the terms, goes through with `left` growths. It then answers `wanted`.
@@ -183,12 +172,12 @@ fn is_tested<M: Allocator + Copy>(
     (wanted, left): (bool, u64),
 ) -> bool {
     let mut matching = Match::new();
-    assert!(rt; are_below(MAX_RULE_VARIABLES as u64, patterns));
-    assert!(rt; fit(patterns, terms, &mut matching));
+    holds(rt, are_below(MAX_RULE_VARIABLES as u64, patterns));
+    holds(rt, fit(patterns, terms, &mut matching));
     meter.allow(left);
-    let is_done = holds(alloc, test, &matching).is_ok();
-    assert_eq!(rt; !is_done, was_refused(meter, left), "{left}");
-    assert_eq!(rt; holds(alloc, test, &matching), Ok(wanted), "{left}");
+    let is_done = chr_bind::holds(alloc, test, &matching).is_ok();
+    equal(rt, !is_done, was_refused(meter, left));
+    equal(rt, got(rt, chr_bind::holds(alloc, test, &matching)), wanted);
     is_done
 }
 
@@ -199,55 +188,62 @@ fn is_guarded<M: Allocator + Copy>(
     meter: &Refusing<Global>,
     (matched, wanted): (Term<M>, bool),
     left: u64,
-) -> Result<bool, Memory> {
+) -> bool {
     meter.allow(AMPLE);
-    let (patterns, terms) = (one(alloc, Term::Var(0))?, one(alloc, matched)?);
-    let test = Test::NotUnifiable(Term::Var(0), Term::node(alloc, A, Vec::new(alloc))?);
+    let patterns = one(rt, alloc, Term::Var(0));
+    let terms = one(rt, alloc, matched);
+    let name = got(rt, Term::node(alloc, A, Vec::new(alloc)));
+    let test = Test::NotUnifiable(Term::Var(0), name);
     let lists = (patterns.as_slice(), terms.as_slice());
-    Ok(is_tested(rt, (alloc, meter), &test, lists, (wanted, left)))
+    is_tested(rt, (alloc, meter), &test, lists, (wanted, left))
 }
 
 #[test]
-fn guard_calls(rt: HostRuntime) -> Result<(), Fail> {
+fn guard_calls(rt: HostRuntime) {
     let meter = Refusing::new(rt.alloc(), 0);
-    assert!(&rt; is_guarded(&rt, &meter, &meter, (Term::Var(0), false), AMPLE)?);
-    assert!(&rt; is_guarded(&rt, &meter, &meter, (Term::Int(1), true), AMPLE)?);
-    Ok(())
+    holds(
+        &rt,
+        is_guarded(&rt, &meter, &meter, (Term::Var(0), false), AMPLE),
+    );
+    holds(
+        &rt,
+        is_guarded(&rt, &meter, &meter, (Term::Int(1), true), AMPLE),
+    );
 }
 
 #[test]
-fn holds_refused(rt: HostRuntime) -> Result<(), Fail> {
+fn holds_refused(rt: HostRuntime) {
     let meter = Refusing::new(rt.alloc(), 0);
     let refused = refused_in_turn(MOST, |left| {
         is_guarded(&rt, &meter, &meter, (Term::Var(0), false), left)
-    })?;
+    });
     assert!(&rt; refused > 0 && refused < MOST, "{refused}");
-    Ok(())
 }
 
 /// The value of a symbol over two terms.
 fn value_over(
+    rt: &impl Abort,
     alloc: Global,
     sym: Sym,
     left: Term,
     right: Term,
-) -> Result<Result<i128, Fault>, Memory> {
-    let term = node(alloc, sym, [left, right])?;
-    Ok(value(&term))
+) -> Result<i128, Fault> {
+    value(&node(rt, alloc, sym, [left, right]))
 }
 
 /// As `value_over`, of two numbers.
 fn value_of(
+    rt: &impl Abort,
     alloc: Global,
     sym: Sym,
     left: i128,
     right: i128,
-) -> Result<Result<i128, Fault>, Memory> {
-    value_over(alloc, sym, Term::Int(left), Term::Int(right))
+) -> Result<i128, Fault> {
+    value_over(rt, alloc, sym, Term::Int(left), Term::Int(right))
 }
 
 #[test]
-fn whole_numbers(rt: HostRuntime) -> Result<(), Fail> {
+fn whole_numbers(rt: HostRuntime) {
     for (sym, left, right, wanted) in [
         (Sym::PLUS, 9223372036854775807, 1, Ok(9223372036854775808)),
         (
@@ -263,20 +259,18 @@ fn whole_numbers(rt: HostRuntime) -> Result<(), Fail> {
         (Sym::MODULO, i128::MIN, -1, Ok(0)),
         (Sym::DIVIDE, 1, 0, Err(Fault::ZeroDivisor)),
     ] {
-        assert_eq!(&rt; value_of(rt.alloc(), sym, left, right)?, wanted);
+        equal(&rt, value_of(&rt, rt.alloc(), sym, left, right), wanted);
     }
-    Ok(())
 }
 
 /// The left side is looked at first.
 #[test]
-fn no_numbers(rt: HostRuntime) -> Result<(), Fail> {
+fn no_numbers(rt: HostRuntime) {
     let alloc = rt.alloc();
-    let name = Term::node(alloc, A, Vec::new(alloc))?;
-    let unbound = value_over(alloc, Sym::PLUS, Term::Var(0), name)?;
-    assert_eq!(&rt; unbound, Err(Fault::Unbound));
-    let name = Term::node(alloc, A, Vec::new(alloc))?;
-    let not_number = value_over(alloc, Sym::PLUS, name, Term::Var(0))?;
-    assert_eq!(&rt; not_number, Err(Fault::NotNumber));
-    Ok(())
+    let name = got(&rt, Term::node(alloc, A, Vec::new(alloc)));
+    let unbound = value_over(&rt, alloc, Sym::PLUS, Term::Var(0), name);
+    equal(&rt, unbound, Err(Fault::Unbound));
+    let name = got(&rt, Term::node(alloc, A, Vec::new(alloc)));
+    let not_number = value_over(&rt, alloc, Sym::PLUS, name, Term::Var(0));
+    equal(&rt, not_number, Err(Fault::NotNumber));
 }

@@ -32,47 +32,41 @@ fn filled_by_two<R: Threads + Wait + Sync>(rt: &R, memory: &Refusing<Global>) ->
 }
 
 #[test]
-fn refuses_each_in_turn(rt: HostRuntime) -> Result<(), Fail> {
+fn refuses_each_in_turn(rt: HostRuntime) {
     let memory = Refusing::new(rt.alloc(), 0);
-    let refused = refused_in_turn(100, |left| -> Result<bool, AllocError> {
+    let refused = refused_in_turn(100, |left| {
         memory.allow(left);
         let is_filled = filled(&memory, 1000).is_ok();
         if !is_filled {
-            assert_eq!(rt;
-                (memory.left(), memory.asked()),
-                (0, left.saturating_add(1))
-            );
+            let counts = (memory.left(), memory.asked());
+            equal(&rt, counts, (0, left.saturating_add(1)));
         }
-        Ok(is_filled)
-    })?;
+        is_filled
+    });
     assert!(rt; refused > 3 && refused < 30, "{refused}");
-    Ok(())
 }
 
 #[test]
-fn counts_what_was_asked(rt: HostRuntime) -> Result<(), Fail> {
+fn counts_what_was_asked(rt: HostRuntime) {
     let memory = Refusing::new(rt.alloc(), 100);
-    assert!(rt; filled(&memory, 1000).is_ok());
+    holds(&rt, filled(&memory, 1000).is_ok());
     let growths = memory.asked();
-    assert!(rt; growths > 3 && growths < 30, "{growths}");
-    assert_eq!(rt;
-        memory.left().saturating_add(growths),
-        100,
-        "a block given back is no growth"
-    );
+    holds(&rt, growths > 3);
+    holds(&rt, growths < 30);
+    // A block given back is no growth.
+    equal(&rt, memory.left().saturating_add(growths), 100);
     memory.allow(0);
-    assert_eq!(rt; memory.asked(), 0);
-    assert!(rt; filled(&memory, 1).is_err());
-    assert!(rt; filled(&memory, 1).is_err());
-    assert_eq!(rt; memory.asked(), 2);
-    Ok(())
+    equal(&rt, memory.asked(), 0);
+    holds(&rt, filled(&memory, 1).is_err());
+    holds(&rt, filled(&memory, 1).is_err());
+    equal(&rt, memory.asked(), 2);
 }
 
 #[test]
 fn threads_share_it(rt: HostRuntime) {
     let memory = Refusing::new(rt.alloc(), 1000);
-    assert_eq!(rt; filled_by_two(&rt, &memory), 200);
+    equal(&rt, filled_by_two(&rt, &memory), 200);
     memory.allow(0);
-    assert_eq!(rt; filled_by_two(&rt, &memory), 0);
-    assert_eq!(rt; memory.asked(), 2);
+    equal(&rt, filled_by_two(&rt, &memory), 0);
+    equal(&rt, memory.asked(), 2);
 }

@@ -3,75 +3,70 @@ use super::*;
 use chr_term::{Names, VarNames, copy, is_ground, print, same};
 
 /// Symbols that are new, and known ones.
-fn follow_names(rt: &impl Abort, names: &mut Names) -> Result<(), Memory> {
+fn follow_names(rt: &impl Abort, names: &mut Names) {
     for (name, arity, number) in [("f", 2, 7), ("a", 0, 8), ("f", 2, 7), ("f", 1, 9)] {
-        assert!(rt; names.len() < 100);
-        assert_eq!(rt; names.intern(name, arity)?, Sym(number));
+        holds(rt, names.len() < 100);
+        equal(rt, got(rt, names.intern(name, arity)), Sym(number));
     }
-    assert_eq!(rt; names.len(), 10);
-    assert_eq!(rt; names.find("a", 0), Some(Sym(8)));
-    assert_eq!(rt; names.name(Sym(9)), "f");
-    assert_eq!(rt; names.arity(Sym(9)), 1);
-    Ok(())
+    holds(rt, names.len() == 10);
+    equal(rt, names.find("a", 0), Some(Sym(8)));
+    equal(rt, names.name(Sym(9)), "f");
+    equal(rt, names.arity(Sym(9)), 1);
 }
 
 #[test]
-fn names_calls(rt: HostRuntime) -> Result<(), Fail> {
-    let mut names = Names::new(rt.alloc())?;
-    follow_names(&rt, &mut names)?;
-    Ok(())
+fn names_calls(rt: HostRuntime) {
+    let mut names = got(&rt, Names::new(rt.alloc()));
+    follow_names(&rt, &mut names);
 }
 
 /// So many different names that their numbers have more than 16 bits.
-fn fill(rt: &impl Abort, alloc: Global, names: &mut Names) -> Result<(), Memory> {
+fn fill(rt: &impl Abort, alloc: Global, names: &mut Names) {
     for number in 0..70_000u32 {
-        let name = format!(in alloc; "{number}")?;
-        assert!(rt; names.len() < 100_000);
-        assert_eq!(rt; names.intern(&name, 1)?, Sym(number + 7));
+        let name = got(rt, format!(in alloc; "{number}"));
+        holds(rt, names.len() < 100_000);
+        equal(rt, got(rt, names.intern(&name, 1)), Sym(number + 7));
     }
-    Ok(())
 }
 
 #[test]
-fn seventy_thousand_names(rt: HostRuntime) -> Result<(), Fail> {
-    let mut names = Names::new(rt.alloc())?;
-    fill(&rt, rt.alloc(), &mut names)?;
-    assert_eq!(&rt; names.find("65536", 1), Some(Sym(65_543)));
-    Ok(())
+fn seventy_thousand_names(rt: HostRuntime) {
+    let mut names = got(&rt, Names::new(rt.alloc()));
+    fill(&rt, rt.alloc(), &mut names);
+    equal(&rt, names.find("65536", 1), Some(Sym(65_543)));
 }
 
 /// Names with `f`/2 as symbol 7.
-fn names_with_f<A: Allocator + Copy>(rt: &impl Abort, alloc: A) -> Result<Names<A>, Memory> {
-    let mut names = Names::new(alloc)?;
-    assert!(rt; names.len() < 100);
-    names.intern("f", 2)?;
-    Ok(names)
+fn names_with_f<A: Allocator + Copy>(rt: &impl Abort, alloc: A) -> Names<A> {
+    let mut names = got(rt, Names::new(alloc));
+    holds(rt, names.len() < 100);
+    got(rt, names.intern("f", 2));
+    names
 }
 
 /// The names of variables: `X`, or none.
-fn var_names<A: Allocator + Copy>(alloc: A, is_named: bool) -> Result<VarNames<A>, Memory> {
+fn var_names<A: Allocator + Copy>(rt: &impl Abort, alloc: A, is_named: bool) -> VarNames<A> {
     let mut texts = Vec::new(alloc);
     if is_named {
-        texts.push(String::from_str(alloc, "X")?)?;
+        let name = got(rt, String::from_str(alloc, "X"));
+        got(rt, texts.push(name));
     }
-    Ok(VarNames::new(texts))
+    VarNames::new(texts)
 }
 
 /// The calls of the term f(X,1), which is printed with its variable's name and without.
-fn follow_term(rt: &impl Abort, alloc: Global) -> Result<(), Memory> {
-    let term = node(alloc, Sym(7), [Term::Var(0), Term::Int(1)])?;
-    assert!(rt; !is_ground(&term));
+fn follow_term(rt: &impl Abort, alloc: Global) {
+    let term = node(rt, alloc, Sym(7), [Term::Var(0), Term::Int(1)]);
+    holds(rt, !is_ground(&term));
     let meter = Refusing::new(alloc, 0);
     for printed in [(true, ">f(X,1)"), (false, ">f(_0,1)")] {
-        assert!(rt; is_printed(rt, &meter, &meter, printed, AMPLE)?);
+        holds(rt, is_printed(rt, &meter, &meter, printed, AMPLE));
     }
-    Ok(())
 }
 
 #[test]
-fn term_calls(rt: HostRuntime) -> Result<(), Fail> {
-    follow_term(&rt, rt.alloc())?;
-    Ok(())
+fn term_calls(rt: HostRuntime) {
+    follow_term(&rt, rt.alloc());
 }
 
 /// Whether f(X,1) after `>` is printed so with `left` growths, where its variable is named, or is not. A refused call prints nothing, and
@@ -84,15 +79,15 @@ fn is_printed<M: Allocator + Copy>(
     meter: &Refusing<Global>,
     (is_named, wanted): (bool, &str),
     left: u64,
-) -> Result<bool, Memory> {
+) -> bool {
     meter.allow(AMPLE);
-    let names = names_with_f(rt, alloc)?;
-    let vars = var_names(alloc, is_named)?;
-    assert_eq!(rt; vars.name(0), is_named.then_some("X"));
-    assert_eq!(rt; vars.len(), usize::from(is_named));
-    let term = node(alloc, Sym(7), [Term::Var(0), Term::Int(1)])?;
-    let mut text = Vec::with_capacity(alloc, 1)?;
-    text.push(b'>')?;
+    let names = names_with_f(rt, alloc);
+    let vars = var_names(rt, alloc, is_named);
+    equal(rt, vars.name(0), is_named.then_some("X"));
+    equal(rt, vars.len(), usize::from(is_named));
+    let term = node(rt, alloc, Sym(7), [Term::Var(0), Term::Int(1)]);
+    let mut text = got(rt, Vec::with_capacity(alloc, 1));
+    got(rt, text.push(b'>'));
     is_printed_in(rt, meter, (&names, &vars, &term), &mut text, wanted, left)
 }
 
@@ -104,16 +99,16 @@ fn is_printed_in<M: Allocator + Copy>(
     text: &mut Vec<u8, M>,
     wanted: &str,
     left: u64,
-) -> Result<bool, Memory> {
+) -> bool {
     meter.allow(left);
     let is_done = print(names, vars, term, text).is_ok();
-    assert_eq!(rt; !is_done, was_refused(meter, left), "{left}");
+    equal(rt, !is_done, was_refused(meter, left));
     if !is_done {
-        assert_eq!(rt; text.as_slice(), b">".as_slice(), "{left}");
-        print(names, vars, term, text)?;
+        equal(rt, text.as_slice(), b">");
+        got(rt, print(names, vars, term, text));
     }
-    assert_eq!(rt; text.as_slice(), wanted.as_bytes(), "{left}");
-    Ok(is_done)
+    equal(rt, text.as_slice(), wanted.as_bytes());
+    is_done
 }
 
 /// Whether `Names::new` goes through with `left` growths.
@@ -125,7 +120,7 @@ fn are_new<M: Allocator + Copy>(
 ) -> bool {
     meter.allow(left);
     let answer = Names::new(alloc);
-    assert_eq!(rt; answer.is_err(), was_refused(meter, left), "{left}");
+    equal(rt, answer.is_err(), was_refused(meter, left));
     answer.is_ok_and(|names| names.len() == 7)
 }
 
@@ -135,17 +130,17 @@ fn is_interned_in<M: Allocator + Copy>(
     meter: &Refusing<Global>,
     names: &mut Names<M>,
     left: u64,
-) -> Result<bool, Memory> {
-    assert_eq!(rt; names.len(), 8);
+) -> bool {
+    holds(rt, names.len() == 8);
     meter.allow(left);
     let is_done = names.intern("a", 0).is_ok();
-    assert_eq!(rt; !is_done, was_refused(meter, left), "{left}");
+    equal(rt, !is_done, was_refused(meter, left));
     if !is_done {
-        assert_eq!(rt; (names.len(), names.find("a", 0)), (8, None), "{left}");
+        equal(rt, (names.len(), names.find("a", 0)), (8, None));
     }
-    assert!(rt; names.len() < 100);
-    assert_eq!(rt; names.intern("a", 0)?, Sym(8), "{left}");
-    Ok(is_done)
+    holds(rt, names.len() < 100);
+    equal(rt, got(rt, names.intern("a", 0)), Sym(8));
+    is_done
 }
 
 /// As `is_interned_in`, in names of its own.
@@ -154,66 +149,55 @@ fn is_interned<M: Allocator + Copy>(
     alloc: M,
     meter: &Refusing<Global>,
     left: u64,
-) -> Result<bool, Memory> {
+) -> bool {
     meter.allow(AMPLE);
-    let mut names = names_with_f(rt, alloc)?;
+    let mut names = names_with_f(rt, alloc);
     is_interned_in(rt, meter, &mut names, left)
 }
 
 #[test]
-fn names_refused(rt: HostRuntime) -> Result<(), Fail> {
+fn names_refused(rt: HostRuntime) {
     let meter = Refusing::new(rt.alloc(), 0);
-    let refused = refused_in_turn(MOST, |left| -> Result<bool, Memory> {
-        Ok(are_new(&rt, &meter, &meter, left))
-    })?;
+    let refused = refused_in_turn(MOST, |left| are_new(&rt, &meter, &meter, left));
     assert!(&rt; refused > 0 && refused < MOST, "{refused}");
-    Ok(())
 }
 
 #[test]
-fn intern_refused(rt: HostRuntime) -> Result<(), Fail> {
+fn intern_refused(rt: HostRuntime) {
     let meter = Refusing::new(rt.alloc(), 0);
-    let refused = refused_in_turn(MOST, |left| is_interned(&rt, &meter, &meter, left))?;
+    let refused = refused_in_turn(MOST, |left| is_interned(&rt, &meter, &meter, left));
     assert!(&rt; refused > 0 && refused < MOST, "{refused}");
-    Ok(())
 }
 
 /// A term is had again where no growth is allowed, and so are its arguments, which their last owner alone can have back as a list.
-fn follow_shares<M: Allocator + Copy>(
-    rt: &impl Abort,
-    alloc: M,
-    meter: &Refusing<Global>,
-) -> Result<(), Memory> {
+fn follow_shares<M: Allocator + Copy>(rt: &impl Abort, alloc: M, meter: &Refusing<Global>) {
     meter.allow(AMPLE);
-    let term = node(alloc, Sym(7), [Term::Var(0), Term::Int(1)])?;
+    let term = node(rt, alloc, Sym(7), [Term::Var(0), Term::Int(1)]);
     meter.allow(0);
-    let copied = copy(&term)?;
-    assert!(rt; same(&copied, &term));
-    assert_eq!(rt; meter.asked(), 0);
+    let copied = got(rt, copy(&term));
+    holds(rt, same(&copied, &term));
+    equal(rt, meter.asked(), 0);
     let Term::Node(_, args) = term else {
-        return Ok(());
+        return;
     };
     let Err(args) = args.into_vec() else {
         panic!(rt; "another owner has them");
     };
     drop(copied);
-    assert!(rt; args.into_vec().is_ok_and(|terms| terms.len() == 2));
-    Ok(())
+    holds(rt, args.into_vec().is_ok_and(|terms| terms.len() == 2));
 }
 
 #[test]
-fn terms_shared(rt: HostRuntime) -> Result<(), Fail> {
+fn terms_shared(rt: HostRuntime) {
     let meter = Refusing::new(rt.alloc(), 0);
-    follow_shares(&rt, &meter, &meter)?;
-    Ok(())
+    follow_shares(&rt, &meter, &meter);
 }
 
 #[test]
-fn print_refused(rt: HostRuntime) -> Result<(), Fail> {
+fn print_refused(rt: HostRuntime) {
     let meter = Refusing::new(rt.alloc(), 0);
     let refused = refused_in_turn(MOST, |left| {
         is_printed(&rt, &meter, &meter, (true, ">f(X,1)"), left)
-    })?;
+    });
     assert!(&rt; refused > 0 && refused < MOST, "{refused}");
-    Ok(())
 }

@@ -22,9 +22,9 @@ struct Scene<'m, A> {
 }
 
 fn assert_tasks(rt: &impl Abort, tasks: &[Task]) {
-    assert_eq!(rt; tasks.len(), 3);
+    equal(rt, tasks.len(), 3);
     for (found, (goal, occurrence)) in tasks.iter().zip([(3, 1), (2, 1), (2, 2)]) {
-        assert!(rt; found.goal == Id(goal) && found.occurrence == occurrence);
+        equal(rt, (found.goal, found.occurrence), (Id(goal), occurrence));
     }
 }
 
@@ -39,16 +39,13 @@ fn put<J: RunName, A: Allocator + Copy>(
 {
     scene.turn.begin();
     let made = shelf.put::<J>(rt, snapshot);
-    assert!(rt; scene.turn.end(made.is_err()));
+    holds(rt, scene.turn.end(made.is_err()));
     let again = match made {
         Ok(ticket) => return ticket,
         Err((snapshot, _)) => snapshot,
     };
     assert_tasks(rt, again.tasks());
-    match shelf.put::<J>(rt, again) {
-        Ok(ticket) => ticket,
-        Err(_) => panic!(rt; "refused with memory"),
-    }
+    got(rt, shelf.put::<J>(rt, again).map_err(|(_, error)| error))
 }
 
 /// A ticket, and one that is asked for by its place, show the tasks.
@@ -61,7 +58,7 @@ fn assert_seen<J: RunName, A: Allocator + Copy>(
 {
     assert_tasks(rt, shelf.see(ticket).tasks());
     let other = shelf.ticket::<J>(ticket.place()).expect(rt, "a ticket");
-    assert_eq!(rt; other.place(), ticket.place());
+    equal(rt, other.place(), ticket.place());
     shelf.agree(ticket, &other);
     assert_tasks(rt, shelf.see(&other).tasks());
 }
@@ -82,11 +79,11 @@ fn answer_to<J: RunName, A: Allocator + Copy>(
     let ticket = shelf.ticket::<J>(slip.place()).expect(rt, "a ticket");
     scene.turn.begin();
     let solved = solve(program, shelf, ticket, slip.index());
-    assert!(rt; scene.turn.end(solved.is_err()));
+    holds(rt, scene.turn.end(solved.is_err()));
     let again = match solved {
         Ok(answer) => return answer,
         Err((ticket, unsolved)) => {
-            assert!(rt; unsolved == Unsolved::Memory);
+            equal(rt, unsolved, Unsolved::Memory);
             ticket
         }
     };
@@ -109,18 +106,20 @@ fn assert_solved<J: RunName, A: Allocator + Copy>(
     match solve(program, shelf, ticket.again(), 3) {
         Ok(_) => panic!(rt; "no such task"),
         Err((back, unsolved)) => {
-            assert_eq!(rt; back.place(), ticket.place());
-            assert!(rt; unsolved == Unsolved::NoTask);
+            equal(rt, back.place(), ticket.place());
+            equal(rt, unsolved, Unsolved::NoTask);
         }
     }
     match solve(program, shelf, ticket.again(), 0) {
         Err(_) => panic!(rt; "not solved"),
         Ok(answer) => {
-            assert!(rt; answer.task().goal == Id(3) && answer.task().occurrence == 1);
-            assert!(rt;
+            let task = answer.task();
+            equal(rt, (task.goal, task.occurrence), (Id(3), 1));
+            holds(
+                rt,
                 answer.found().ids.is_some_and(|ids| {
                     ids.as_slice() == [Id(2), Id(1), Id(3)].as_slice()
-                })
+                }),
             );
         }
     }
@@ -136,13 +135,13 @@ fn offer<J: RunName, A: Allocator + Copy>(
     let before = board.totals(rt);
     scene.turn.begin();
     let mut offered = board.offer(rt, place, 2);
-    assert!(rt; scene.turn.end(offered.is_err()));
+    holds(rt, scene.turn.end(offered.is_err()));
     if offered.is_err() {
-        assert!(rt; offered == Err(BoardError::Memory));
-        assert!(rt; board.totals(rt) == before);
+        holds(rt, offered == Err(BoardError::Memory));
+        holds(rt, board.totals(rt) == before);
         offered = board.offer(rt, place, 2);
     }
-    assert!(rt; offered == Ok(0));
+    holds(rt, offered == Ok(0));
 }
 
 /// Drains the answer to the first task into a list with no room.
@@ -156,13 +155,13 @@ fn drain<J: RunName, A: Allocator + Copy>(
     let mut inbox = Vec::new(scene.alloc);
     scene.turn.begin();
     let mut drained = board.drain(rt, &mut inbox);
-    assert!(rt; scene.turn.end(drained.is_err()));
+    holds(rt, scene.turn.end(drained.is_err()));
     if drained.is_err() {
-        assert!(rt; inbox.is_empty());
-        assert!(rt; board.totals(rt) == before);
+        holds(rt, inbox.is_empty());
+        holds(rt, board.totals(rt) == before);
         drained = board.drain(rt, &mut inbox);
     }
-    assert!(rt; drained == Ok(1));
+    holds(rt, drained == Ok(1));
     assert_answers(rt, inbox.as_slice(), place, &[0]);
 }
 
@@ -174,9 +173,8 @@ fn take<J: RunName, A: Allocator + Copy>(
     index: u32,
 ) -> Slip {
     let slip = board.take_task(rt).expect(rt, "a task");
-    assert_eq!(rt; slip.serial(), u64::from(index));
-    assert_eq!(rt; slip.place(), place);
-    assert_eq!(rt; slip.index(), index);
+    equal(rt, slip.serial(), u64::from(index));
+    equal(rt, (slip.place(), slip.index()), (place, index));
     slip
 }
 
@@ -199,8 +197,8 @@ fn assert_closed<J: RunName, A: Allocator + Copy>(
         waiting: 0,
         left: 0,
     };
-    assert!(rt; board.totals(rt) == totals);
-    assert!(rt; board.offer(rt, place, 1) == Err(BoardError::Closed));
+    holds(rt, board.totals(rt) == totals);
+    holds(rt, board.offer(rt, place, 1) == Err(BoardError::Closed));
 }
 
 /// The calls, from a snapshot on.
@@ -218,7 +216,10 @@ fn play_named<J: RunName, A: Allocator + Copy>(
     assert_seen(rt, shelf, &ticket);
     assert_solved(rt, program, shelf, &ticket);
     let (board, place) = (Board::<J, A>::new(scene.alloc), ticket.place());
-    assert!(rt; board.offer(rt, place, 262_145) == Err(BoardError::TooManyTasks));
+    holds(
+        rt,
+        board.offer(rt, place, 262_145) == Err(BoardError::TooManyTasks),
+    );
     offer(rt, scene, &board, place);
     let slip = take(rt, &board, place, 0);
     let answer = answer_to(rt, scene, program, shelf, &slip);
@@ -241,16 +242,13 @@ fn play<A: Allocator + Copy>(
 }
 
 /// Makes the shelf, and again where it is refused.
-fn shelf_of<A: Allocator + Copy>(
-    rt: &impl Abort,
-    scene: &Scene<'_, A>,
-) -> Result<Shelf<A>, Memory> {
+fn shelf_of<A: Allocator + Copy>(rt: &impl Abort, scene: &Scene<'_, A>) -> Shelf<A> {
     scene.turn.begin();
     let shelf = Shelf::new(scene.alloc);
-    assert!(rt; scene.turn.end(shelf.is_err()));
+    holds(rt, scene.turn.end(shelf.is_err()));
     match shelf {
-        Ok(shelf) => Ok(shelf),
-        Err(_) => Shelf::new(scene.alloc),
+        Ok(shelf) => shelf,
+        Err(_) => got(rt, Shelf::new(scene.alloc)),
     }
 }
 
@@ -262,38 +260,32 @@ fn are_through<A: Allocator + Copy>(
     alloc: A,
     meter: &Refusing<Global>,
     left: u64,
-) -> Result<bool, Fail> {
+) -> bool {
     let scene = Scene {
         alloc,
         turn: Turn::new(meter, left),
     };
-    let (program, query) = both_of(alloc, SPECULATION.program, SPECULATION.query)?;
-    let snapshot = snapshot_of(alloc, &program, query)?;
-    let shelf = shelf_of(rt, &scene)?;
+    let (program, query) = both(rt, alloc, (SPECULATION.program, SPECULATION.query));
+    let snapshot = snapshot_of(rt, alloc, &program, query);
+    let shelf = shelf_of(rt, &scene);
     play(rt, &scene, &program, &shelf, snapshot);
-    Ok(scene.turn.met_none())
+    scene.turn.met_none()
 }
 
 /// As `are_through`, where the meter refuses.
-fn are_through_metered(
-    rt: &(impl Abort + Wait),
-    meter: &Refusing<Global>,
-    left: u64,
-) -> Result<bool, Fail> {
+fn are_through_metered(rt: &(impl Abort + Wait), meter: &Refusing<Global>, left: u64) -> bool {
     are_through(rt, meter, meter, left)
 }
 
 #[test]
-fn shelf_calls_and_board_calls(rt: HostRuntime) -> Result<(), Fail> {
+fn shelf_calls_and_board_calls(rt: HostRuntime) {
     let meter = Refusing::new(rt.alloc(), 0);
-    assert!(&rt; are_through_metered(&rt, &meter, u64::MAX)?);
-    Ok(())
+    holds(&rt, are_through_metered(&rt, &meter, u64::MAX));
 }
 
 #[test]
-fn want_of_memory(rt: HostRuntime) -> Result<(), Fail> {
+fn want_of_memory(rt: HostRuntime) {
     let meter = Refusing::new(rt.alloc(), 0);
-    let refused = refused_in_turn(MOST, |left| are_through_metered(&rt, &meter, left))?;
+    let refused = refused_in_turn(MOST, |left| are_through_metered(&rt, &meter, left));
     assert!(&rt; refused > 0 && refused < MOST, "{refused}");
-    Ok(())
 }

@@ -32,51 +32,52 @@ fn assert_next<J: RunName, A: Allocator + Copy>(
         slip,
         passed: found,
     } = picked;
-    assert_eq!(rt; found, passed);
+    equal(rt, found, passed);
     match slip {
-        None => assert!(rt; serial.is_none()),
+        None => holds(rt, serial.is_none()),
         Some(slip) => {
             let found = slip.serial();
             board.give_up(rt, slip);
-            assert_eq!(rt; Some(found), serial);
+            equal(rt, Some(found), serial);
         }
     }
 }
 
 /// No task is handed out that the coordinator searches for, that is good as it was kept, or whose search has begun.
 #[test]
-fn fresh_tasks(rt: HostRuntime) -> Result<(), Fail> {
+fn fresh_tasks(rt: HostRuntime) {
     let alloc = rt.alloc();
     let board = Board::<Brand, Global>::new(alloc);
     board.set_own(&rt, Some(FIRST));
-    let mut round = round_of(alloc, &[FIRST, SECOND, THIRD])?;
+    let mut round = round_of(&rt, alloc, &[FIRST, SECOND, THIRD]);
     if let Some(second) = round.get_mut(1) {
         second.is_good = true;
     }
-    assert!(&rt; board.offer_round(&rt, 0, round) == Ok(0));
+    holds(&rt, board.offer_round(&rt, 0, round) == Ok(0));
     assert_next(&rt, &board, Some(2), 2);
     board.set_own(&rt, None);
-    assert!(&rt; board.offer_round(&rt, 1, round_of(alloc, &[FIRST, THIRD, SECOND])?) == Ok(3));
+    let round = round_of(&rt, alloc, &[FIRST, THIRD, SECOND]);
+    holds(&rt, board.offer_round(&rt, 1, round) == Ok(3));
     assert_next(&rt, &board, Some(3), 0);
     assert_next(&rt, &board, Some(5), 1);
-    Ok(())
 }
 
 /// A task whose search came to nothing is handed out again. No task is that is not of the round that was offered last.
 #[test]
-fn stale_tasks(rt: HostRuntime) -> Result<(), Fail> {
+fn stale_tasks(rt: HostRuntime) {
     let alloc = rt.alloc();
     let board = Board::<Brand, Global>::new(alloc);
-    assert!(&rt; board.offer_round(&rt, 0, round_of(alloc, &[FIRST, SECOND])?) == Ok(0));
+    let round = round_of(&rt, alloc, &[FIRST, SECOND]);
+    holds(&rt, board.offer_round(&rt, 0, round) == Ok(0));
     let (picked, task) = board.take_fresh(&rt, MOST);
     let Picked { slip, passed: _ } = picked;
-    assert!(&rt; task == Some(FIRST));
+    holds(&rt, task == Some(FIRST));
     if let Some(slip) = slip {
         board.abandon(&rt, slip, task);
     }
-    assert!(&rt; board.offer_round(&rt, 1, round_of(alloc, &[FIRST])?) == Ok(2));
+    let round = round_of(&rt, alloc, &[FIRST]);
+    holds(&rt, board.offer_round(&rt, 1, round) == Ok(2));
     assert_next(&rt, &board, Some(2), 1);
     board.close(&rt);
     assert_next(&rt, &board, None, 0);
-    Ok(())
 }

@@ -25,7 +25,7 @@ impl<J: RunName + Send + Sync, A: Allocator + Copy + Send + Sync, R: Abort + Wai
         match point {
             Point::Begins(DRAINED_AT) => {
                 let mut inbox = Vec::new(self.alloc);
-                assert!(self.rt; self.board.drain(self.rt, &mut inbox) == Ok(1));
+                holds(self.rt, self.board.drain(self.rt, &mut inbox) == Ok(1));
             }
             Point::Posts(CLOSED_AT) => self.board.close(self.rt),
             Point::Begins(_) | Point::Posts(_) | Point::Own(_) => {}
@@ -40,7 +40,7 @@ fn play_named<J: RunName + Send + Sync, A: Allocator + Copy + Send + Sync, R: Ab
     program: &Program<A>,
     shelf: &Shelf<A>,
     snapshot: Snapshot<A>,
-) -> Result<(), Fail>
+)
     requires name { shelf.now ≡ J.shelf }
     requires rules { rules_of program.now ≡ J.rules }
 {
@@ -54,17 +54,11 @@ fn play_named<J: RunName + Send + Sync, A: Allocator + Copy + Send + Sync, R: Ab
             occurrence: 1,
         },
     ];
-    let place = match shelf.put::<J>(rt, snapshot) {
-        Ok(ticket) => ticket.place(),
-        Err(_) => panic!(rt; "refused"),
-    };
+    let place = got(rt, shelf.put::<J>(rt, snapshot).map_err(|(_, error)| error)).place();
     let board = Board::<J, A>::new(alloc);
     for round in [[first].as_slice(), &[first, second], &[first]] {
-        assert!(rt;
-            board
-                .offer_round(rt, place, round_of(alloc, round)?)
-                .is_ok()
-        );
+        let round = round_of(rt, alloc, round);
+        holds(rt, board.offer_round(rt, place, round).is_ok());
     }
     let gate = Draining {
         rt,
@@ -72,12 +66,10 @@ fn play_named<J: RunName + Send + Sync, A: Allocator + Copy + Send + Sync, R: Ab
         board: &board,
     };
     let tally = work(rt, program, shelf, &board, &gate);
-    assert_eq!(rt; tally.posted, 3);
-    assert_eq!(rt; tally.given_up, 1);
+    equal(rt, (tally.posted, tally.given_up), (3, 1));
     let mut inbox = Vec::new(alloc);
-    assert!(rt; board.drain(rt, &mut inbox) == Ok(2));
+    holds(rt, board.drain(rt, &mut inbox) == Ok(2));
     assert_answers(rt, inbox.as_slice(), place, &[1, 0]);
-    Ok(())
 }
 
 /// As `play_named`, under a name of its own.
@@ -87,16 +79,16 @@ fn play<A: Allocator + Copy + Send + Sync, R: Abort + Wait + Sync>(
     program: &Program<A>,
     shelf: &Shelf<A>,
     snapshot: Snapshot<A>,
-) -> Result<(), Fail> {
-    play_named::<Brand, A, R>(rt, alloc, program, shelf, snapshot)
+) {
+    play_named::<Brand, A, R>(rt, alloc, program, shelf, snapshot);
 }
 
 /// No task is searched for anew while its answer waits.
 #[test]
-fn searched_once(rt: HostRuntime) -> Result<(), Fail> {
+fn searched_once(rt: HostRuntime) {
     let alloc = rt.alloc();
-    let shelf = Shelf::new(alloc)?;
-    let (program, query) = both_of(alloc, SPECULATION.program, SPECULATION.query)?;
-    let snapshot = snapshot_of(alloc, &program, query)?;
-    play(&rt, alloc, &program, &shelf, snapshot)
+    let shelf = got(&rt, Shelf::new(alloc));
+    let (program, query) = both(&rt, alloc, (SPECULATION.program, SPECULATION.query));
+    let snapshot = snapshot_of(&rt, alloc, &program, query);
+    play(&rt, alloc, &program, &shelf, snapshot);
 }

@@ -20,19 +20,18 @@ fn move_on<J: RunName, A: Allocator + Copy>(
     scene: &Scene<'_, A>,
     core: &mut Core<'_, J, A>,
     count: u64,
-) -> Result<(), Memory> {
+) {
     for _ in 0..count {
         let before = shown(core);
         scene.turn.begin();
         let mut stepped = core.step();
-        assert!(rt; scene.turn.end(stepped.is_err()));
+        holds(rt, scene.turn.end(stepped.is_err()));
         if stepped.is_err() {
-            assert!(rt; shown(core) == before);
+            equal(rt, shown(core), before);
             stepped = core.step();
         }
-        assert!(rt; stepped? == Stepped::Moved);
+        equal(rt, got(rt, stepped), Stepped::Moved);
     }
-    Ok(())
 }
 
 /// A round of three tasks. Its place on the shelf.
@@ -41,21 +40,21 @@ fn publish<J: RunName, A: Allocator + Copy>(
     scene: &Scene<'_, A>,
     shelf: &Shelf<A>,
     core: &mut Core<'_, J, A>,
-) -> Result<usize, CoreError>
+) -> usize
     requires name { shelf.now ≡ J.shelf }
 {
     let before = shown(core);
     scene.turn.begin();
     let mut published = core.publish(rt, shelf);
-    assert!(rt; scene.turn.end(published.is_err()));
+    holds(rt, scene.turn.end(published.is_err()));
     if published.is_err() {
-        assert!(rt; published == Err(CoreError::Memory));
-        assert!(rt; shown(core) == before);
+        holds(rt, published == Err(CoreError::Memory));
+        equal(rt, shown(core), before);
         published = core.publish(rt, shelf);
     }
-    let (place, tasks) = published?;
-    assert_eq!(rt; tasks, 3);
-    Ok(place)
+    let (place, tasks) = got(rt, published);
+    equal(rt, tasks, 3);
+    place
 }
 
 /// The answer to a task of the snapshot at a place of the shelf.
@@ -89,18 +88,15 @@ fn arrive<J: RunName, A: Allocator + Copy>(
     let before = shown(core);
     scene.turn.begin();
     let arrived = core.arrive(shelf, answer);
-    assert!(rt; scene.turn.end(arrived.is_err()));
+    holds(rt, scene.turn.end(arrived.is_err()));
     let took = match arrived {
         Ok(took) => took,
         Err((answer, _)) => {
-            assert!(rt; shown(core) == before);
-            match core.arrive(shelf, answer) {
-                Ok(took) => took,
-                Err(_) => panic!(rt; "refused with memory"),
-            }
+            equal(rt, shown(core), before);
+            got(rt, core.arrive(shelf, answer).map_err(|(_, error)| error))
         }
     };
-    assert!(rt; took == wanted);
+    equal(rt, took, wanted);
 }
 
 /// `core_calls`, and the rest of the run with the answer.
@@ -110,23 +106,22 @@ fn play<J: RunName, A: Allocator + Copy>(
     program: &Program<A>,
     shelf: &Shelf<A>,
     core: &mut Core<'_, J, A>,
-) -> Result<(), CoreError>
+)
     requires name { shelf.now ≡ J.shelf }
     requires rules { rules_of program.now ≡ J.rules }
 {
-    move_on(rt, scene, core, 6)?;
-    let place = publish(rt, scene, shelf, core)?;
+    move_on(rt, scene, core, 6);
+    let place = publish(rt, scene, shelf, core);
     for wanted in [Took::Kept(0), Took::Double(0)] {
         let answer = solved::<J, A>(rt, program, shelf, place);
-        assert!(rt; core.is_good(answer.task()) == (wanted == Took::Double(0)));
+        equal(rt, core.is_good(answer.task()), wanted == Took::Double(0));
         arrive(rt, scene, shelf, core, answer, wanted);
     }
-    assert!(rt; core.serves());
-    move_on(rt, scene, core, 8)?;
-    assert!(rt; !core.serves());
-    assert!(rt; core.step()? == Stepped::Ended);
-    assert!(rt; core.counts() == counts((1, 0, 1), (1, 5)));
-    Ok(())
+    holds(rt, core.serves());
+    move_on(rt, scene, core, 8);
+    holds(rt, !core.serves());
+    equal(rt, got(rt, core.step()), Stepped::Ended);
+    equal(rt, core.counts(), counts((1, 0, 1), (1, 5)));
 }
 
 /// The growths of the step after a round, to whose first task an answer came or not.
@@ -137,19 +132,19 @@ fn growths_of_step<J: RunName, A: Allocator + Copy>(
     shelf: &Shelf<A>,
     core: &mut Core<'_, J, A>,
     comes: bool,
-) -> Result<u64, CoreError>
+) -> u64
     requires name { shelf.now ≡ J.shelf }
     requires rules { rules_of program.now ≡ J.rules }
 {
-    move_on(rt, scene, core, 6)?;
-    let place = publish(rt, scene, shelf, core)?;
+    move_on(rt, scene, core, 6);
+    let place = publish(rt, scene, shelf, core);
     if comes {
         let answer = solved::<J, A>(rt, program, shelf, place);
         arrive(rt, scene, shelf, core, answer, Took::Kept(0));
     }
     scene.turn.begin();
-    assert!(rt; core.step()? == Stepped::Moved);
-    Ok(scene.turn.asked())
+    equal(rt, got(rt, core.step()), Stepped::Moved);
+    scene.turn.asked()
 }
 
 /// The answer to a snapshot that the core did not publish changes nothing.
@@ -160,21 +155,17 @@ fn assert_stranger<J: RunName, A: Allocator + Copy>(
     shelf: &Shelf<A>,
     core: &mut Core<'_, J, A>,
     snapshot: Snapshot<A>,
-) -> Result<(), CoreError>
+)
     requires name { shelf.now ≡ J.shelf }
     requires rules { rules_of program.now ≡ J.rules }
 {
-    move_on(rt, scene, core, 6)?;
-    publish(rt, scene, shelf, core)?;
+    move_on(rt, scene, core, 6);
+    publish(rt, scene, shelf, core);
     let before = shown(core);
-    let place = match shelf.put::<J>(rt, snapshot) {
-        Ok(ticket) => ticket.place(),
-        Err(_) => panic!(rt; "refused"),
-    };
-    let answer = solved::<J, A>(rt, program, shelf, place);
+    let ticket = got(rt, shelf.put::<J>(rt, snapshot).map_err(|(_, error)| error));
+    let answer = solved::<J, A>(rt, program, shelf, ticket.place());
     arrive(rt, scene, shelf, core, answer, Took::Stranger);
-    assert!(rt; shown(core) == before);
-    Ok(())
+    equal(rt, shown(core), before);
 }
 
 /// Publishes as often as a core does, and once more.
@@ -182,16 +173,15 @@ fn fill<J: RunName, A: Allocator + Copy>(
     rt: &(impl Abort + Wait),
     shelf: &Shelf<A>,
     core: &mut Core<'_, J, A>,
-) -> Result<(), CoreError>
+)
     requires name { shelf.now ≡ J.shelf }
 {
     for _ in 0..4_096 {
-        core.publish(rt, shelf)?;
+        got(rt, core.publish(rt, shelf));
     }
     let before = shown(core);
-    assert!(rt; core.publish(rt, shelf) == Err(CoreError::ShelfFull));
-    assert!(rt; shown(core) == before);
-    Ok(())
+    holds(rt, core.publish(rt, shelf) == Err(CoreError::ShelfFull));
+    equal(rt, shown(core), before);
 }
 
 /// What is asked of a core.
@@ -212,19 +202,19 @@ fn answer_to<J: RunName, A: Allocator + Copy>(
     shelf: &Shelf<A>,
     core: &mut Core<'_, J, A>,
     asked: Exercise<A>,
-) -> Result<u64, CoreError>
+) -> u64
     requires name { shelf.now ≡ J.shelf }
     requires rules { rules_of program.now ≡ J.rules }
 {
     match asked {
-        Exercise::Calls => play(rt, scene, program, shelf, core)?,
+        Exercise::Calls => play(rt, scene, program, shelf, core),
         Exercise::Growths(comes) => {
             return growths_of_step(rt, scene, program, shelf, core, comes);
         }
-        Exercise::Stranger(snapshot) => assert_stranger(rt, scene, program, shelf, core, snapshot)?,
-        Exercise::Full => fill(rt, shelf, core)?,
+        Exercise::Stranger(snapshot) => assert_stranger(rt, scene, program, shelf, core, snapshot),
+        Exercise::Full => fill(rt, shelf, core),
     }
-    Ok(0)
+    0
 }
 
 /// A core at its start. After a refusal it is made again.
@@ -234,17 +224,17 @@ fn started<'p, J: RunName, A: Allocator + Copy>(
     program: &'p Program<A>,
     query: Query<A>,
     spare: Query<A>,
-) -> Result<Core<'p, J, A>, Memory>
+) -> Core<'p, J, A>
     requires query { IsQueryBounded (query_view query) }
     requires spare { IsQueryBounded (query_view spare) }
     requires rules { rules_of program.now ≡ J.rules }
 {
     scene.turn.begin();
     let made = Core::new(scene.alloc, program, query);
-    assert!(rt; scene.turn.end(made.is_err()));
+    holds(rt, scene.turn.end(made.is_err()));
     match made {
-        Ok(core) => Ok(core),
-        Err(_) => Core::new(scene.alloc, program, spare),
+        Ok(core) => core,
+        Err(_) => got(rt, Core::new(scene.alloc, program, spare)),
     }
 }
 
@@ -257,13 +247,13 @@ fn ask_named<J: RunName, A: Allocator + Copy>(
     query: Query<A>,
     spare: Query<A>,
     asked: Exercise<A>,
-) -> Result<u64, CoreError>
+) -> u64
     requires query { IsQueryBounded (query_view query) }
     requires spare { IsQueryBounded (query_view spare) }
     requires name { shelf.now ≡ J.shelf }
     requires rules { rules_of program.now ≡ J.rules }
 {
-    let mut core = started::<J, A>(rt, scene, program, query, spare)?;
+    let mut core = started::<J, A>(rt, scene, program, query, spare);
     answer_to(rt, scene, program, shelf, &mut core, asked)
 }
 
@@ -276,7 +266,7 @@ fn ask<A: Allocator + Copy>(
     query: Query<A>,
     spare: Query<A>,
     asked: Exercise<A>,
-) -> Result<u64, CoreError>
+) -> u64
     requires query { IsQueryBounded (query_view query) }
     requires spare { IsQueryBounded (query_view spare) }
 {
@@ -285,15 +275,16 @@ fn ask<A: Allocator + Copy>(
 
 /// A snapshot of the state after six steps.
 fn snapshot_of<A: Allocator + Copy>(
+    rt: &impl Abort,
     alloc: A,
     program: &Program<A>,
     query: Query<A>,
-) -> Result<Snapshot<A>, Memory>
+) -> Snapshot<A>
     requires { IsQueryBounded (query_view query) }
 {
-    let mut machine = Machine::start(alloc, program, query)?;
-    machine.run_alone(6)?;
-    machine.snapshot()
+    let mut machine = got(rt, Machine::start(alloc, program, query));
+    got(rt, machine.run_alone(6));
+    got(rt, machine.snapshot())
 }
 
 /// What is asked of a core, before there is one.
@@ -307,18 +298,19 @@ enum Question {
 
 /// As `snapshot_of`, with a snapshot of an equal run, where a stranger's is asked for.
 fn asked_of<A: Allocator + Copy>(
+    rt: &impl Abort,
     alloc: A,
     program: &Program<A>,
     query: Query<A>,
     question: Question,
-) -> Result<Exercise<A>, Memory>
+) -> Exercise<A>
     requires { IsQueryBounded (query_view query) }
 {
     match question {
-        Question::Calls => Ok(Exercise::Calls),
-        Question::Growths(comes) => Ok(Exercise::Growths(comes)),
-        Question::Full => Ok(Exercise::Full),
-        Question::Stranger => Ok(Exercise::Stranger(snapshot_of(alloc, program, query)?)),
+        Question::Calls => Exercise::Calls,
+        Question::Growths(comes) => Exercise::Growths(comes),
+        Question::Full => Exercise::Full,
+        Question::Stranger => Exercise::Stranger(snapshot_of(rt, alloc, program, query)),
     }
 }
 
@@ -330,11 +322,11 @@ fn ask_over<A: Allocator + Copy>(
     shelf: &Shelf<A>,
     query: Query<A>,
     question: Question,
-) -> Result<u64, CoreError>
+) -> u64
     requires { IsQueryBounded (query_view query) }
 {
-    let asked = asked_of(scene.alloc, program, query.copy()?, question)?;
-    let spare = query.copy()?;
+    let asked = asked_of(rt, scene.alloc, program, copied(rt, &query), question);
+    let spare = copied(rt, &query);
     ask(rt, scene, program, shelf, query, spare, asked)
 }
 
@@ -345,13 +337,11 @@ fn ask_anew<A: Allocator + Copy>(
     rt: &(impl Abort + Wait),
     scene: &Scene<'_, A>,
     question: Question,
-) -> Result<(u64, bool), Fail> {
-    let shelf = Shelf::new(scene.alloc)?;
-    let (program, query) = both_of(scene.alloc, SPECULATION.program, SPECULATION.query)?;
-    match ask_over(rt, scene, &program, &shelf, query, question) {
-        Ok(growths) => Ok((growths, scene.turn.met_none())),
-        Err(_) => panic!(rt; "refused"),
-    }
+) -> (u64, bool) {
+    let shelf = got(rt, Shelf::new(scene.alloc));
+    let (program, query) = both(rt, scene.alloc);
+    let growths = ask_over(rt, scene, &program, &shelf, query, question);
+    (growths, scene.turn.met_none())
 }
 
 /// Asks it where the meter refuses: each call has as many growths as the question says.
@@ -360,7 +350,7 @@ fn ask_metered(
     meter: &Refusing<Global>,
     question: Question,
     left: u64,
-) -> Result<(u64, bool), Fail> {
+) -> (u64, bool) {
     let scene = Scene {
         alloc: meter,
         turn: Turn::new(meter, left),
@@ -370,35 +360,31 @@ fn ask_metered(
 
 /// With each growth refused in turn, the last time with none.
 #[test]
-fn core_calls(rt: HostRuntime) -> Result<(), Fail> {
+fn core_calls(rt: HostRuntime) {
     let meter = Refusing::new(rt.alloc(), 0);
-    let refused = refused_in_turn(MOST, |left| -> Result<bool, Fail> {
-        Ok(ask_metered(&rt, &meter, Question::Calls, left)?.1)
-    })?;
+    let refused = refused_in_turn(MOST, |left| {
+        ask_metered(&rt, &meter, Question::Calls, left).1
+    });
     assert!(&rt; refused > 0 && refused < MOST, "{refused}");
-    Ok(())
 }
 
 #[test]
-fn stranger(rt: HostRuntime) -> Result<(), Fail> {
+fn stranger(rt: HostRuntime) {
     let meter = Refusing::new(rt.alloc(), 0);
-    ask_metered(&rt, &meter, Question::Stranger, u64::MAX)?;
-    Ok(())
+    ask_metered(&rt, &meter, Question::Stranger, u64::MAX);
 }
 
 #[test]
-fn used_spares_the_search(rt: HostRuntime) -> Result<(), Fail> {
+fn used_spares_the_search(rt: HostRuntime) {
     let meter = Refusing::new(rt.alloc(), 0);
-    let (used, _) = ask_metered(&rt, &meter, Question::Growths(true), u64::MAX)?;
-    let (own, _) = ask_metered(&rt, &meter, Question::Growths(false), u64::MAX)?;
+    let (used, _) = ask_metered(&rt, &meter, Question::Growths(true), u64::MAX);
+    let (own, _) = ask_metered(&rt, &meter, Question::Growths(false), u64::MAX);
     assert!(&rt; used < own, "{used} {own}");
-    Ok(())
 }
 
 /// `schedule_limits`, by the calls: the 4,097th round is refused.
 #[test]
-fn shelf_is_full(rt: HostRuntime) -> Result<(), Fail> {
+fn shelf_is_full(rt: HostRuntime) {
     let meter = Refusing::new(rt.alloc(), 0);
-    ask_metered(&rt, &meter, Question::Full, u64::MAX)?;
-    Ok(())
+    ask_metered(&rt, &meter, Question::Full, u64::MAX);
 }

@@ -21,41 +21,35 @@ fn replayed<A: Allocator + Copy>(
 const SCHEDULE: &str = "step 6\npublish\narrive 0 0\narrive 0 1\narrive 0 2\nstep 8\n";
 
 /// Reads the schedule. After a refusal it is read with memory.
-fn events_of<A: Allocator + Copy>(
-    rt: &impl Abort,
-    scene: &Scene<'_, A>,
-) -> Result<Vec<Event, A>, Fail> {
+fn events_of<A: Allocator + Copy>(rt: &impl Abort, scene: &Scene<'_, A>) -> Vec<Event, A> {
     scene.turn.begin();
     let read = read_schedule(scene.alloc, SCHEDULE.as_bytes());
-    assert!(rt; scene.turn.end(read.is_err()));
+    holds(rt, scene.turn.end(read.is_err()));
     match read {
-        Ok(events) => Ok(events),
+        Ok(events) => events,
         Err(error) => {
-            assert!(rt; error.kind == ScheduleErrorKind::Memory && error.line == 0);
-            Ok(read_schedule(scene.alloc, SCHEDULE.as_bytes())?)
+            equal(rt, error.kind, ScheduleErrorKind::Memory);
+            equal(rt, error.line, 0);
+            got(rt, read_schedule(scene.alloc, SCHEDULE.as_bytes()))
         }
     }
 }
 
 /// Prints the events behind what was written before. After a refusal that is as it was.
-fn assert_printed<A: Allocator + Copy>(
-    rt: &impl Abort,
-    scene: &Scene<'_, A>,
-    events: &[Event],
-) -> Result<(), Memory> {
-    let mut out = Vec::from_array(scene.alloc, [b'!'])?;
+fn assert_printed<A: Allocator + Copy>(rt: &impl Abort, scene: &Scene<'_, A>, events: &[Event]) {
+    let mut out = got(rt, Vec::from_array(scene.alloc, [b'!']));
     scene.turn.begin();
     let printed = print_schedule(events, &mut out);
-    assert!(rt; scene.turn.end(printed.is_err()));
+    holds(rt, scene.turn.end(printed.is_err()));
     if printed.is_err() {
-        assert_eq!(rt; out.as_slice(), b"!".as_slice());
-        print_schedule(events, &mut out)?;
+        equal(rt, out.as_slice(), b"!".as_slice());
+        got(rt, print_schedule(events, &mut out));
     }
-    assert_eq!(rt;
+    equal(
+        rt,
         out.as_slice().split_first(),
-        Some((&b'!', SCHEDULE.as_bytes()))
+        Some((&b'!', SCHEDULE.as_bytes())),
     );
-    Ok(())
 }
 
 /// Replays the events. After a refusal they are replayed with memory.
@@ -66,23 +60,22 @@ fn assert_replayed<A: Allocator + Copy>(
     query: Query<A>,
     again: Query<A>,
     events: &[Event],
-) -> Result<(), Fail>
+)
     requires query { IsQueryBounded (query_view query) }
     requires again { IsQueryBounded (query_view again) }
 {
     scene.turn.begin();
     let mut made = replayed(rt, scene.alloc, program, query, events);
-    assert!(rt; scene.turn.end(made.is_err()));
+    holds(rt, scene.turn.end(made.is_err()));
     if made.is_err() {
-        assert!(rt; matches!(&made, Err(ReplayError::Memory)));
+        holds(rt, matches!(&made, Err(ReplayError::Memory)));
         made = replayed(rt, scene.alloc, program, again, events);
     }
-    let (outcome, found) = made?;
+    let (outcome, found) = got(rt, made);
     let mut out = Vec::new(scene.alloc);
-    outcome.text(program, &mut out)?;
-    assert_eq!(rt; out.as_slice(), SPECULATION.text.as_bytes());
-    assert!(rt; found == counts((3, 0, 0), (2, 4)));
-    Ok(())
+    got(rt, outcome.text(program, &mut out));
+    equal(rt, out.as_slice(), SPECULATION.text.as_bytes());
+    equal(rt, found, counts((3, 0, 0), (2, 4)));
 }
 
 /// Reads, prints and replays the schedule over a program.
@@ -91,34 +84,27 @@ fn play<A: Allocator + Copy>(
     scene: &Scene<'_, A>,
     program: &Program<A>,
     query: Query<A>,
-) -> Result<(), Fail>
+)
     requires { IsQueryBounded (query_view query) }
 {
-    let again = query.copy()?;
-    let events = events_of(rt, scene)?;
-    assert_eq!(rt; events.len(), 18);
-    assert_printed(rt, scene, events.as_slice())?;
-    assert_replayed(rt, scene, program, query, again, events.as_slice())
+    let again = copied(rt, &query);
+    let events = events_of(rt, scene);
+    equal(rt, events.len(), 18);
+    assert_printed(rt, scene, events.as_slice());
+    assert_replayed(rt, scene, program, query, again, events.as_slice());
 }
 
 /// Whether no growth was refused where each call has `left` of them.
 ///
 /// For any allocator: proofs for the meter as the allocator would take much longer.
-fn are_through<A: Allocator + Copy>(
-    rt: &(impl Abort + Wait),
-    scene: &Scene<'_, A>,
-) -> Result<bool, Fail> {
-    let (program, query) = both_of(scene.alloc, SPECULATION.program, SPECULATION.query)?;
-    play(rt, scene, &program, query)?;
-    Ok(scene.turn.met_none())
+fn are_through<A: Allocator + Copy>(rt: &(impl Abort + Wait), scene: &Scene<'_, A>) -> bool {
+    let (program, query) = both(rt, scene.alloc);
+    play(rt, scene, &program, query);
+    scene.turn.met_none()
 }
 
 /// As `are_through`, where the meter refuses.
-fn are_through_metered(
-    rt: &(impl Abort + Wait),
-    meter: &Refusing<Global>,
-    left: u64,
-) -> Result<bool, Fail> {
+fn are_through_metered(rt: &(impl Abort + Wait), meter: &Refusing<Global>, left: u64) -> bool {
     let scene = Scene {
         alloc: meter,
         turn: Turn::new(meter, left),
@@ -128,28 +114,29 @@ fn are_through_metered(
 
 /// `speculation` by its schedule, with each growth of the calls refused in turn, the last time with none.
 #[test]
-fn speculation(rt: HostRuntime) -> Result<(), Fail> {
+fn speculation(rt: HostRuntime) {
     let meter = Refusing::new(rt.alloc(), 0);
-    let refused = refused_in_turn(MOST, |left| are_through_metered(&rt, &meter, left))?;
+    let refused = refused_in_turn(MOST, |left| are_through_metered(&rt, &meter, left));
     assert!(&rt; refused > 0 && refused < MOST, "{refused}");
-    Ok(())
 }
 
 /// The events of two lines are printed as one, and what is no schedule is refused.
 #[test]
-fn schedule_calls(rt: HostRuntime) -> Result<(), Fail> {
-    let events = read_schedule(rt.alloc(), b"step 2\nstep 3\n".as_slice())?;
+fn schedule_calls(rt: HostRuntime) {
+    let events = got(
+        &rt,
+        read_schedule(rt.alloc(), b"step 2\nstep 3\n".as_slice()),
+    );
     let mut out = Vec::new(rt.alloc());
-    print_schedule(events.as_slice(), &mut out)?;
-    assert_eq!(&rt; out.as_slice(), b"step 5\n".as_slice());
+    got(&rt, print_schedule(events.as_slice(), &mut out));
+    equal(&rt, out.as_slice(), b"step 5\n".as_slice());
     for (text, kind) in [
         ("step 0\n", ScheduleErrorKind::BadNumber),
         ("stop 1\n", ScheduleErrorKind::BadLine),
     ] {
         match read_schedule(rt.alloc(), text.as_bytes()) {
             Ok(_) => panic!(&rt; "read"),
-            Err(error) => assert!(&rt; error.kind == kind && error.line == 1),
+            Err(error) => equal(&rt, (error.kind, error.line), (kind, 1)),
         }
     }
-    Ok(())
 }

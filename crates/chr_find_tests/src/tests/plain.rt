@@ -1,10 +1,11 @@
 //! A plain search, written from the definition: it looks at all lists of rows in lexicographic order, and takes the first that can fire.
+use super::checks::got;
 use chr_bind::{Match, are_below, fit, guard_holds};
-use chr_find::Memory;
 use chr_rules::Rule;
 use chr_semantics::limits::MAX_RULE_VARIABLES;
 use chr_store::{Entry, Id, Row};
 use std::alloc::Global;
+use std::process::Abort;
 
 /// The constraints that live, by ascending identity.
 pub(super) type Rows = Vec<(Id, Row)>;
@@ -30,44 +31,49 @@ fn was_fired(history: &[Entry], number: usize, ids: &[Id]) -> bool {
 
 /// Adds a row to those that fit the heads before it, if it is another one than these and fits the next head.
 fn fits_next<'a>(
+    rt: &impl Abort,
     sought: Sought<'_>,
     (id, row): (Id, &'a Row),
     ids: &mut Vec<Id>,
     matching: &mut Match<'a>,
-) -> Result<bool, Memory> {
+) -> bool {
     let (sym, args) = match sought.rule.heads.get(ids.len()) {
-        None => return Ok(false),
+        None => return false,
         Some((sym, args)) => (*sym, args.as_slice()),
     };
     if ids.contains(&id) || sym != row.sym || !are_below(MAX_RULE_VARIABLES as u64, args) {
-        return Ok(false);
+        return false;
     }
-    ids.push(id)?;
-    Ok(fit(args, row.args.as_slice(), matching))
+    got(rt, ids.push(id));
+    fit(args, row.args.as_slice(), matching)
 }
 
 /// The identities of the list of rows, given by their places among the rows, if it fits the heads and the guard holds.
 fn fitting(
+    rt: &impl Abort,
     alloc: Global,
     rows: &[(Id, Row)],
     sought: Sought<'_>,
     list: &[usize],
-) -> Result<Option<Vec<Id>>, Memory> {
+) -> Option<Vec<Id>> {
     let mut matching = Match::new();
     let mut ids = Vec::new(alloc);
     for place in list {
         let fits = match rows.get(*place) {
             None => false,
-            Some((id, row)) => fits_next(sought, (*id, row), &mut ids, &mut matching)?,
+            Some((id, row)) => fits_next(rt, sought, (*id, row), &mut ids, &mut matching),
         };
         if !fits {
-            return Ok(None);
+            return None;
         }
     }
-    if guard_holds(alloc, sought.rule.guard.as_slice(), &matching)? {
-        Ok(Some(ids))
+    if got(
+        rt,
+        guard_holds(alloc, sought.rule.guard.as_slice(), &matching),
+    ) {
+        Some(ids)
     } else {
-        Ok(None)
+        None
     }
 }
 
@@ -89,33 +95,34 @@ fn is_own(sought: Sought<'_>, ids: &[Id]) -> bool {
 }
 
 /// A list of the first row for each head.
-fn first_list(alloc: Global, heads: usize) -> Result<Vec<usize>, Memory> {
+fn first_list(rt: &impl Abort, alloc: Global, heads: usize) -> Vec<usize> {
     let mut list = Vec::new(alloc);
     for _ in 0..heads {
-        list.push(0)?;
+        got(rt, list.push(0));
     }
-    Ok(list)
+    list
 }
 
 /// The first list of rows with the own constraint at its head that can fire.
 pub(super) fn plain_first(
+    rt: &impl Abort,
     alloc: Global,
     rows: &[(Id, Row)],
     history: &[Entry],
     sought: Sought<'_>,
-) -> Result<Option<Vec<Id>>, Memory> {
-    let mut list = first_list(alloc, sought.rule.heads.len())?;
+) -> Option<Vec<Id>> {
+    let mut list = first_list(rt, alloc, sought.rule.heads.len());
     for _ in 0..1_000_000u64 {
-        if let Some(ids) = fitting(alloc, rows, sought, list.as_slice())? {
+        if let Some(ids) = fitting(rt, alloc, rows, sought, list.as_slice()) {
             if is_own(sought, ids.as_slice())
                 && !was_fired(history, sought.number, ids.as_slice())
             {
-                return Ok(Some(ids));
+                return Some(ids);
             }
         }
         if !next(list.as_mut_slice(), rows.len()) {
-            return Ok(None);
+            return None;
         }
     }
-    Ok(None)
+    None
 }

@@ -53,43 +53,42 @@ const CONSTRAINTS: [&str; 16] = [
 const MOST: u64 = 8;
 
 /// A query of some of the constraints.
-fn query_text(alloc: Global, dice: &mut Dice) -> Result<String, Memory> {
+fn query_text(rt: &impl Abort, alloc: Global, dice: &mut Dice) -> String {
     let mut text = String::new(alloc);
     for _ in 0..dice.below(MOST) {
         let place = dice.below(16) as usize;
         if let Some(constraint) = CONSTRAINTS.get(place) {
-            text.push_str(constraint)?;
-            text.push_str(", ")?;
+            got(rt, text.push_str(constraint));
+            got(rt, text.push_str(", "));
         }
     }
-    text.push_str("true.")?;
-    Ok(text)
+    got(rt, text.push_str("true."));
+    text
 }
 
 /// Adds the constraint of an identity, if it lives, under another identity.
-fn push_row(scene: &Scene<Global>, id: Id, under: Id, rows: &mut Rows) -> Result<(), Memory> {
+fn push_row(rt: &impl Abort, scene: &Scene<Global>, id: Id, under: Id, rows: &mut Rows) {
     if let Some(row) = scene.store.row(id) {
-        let args = scene.bindings.resolve_args(&row.args)?;
+        let args = got(rt, scene.bindings.resolve_args(&row.args));
         let sym = row.sym;
-        rows.push((under, Row { sym, args }))?;
+        got(rt, rows.push((under, Row { sym, args })));
     }
-    Ok(())
 }
 
 /// The constraints that live, under the bindings.
-fn rows_of(alloc: Global, scene: &Scene<Global>) -> Result<Rows, Memory> {
+fn rows_of(rt: &impl Abort, alloc: Global, scene: &Scene<Global>) -> Rows {
     let mut rows = Vec::new(alloc);
     for number in 1..scene.store.next().0 {
-        push_row(scene, Id(number), Id(number), &mut rows)?;
+        push_row(rt, scene, Id(number), Id(number), &mut rows);
     }
-    Ok(rows)
+    rows
 }
 
 /// A random rule has fired with random constraints that were added.
-fn fire_some(dice: &mut Dice, scene: &mut Scene<Global>) -> Result<(), Memory> {
+fn fire_some(rt: &impl Abort, dice: &mut Dice, scene: &mut Scene<Global>) {
     let rule = dice.below(2) as usize;
     if rule >= scene.program.rules() {
-        return Ok(());
+        return;
     }
     let next = scene.store.next().0;
     let mut ids = HeadIds::new();
@@ -98,12 +97,11 @@ fn fire_some(dice: &mut Dice, scene: &mut Scene<Global>) -> Result<(), Memory> {
             ids.push(Id(dice.below(next)));
         }
     }
-    scene.history.put(Fired { rule, ids })?;
-    Ok(())
+    got(rt, scene.history.put(Fired { rule, ids }));
 }
 
 /// Binds a random one of the variables to a number or to another of them.
-fn bind_some(dice: &mut Dice, bindings: &mut Bindings) -> Result<(), Memory> {
+fn bind_some(rt: &impl Abort, dice: &mut Dice, bindings: &mut Bindings) {
     let count = bindings.len();
     let left = Term::Var(dice.below(count));
     let right = match dice.below(4) {
@@ -111,9 +109,8 @@ fn bind_some(dice: &mut Dice, bindings: &mut Bindings) -> Result<(), Memory> {
         number => Term::Int(i128::from(number)),
     };
     if is_below(count, &left) && is_below(count, &right) {
-        bindings.unify(&left, &right)?;
+        got(rt, bindings.unify(&left, &right));
     }
-    Ok(())
 }
 
 /// Removes a random constraint, if it lives.
@@ -131,53 +128,56 @@ fn plain_at(
     rows: &[(Id, Row)],
     own: Id,
     occurrence: Occurrence,
-) -> Result<Option<Vec<Id>>, Memory> {
-    assert!(rt; occurrence.rule < scene.program.rules());
+) -> Option<Vec<Id>> {
+    holds(rt, occurrence.rule < scene.program.rules());
     let sought = Sought {
         rule: scene.program.rule(occurrence.rule),
         number: occurrence.rule,
         place: occurrence.place,
         own,
     };
-    plain_first(alloc, rows, scene.history.list(), sought)
+    plain_first(rt, alloc, rows, scene.history.list(), sought)
 }
 
 /// Whether a search in a snapshot finds just this.
 fn finds_just(
+    rt: &impl Abort,
     program: &Program,
     snapshot: &Snapshot,
     at: (u64, u32),
     wanted: &Option<Vec<Id>>,
-) -> Result<bool, Memory> {
-    let found = find(program, snapshot, task(at))?;
-    Ok(match (&found.ids, wanted) {
+) -> bool {
+    let found = got(rt, find(program, snapshot, task(at)));
+    match (&found.ids, wanted) {
         (None, None) => true,
         (Some(ids), Some(wanted)) => ids.as_slice() == wanted.as_slice(),
         _ => false,
-    })
+    }
 }
 
 /// As `finds_just`, in a snapshot of all, with a guest.
 fn finds_just_taken(
+    rt: &impl Abort,
     alloc: Global,
     scene: &Scene<Global>,
     at: (u64, u32),
     guest: Id,
     wanted: &Option<Vec<Id>>,
-) -> Result<bool, Memory> {
-    let snapshot = taken(alloc, scene, at, guest)?;
-    finds_just(&scene.program, &snapshot, at, wanted)
+) -> bool {
+    let snapshot = got(rt, taken(alloc, scene, at, guest));
+    finds_just(rt, &scene.program, &snapshot, at, wanted)
 }
 
 /// As `finds_just_taken`, in the task's own snapshot.
 fn finds_just_own(
+    rt: &impl Abort,
     alloc: Global,
     scene: &Scene<Global>,
     at: (u64, u32),
     wanted: &Option<Vec<Id>>,
-) -> Result<bool, Memory> {
-    let snapshot = own(alloc, scene, at)?;
-    finds_just(&scene.program, &snapshot, at, wanted)
+) -> bool {
+    let snapshot = got(rt, own(alloc, scene, at));
+    finds_just(rt, &scene.program, &snapshot, at, wanted)
 }
 
 /// The searches for a constraint, or for the guest, at an occurrence find what the plain one finds.
@@ -189,14 +189,13 @@ fn assert_found(
     rows: &[(Id, Row)],
     (own, number): (Id, u32),
     occurrence: Occurrence,
-) -> Result<(), Memory> {
-    let wanted = plain_at(rt, alloc, scene, rows, own, occurrence)?;
+) {
+    let wanted = plain_at(rt, alloc, scene, rows, own, occurrence);
     let at = (own.0, number);
-    assert!(rt; finds_just_taken(alloc, scene, at, guest, &wanted)?);
+    holds(rt, finds_just_taken(rt, alloc, scene, at, guest, &wanted));
     if own != scene.store.next() {
-        assert!(rt; finds_just_own(alloc, scene, at, &wanted)?);
+        holds(rt, finds_just_own(rt, alloc, scene, at, &wanted));
     }
-    Ok(())
 }
 
 /// At each occurrence of its symbol.
@@ -207,17 +206,16 @@ fn assert_same_at(
     guest: Id,
     rows: &[(Id, Row)],
     (own, sym): (Id, Sym),
-) -> Result<(), Memory> {
+) {
     for number in 1..8u32 {
         match scene.program.occurrence(sym, number) {
-            None => return Ok(()),
+            None => return,
             Some(occurrence) => {
                 let at = (own, number);
-                assert_found(rt, alloc, scene, guest, rows, at, occurrence)?;
+                assert_found(rt, alloc, scene, guest, rows, at, occurrence);
             }
         }
     }
-    Ok(())
 }
 
 /// For the guest, which has the next identity, if there is one.
@@ -227,68 +225,52 @@ fn assert_same_guest(
     scene: &Scene<Global>,
     guest: Id,
     rows: &[(Id, Row)],
-) -> Result<(), Memory> {
-    match rows.last() {
-        None => Ok(()),
-        Some((id, row)) => {
-            if *id == scene.store.next() {
-                assert_same_at(rt, alloc, scene, guest, rows, (*id, row.sym))?;
-            }
-            Ok(())
+) {
+    if let Some((id, row)) = rows.last() {
+        if *id == scene.store.next() {
+            assert_same_at(rt, alloc, scene, guest, rows, (*id, row.sym));
         }
     }
 }
 
 /// For each constraint, and for a guest that is as a random one, which no other search sees.
-fn assert_same(
-    rt: &impl Abort,
-    alloc: Global,
-    dice: &mut Dice,
-    scene: &Scene<Global>,
-) -> Result<(), Memory> {
+fn assert_same(rt: &impl Abort, alloc: Global, dice: &mut Dice, scene: &Scene<Global>) {
     let guest = Id(dice.below(MOST));
-    let mut rows = rows_of(alloc, scene)?;
+    let mut rows = rows_of(rt, alloc, scene);
     for (id, row) in rows.as_slice() {
-        assert_same_at(rt, alloc, scene, guest, rows.as_slice(), (*id, row.sym))?;
+        assert_same_at(rt, alloc, scene, guest, rows.as_slice(), (*id, row.sym));
     }
-    push_row(scene, guest, scene.store.next(), &mut rows)?;
-    assert_same_guest(rt, alloc, scene, guest, rows.as_slice())
+    push_row(rt, scene, guest, scene.store.next(), &mut rows);
+    assert_same_guest(rt, alloc, scene, guest, rows.as_slice());
 }
 
 /// As the store is, with a binding, and after a removal.
-fn assert_scene(
-    rt: &impl Abort,
-    alloc: Global,
-    dice: &mut Dice,
-    scene: &mut Scene<Global>,
-) -> Result<(), Memory> {
+fn assert_scene(rt: &impl Abort, alloc: Global, dice: &mut Dice, scene: &mut Scene<Global>) {
     for _ in 0..dice.below(4) {
-        fire_some(dice, scene)?;
+        fire_some(rt, dice, scene);
     }
-    assert_same(rt, alloc, dice, scene)?;
-    bind_some(dice, &mut scene.bindings)?;
-    assert_same(rt, alloc, dice, scene)?;
+    assert_same(rt, alloc, dice, scene);
+    bind_some(rt, dice, &mut scene.bindings);
+    assert_same(rt, alloc, dice, scene);
     remove_some(dice, &mut scene.store);
-    assert_same(rt, alloc, dice, scene)
+    assert_same(rt, alloc, dice, scene);
 }
 
 /// The searches of a random store.
-fn assert_case(rt: &impl Abort, alloc: Global, dice: &mut Dice, program: &str) -> Result<(), Fail> {
-    let text = query_text(alloc, dice)?;
-    let mut scene = scene_of_texts(rt, alloc, (program, text.as_str()))?;
-    assert_scene(rt, alloc, dice, &mut scene)?;
-    Ok(())
+fn assert_case(rt: &impl Abort, alloc: Global, dice: &mut Dice, program: &str) {
+    let text = query_text(rt, alloc, dice);
+    let mut scene = scene_of_texts(rt, alloc, (program, text.as_str()));
+    assert_scene(rt, alloc, dice, &mut scene);
 }
 
 /// Random stores, as a plain search sees them.
 #[test]
-fn as_a_plain_search(rt: HostRuntime) -> Result<(), Fail> {
+fn as_a_plain_search(rt: HostRuntime) {
     let alloc = rt.alloc();
     let mut dice = Dice { state: 1 };
     for _ in 0..40u64 {
         for program in PROGRAMS {
-            assert_case(&rt, alloc, &mut dice, program)?;
+            assert_case(&rt, alloc, &mut dice, program);
         }
     }
-    Ok(())
 }

@@ -64,13 +64,10 @@ fn is_through<M: Allocator + Copy>(
 ) -> bool {
     meter.allow(left);
     let answer = answers(lists, call, scene, snapshot);
-    assert_eq!(rt; meter.asked() > left, answer.is_err(), "{call:?} {left}");
+    equal(rt, meter.asked() > left, answer.is_err());
     meter.allow(AMPLE);
-    assert!(rt; answer.is_err() || answer == Ok(true), "{call:?} {left}");
-    assert!(rt;
-        answers(lists, call, scene, snapshot) == Ok(true),
-        "{call:?} {left}"
-    );
+    holds(rt, answer.is_err() || answer == Ok(true));
+    holds(rt, got(rt, answers(lists, call, scene, snapshot)));
     answer.is_ok()
 }
 
@@ -80,21 +77,20 @@ fn refused<M: Allocator + Copy>(
     lists: &Lists<M>,
     meter: &Refusing<Global>,
     call: Call,
-) -> Result<u64, Fail> {
+) -> u64 {
     meter.allow(AMPLE);
-    let scene = scene_of_texts(rt, lists.alloc, (PROGRAM, QUERY))?;
-    let snapshot = taken(lists.alloc, &scene, (4, 1), Id(2))?;
-    refused_in_turn(MOST, |left| -> Result<bool, Fail> {
-        Ok(is_through(rt, (lists, meter), call, (&scene, &snapshot), left))
+    let scene = scene_of_texts(rt, lists.alloc, (PROGRAM, QUERY));
+    let snapshot = got(rt, taken(lists.alloc, &scene, (4, 1), Id(2)));
+    refused_in_turn(MOST, |left| {
+        is_through(rt, (lists, meter), call, (&scene, &snapshot), left)
     })
 }
 
 #[test]
-fn want_of_memory(rt: HostRuntime) -> Result<(), Fail> {
+fn want_of_memory(rt: HostRuntime) {
     let meter = Refusing::new(rt.alloc(), 0);
     for call in [Call::Take, Call::ForTask, Call::Find, Call::FindForGuest] {
-        let refused = refused(&rt, &lists_of(&meter), &meter, call)?;
+        let refused = refused(&rt, &lists_of(&meter), &meter, call);
         assert!(&rt; refused > 0 && refused < MOST, "{call:?} {refused}");
     }
-    Ok(())
 }

@@ -2,65 +2,57 @@
 use super::*;
 
 /// Calls a machine at its start, and until it has ended.
-pub(super) fn play<A: Allocator + Copy>(
-    rt: &impl Abort,
-    machine: &mut Machine<A>,
-) -> Result<(), Memory> {
-    assert!(rt; machine.top() == Need::Plain);
-    assert!(rt; step(machine)? == Stepped::Moved);
-    assert!(rt; machine.top() == Need::Search(task(1, 1)));
-    assert!(rt; run_alone(machine, 100)? == Stepped::Ended);
-    assert!(rt; machine.status() == Status::Done);
-    assert_eq!(rt; machine.steps(), 7);
-    assert!(rt; step(machine)? == Stepped::Ended);
+pub(super) fn play<A: Allocator + Copy>(rt: &impl Abort, machine: &mut Machine<A>) {
+    holds(rt, machine.top() == Need::Plain);
+    equal(rt, got(rt, step(machine)), Stepped::Moved);
+    holds(rt, machine.top() == Need::Search(task(1, 1)));
+    equal(rt, got(rt, run_alone(machine, 100)), Stepped::Ended);
+    holds(rt, machine.status() == Status::Done);
+    equal(rt, machine.steps(), 7);
+    equal(rt, got(rt, step(machine)), Stepped::Ended);
     assert_lines(rt, machine, GROUND_RULE.text);
-    Ok(())
 }
 
 #[test]
-fn machine_calls(rt: HostRuntime) -> Result<(), Fail> {
+fn machine_calls(rt: HostRuntime) {
     let texts = (GROUND_RULE.program, GROUND_RULE.query);
-    follow_anew(&rt, &lists_of(rt.alloc()), texts, Script::Calls)
+    follow_anew(&rt, &lists_of(rt.alloc()), texts, Script::Calls);
 }
 
 const NO_RULES: &str = ":- chr_constraint p/1, q/1, p/0.";
 
 /// So many times `p`, in as short a text as can be.
-fn many(alloc: Global, count: usize) -> Result<String, Memory> {
-    let mut text = String::from_str(alloc, "p")?;
+fn many(rt: &impl Abort, alloc: Global, count: usize) -> String {
+    let mut text = got(rt, String::from_str(alloc, "p"));
     for _ in 1..count {
-        text.push_str(",p")?;
+        got(rt, text.push_str(",p"));
     }
-    text.push_str(".")?;
-    Ok(text)
+    got(rt, text.push_str("."));
+    text
 }
 
 /// No further transition is made, and the machine stands where a million left it.
-pub(super) fn assert_spent<A: Allocator + Copy>(
-    rt: &impl Abort,
-    machine: &mut Machine<A>,
-) -> Result<(), Memory> {
-    assert!(rt; run_alone(machine, 1_048_576)? == Stepped::Spent);
-    assert!(rt; step(machine)? == Stepped::Spent);
-    assert!(rt; run_alone(machine, 0)? == Stepped::Moved);
-    assert!(rt; machine.status() == Status::Running);
-    assert_eq!(rt; machine.steps(), 1_000_000);
-    assert_eq!(rt; machine.stack().len(), 24_288);
-    assert_eq!(rt; machine.lines().len(), 1_000_000);
-    assert_eq!(rt; machine.store().next().0, 500_001);
-    Ok(())
+pub(super) fn assert_spent<A: Allocator + Copy>(rt: &impl Abort, machine: &mut Machine<A>) {
+    equal(rt, got(rt, run_alone(machine, 1_048_576)), Stepped::Spent);
+    equal(rt, got(rt, step(machine)), Stepped::Spent);
+    equal(rt, got(rt, run_alone(machine, 0)), Stepped::Moved);
+    holds(rt, machine.status() == Status::Running);
+    equal(rt, machine.steps(), 1_000_000);
+    equal(rt, machine.stack().len(), 24_288);
+    equal(rt, machine.lines().len(), 1_000_000);
+    equal(rt, machine.store().next().0, 500_001);
 }
 
 /// The longest text of a query has more than a million transitions.
 #[test]
-fn a_million_transitions(rt: HostRuntime) -> Result<(), Fail> {
-    let text = many(rt.alloc(), 524_288)?;
+fn a_million_transitions(rt: HostRuntime) {
+    let text = many(&rt, rt.alloc(), 524_288);
     follow_anew(
         &rt,
         &lists_of(rt.alloc()),
         (NO_RULES, text.as_str()),
         Script::Spent,
-    )
+    );
 }
 
 /// The first symbol that a program declares, after the seven that each program has.
@@ -72,15 +64,14 @@ pub(super) fn assert_touches<A: Allocator + Copy>(
     machine: &mut Machine<A>,
     transitions: u64,
     (symbols, rule): (&[u64], u64),
-) -> Result<(), Memory> {
-    run_alone(machine, transitions)?;
+) {
+    got(rt, run_alone(machine, transitions));
     let mut number = FIRST;
     for touches in symbols {
-        assert_eq!(rt; machine.store().stamp(Sym(number)), *touches, "{number}");
+        equal(rt, machine.store().stamp(Sym(number)), *touches);
         number = number.saturating_add(1);
     }
-    assert_eq!(rt; machine.history().stamp(0), rule);
-    Ok(())
+    equal(rt, machine.history().stamp(0), rule);
 }
 
 const DUPLICATE: (&str, &str) = (
@@ -101,7 +92,7 @@ r @ go(Z), p(1) # passive ==> o.
 /// What the transitions of a run touch, as the stamps of its store and its history show it: two Activates and a removal touch p; neither a
 /// comparison nor an equation that binds nothing touches q; and of `binding_touches` the Solve in step 5 touches p and go.
 #[test]
-fn touch_counts(rt: HostRuntime) -> Result<(), Fail> {
+fn touch_counts(rt: HostRuntime) {
     let lists = lists_of(rt.alloc());
     for (texts, script) in [
         (DUPLICATE, Script::Touches(100, &[3], 1)),
@@ -110,7 +101,6 @@ fn touch_counts(rt: HostRuntime) -> Result<(), Fail> {
         (BINDING_TOUCHES, Script::Touches(5, &[2, 2, 0], 1)),
         (BINDING_TOUCHES, Script::Touches(100, &[2, 2, 1], 1)),
     ] {
-        follow_anew(&rt, &lists, texts, script)?;
+        follow_anew(&rt, &lists, texts, script);
     }
-    Ok(())
 }

@@ -66,7 +66,7 @@ fn is_made<A: Allocator + Copy>(
         Call::Tasks => match machine.tasks() {
             Err(_) => false,
             Ok(tasks) => {
-                assert!(rt; are_tasks(tasks.as_slice()));
+                holds(rt, are_tasks(tasks.as_slice()));
                 true
             }
         },
@@ -84,15 +84,15 @@ fn is_through<A: Allocator + Copy>(
 ) -> bool {
     let before = sizes_of(machine);
     let made = is_made(rt, lists, meter, machine, (call, left));
-    assert_eq!(rt; meter.asked() > left, !made, "{left}");
+    equal(rt, meter.asked() > left, !made);
     if made {
         return true;
     }
     match call {
-        Call::Run => assert_eq!(rt; machine.steps(), machine.lines().len() as u64),
-        _ => assert!(rt; sizes_of(machine) == before, "{left}"),
+        Call::Run => equal(rt, machine.steps(), machine.lines().len() as u64),
+        _ => holds(rt, sizes_of(machine) == before),
     }
-    assert!(rt; is_made(rt, lists, meter, machine, (call, AMPLE)));
+    holds(rt, is_made(rt, lists, meter, machine, (call, AMPLE)));
     false
 }
 
@@ -105,17 +105,17 @@ fn started<'p, A: Allocator + Copy>(
     query: Query<A>,
     again: Query<A>,
     left: u64,
-) -> Result<(Machine<'p, A>, bool), Memory>
+) -> (Machine<'p, A>, bool)
     requires query { IsQueryBounded (query_view query) }
     requires again { IsQueryBounded (query_view again) }
 {
     meter.allow(left);
     let made = start(alloc, program, query);
-    assert_eq!(rt; meter.asked() > left, made.is_err(), "{left}");
+    equal(rt, meter.asked() > left, made.is_err());
     meter.allow(AMPLE);
     match made {
-        Ok(machine) => Ok((machine, true)),
-        Err(_) => Ok((start(alloc, program, again)?, false)),
+        Ok(machine) => (machine, true),
+        Err(_) => (got(rt, start(alloc, program, again)), false),
     }
 }
 
@@ -126,20 +126,21 @@ fn is_written<A: Allocator + Copy>(
     (outcome, program): (&Outcome<A>, &Program<A>),
     (text, left): (&str, u64),
     out: &mut Vec<u8, A>,
-) -> Result<bool, Memory> {
+) -> bool {
     meter.allow(left);
     let written = outcome.text(program, out).is_ok();
-    assert_eq!(rt; meter.asked() > left, !written, "{left}");
+    equal(rt, meter.asked() > left, !written);
     meter.allow(AMPLE);
     if !written {
-        assert_eq!(rt; out.as_slice(), b"!".as_slice(), "{left}");
-        outcome.text(program, out)?;
+        equal(rt, out.as_slice(), b"!".as_slice());
+        got(rt, outcome.text(program, out));
     }
-    assert_eq!(rt;
+    equal(
+        rt,
         out.as_slice().split_first(),
-        Some((&b'!', text.as_bytes()))
+        Some((&b'!', text.as_bytes())),
     );
-    Ok(written)
+    written
 }
 
 /// As `is_written`, of the whole run of an example over its program.
@@ -150,13 +151,13 @@ fn is_written_over<A: Allocator + Copy>(
     program: &Program<A>,
     query: Query<A>,
     at: (Worked, u64),
-) -> Result<bool, Memory>
+) -> bool
     requires { IsQueryBounded (query_view query) }
 {
     let (example, left) = at;
     let mut out = Vec::new(alloc);
-    out.push(b'!')?;
-    let outcome = outcome_of(alloc, program, query)?;
+    got(rt, out.push(b'!'));
+    let outcome = outcome_of(rt, alloc, program, query);
     is_written(
         rt,
         meter,
@@ -168,15 +169,16 @@ fn is_written_over<A: Allocator + Copy>(
 
 /// What the whole run comes to.
 fn outcome_of<A: Allocator + Copy>(
+    rt: &impl Abort,
     alloc: A,
     program: &Program<A>,
     query: Query<A>,
-) -> Result<Outcome<A>, Memory>
+) -> Outcome<A>
     requires { IsQueryBounded (query_view query) }
 {
-    let mut machine = start(alloc, program, query)?;
-    run_alone(&mut machine, 100)?;
-    Ok(machine.finish())
+    let mut machine = got(rt, start(alloc, program, query));
+    got(rt, run_alone(&mut machine, 100));
+    machine.finish()
 }
 
 /// What is refused in turn.
@@ -196,18 +198,29 @@ fn run_on<A: Allocator + Copy>(
     meter: &Meter,
     machine: &mut Machine<A>,
     (example, refused, left): (Worked, Option<(u64, Call)>, u64),
-) -> Result<bool, Memory> {
+) -> bool {
     let mut made = true;
     if let Some((done, call)) = refused {
-        run_alone(machine, done)?;
+        got(rt, run_alone(machine, done));
         made = is_through(rt, lists, meter, machine, (call, left));
     }
     meter.allow(AMPLE);
-    run_alone(machine, 100)?;
-    assert!(rt; machine.status() == Status::Done);
-    assert_eq!(rt; machine.steps(), example.transitions as u64);
+    got(rt, run_alone(machine, 100));
+    holds(rt, machine.status() == Status::Done);
+    equal(rt, machine.steps(), example.transitions as u64);
     assert_lines(rt, machine, example.text);
-    Ok(made)
+    made
+}
+
+/// The same query once more.
+fn copied<A: Allocator + Copy>(rt: &impl Abort, query: &Query<A>) -> Query<A>
+    requires { IsQueryBounded (query_view query.now) }
+    ensures { IsQueryBounded (query_view result) }
+{
+    match query.copy() {
+        Ok(copy) => return copy,
+        Err(error) => panic!(rt; "refused: {error:?}"),
+    }
 }
 
 /// Whether `start` goes through with the growths that it is given. Then the machine runs an example.
@@ -218,14 +231,14 @@ fn is_started_over<A: Allocator + Copy>(
     program: &Program<A>,
     query: Query<A>,
     at: (Worked, u64),
-) -> Result<bool, Memory>
+) -> bool
     requires { IsQueryBounded (query_view query) }
 {
     let (example, left) = at;
-    let again = query.copy()?;
-    let (mut machine, is_started) = started(rt, lists.alloc, meter, program, query, again, left)?;
-    run_on(rt, lists, meter, &mut machine, (example, None, left))?;
-    Ok(is_started)
+    let again = copied(rt, &query);
+    let (mut machine, is_started) = started(rt, lists.alloc, meter, program, query, again, left);
+    run_on(rt, lists, meter, &mut machine, (example, None, left));
+    is_started
 }
 
 /// Whether the call after some transitions goes through with the growths that it is given. Then the machine runs on.
@@ -236,10 +249,10 @@ fn is_called_over<A: Allocator + Copy>(
     program: &Program<A>,
     query: Query<A>,
     at: (Worked, Option<(u64, Call)>, u64),
-) -> Result<bool, Memory>
+) -> bool
     requires { IsQueryBounded (query_view query) }
 {
-    let mut machine = start(lists.alloc, program, query)?;
+    let mut machine = got(rt, start(lists.alloc, program, query));
     run_on(rt, lists, meter, &mut machine, at)
 }
 
@@ -251,7 +264,7 @@ fn is_through_over<A: Allocator + Copy>(
     program: &Program<A>,
     query: Query<A>,
     at: (Worked, Refused, u64),
-) -> Result<bool, Memory>
+) -> bool
     requires { IsQueryBounded (query_view query) }
 {
     let (example, refused, left) = at;
@@ -276,82 +289,65 @@ fn is_through_in<A: Allocator + Copy>(
     meter: &Meter,
     (example, refused): (Worked, Refused),
     left: u64,
-) -> Result<bool, Fail> {
+) -> bool {
     meter.allow(AMPLE);
-    let (program, query) = both_of(lists.alloc, example.program, example.query)?;
-    Ok(is_through_over(rt, lists, meter, &program, query, (example, refused, left))?)
+    let (program, query) = both(rt, lists.alloc, (example.program, example.query));
+    is_through_over(rt, lists, meter, &program, query, (example, refused, left))
 }
 
 /// As `is_through_in`, where the meter refuses.
-fn is_through_metered(
-    rt: &impl Abort,
-    meter: &Meter,
-    at: (Worked, Refused),
-    left: u64,
-) -> Result<bool, Fail> {
+fn is_through_metered(rt: &impl Abort, meter: &Meter, at: (Worked, Refused), left: u64) -> bool {
     is_through_in(rt, &lists_of(meter), meter, at, left)
 }
 
 /// How often it is refused before it goes through.
-fn refusals(
-    rt: &impl Abort,
-    alloc: Global,
-    example: Worked,
-    refused: Refused,
-) -> Result<u64, Fail> {
+fn refusals(rt: &impl Abort, alloc: Global, example: Worked, refused: Refused) -> u64 {
     let meter = Refusing::new(alloc, 0);
     let count = refused_in_turn(MOST, |left| {
         is_through_metered(rt, &meter, (example, refused), left)
-    })?;
-    assert!(rt; count < MOST, "{count} {}", example.query);
-    Ok(count)
+    });
+    holds(rt, count < MOST);
+    count
 }
 
 /// It is refused at least once, and then goes through.
-fn assert_refused(
-    rt: &impl Abort,
-    alloc: Global,
-    example: Worked,
-    refused: Refused,
-) -> Result<(), Fail> {
-    let count = refusals(rt, alloc, example, refused)?;
+fn assert_refused(rt: &impl Abort, alloc: Global, example: Worked, refused: Refused) {
+    let count = refusals(rt, alloc, example, refused);
     assert!(rt; count > 0, "{}", example.query);
-    Ok(())
 }
 
 /// `start`, `run_alone`, `tasks` and the text of an outcome.
 #[test]
-fn want_of_memory(rt: HostRuntime) -> Result<(), Fail> {
+fn want_of_memory(rt: HostRuntime) {
     for example in EXAMPLES {
         for refused in [Refused::Start, Refused::Call(0, Call::Run), Refused::Text] {
-            assert_refused(&rt, rt.alloc(), example, refused)?;
+            assert_refused(&rt, rt.alloc(), example, refused);
         }
     }
-    assert_refused(&rt, rt.alloc(), SPECULATION, Refused::Call(6, Call::Tasks))
+    assert_refused(&rt, rt.alloc(), SPECULATION, Refused::Call(6, Call::Tasks));
 }
 
 /// How often the steps of an example are refused, each in turn: one that searches by itself, and one without a search or with the answer
 /// handed in. A step whose line has room may ask for no growth.
-fn refusals_of_steps(rt: &impl Abort, alloc: Global, example: Worked) -> Result<u64, Fail> {
+fn refusals_of_steps(rt: &impl Abort, alloc: Global, example: Worked) -> u64 {
     let mut count: u64 = 0;
     for done in 0..example.transitions as u64 {
         for call in [Call::Step, Call::Asked] {
-            count = count.saturating_add(refusals(rt, alloc, example, Refused::Call(done, call))?);
+            count = count.saturating_add(refusals(rt, alloc, example, Refused::Call(done, call)));
         }
     }
-    Ok(count)
+    count
 }
 
 /// The steps of each example are refused at least as often as it has transitions, and then go through.
 #[test]
-fn want_of_memory_of_steps(rt: HostRuntime) -> Result<(), Fail> {
+fn want_of_memory_of_steps(rt: HostRuntime) {
     for example in EXAMPLES {
-        let count = refusals_of_steps(&rt, rt.alloc(), example)?;
+        let count = refusals_of_steps(&rt, rt.alloc(), example);
         assert!(rt;
             count >= example.transitions as u64,
             "{count} {}",
             example.query
         );
     }
-    Ok(())
 }

@@ -29,17 +29,17 @@ fn is_built<M: Allocator + Copy>(
     alloc: M,
     meter: &Refusing<Global>,
     left: u64,
-) -> Result<bool, Fail> {
+) -> bool {
     meter.allow(AMPLE);
-    let syntax = read_program(alloc, PROGRAM.as_bytes())?;
+    let syntax = got(rt, read_program(alloc, PROGRAM.as_bytes()));
     meter.allow(left);
     let answer = Program::build(alloc, syntax);
-    assert_eq!(rt; answer.is_err(), was_refused(meter, left), "{left}");
+    equal(rt, answer.is_err(), was_refused(meter, left));
     match &answer {
         Ok(program) => assert_program(rt, program),
-        Err(error) => assert_eq!(rt; *error, REFUSED),
+        Err(error) => equal(rt, *error, REFUSED),
     }
-    Ok(answer.is_ok())
+    answer.is_ok()
 }
 
 /// Whether `goals_of_query` goes through with `left` growths. A refused one leaves the rules as they were.
@@ -49,17 +49,17 @@ fn is_asked<M: Allocator + Copy>(
     meter: &Refusing<Global>,
     program: &mut Program<M>,
     left: u64,
-) -> Result<bool, Fail> {
-    let syntax = read_query(alloc, QUERY.as_bytes())?;
+) -> bool {
+    let syntax = got(rt, read_query(alloc, QUERY.as_bytes()));
     meter.allow(left);
     let answer = program.goals_of_query(syntax);
-    assert_eq!(rt; answer.is_err(), was_refused(meter, left), "{left}");
+    equal(rt, answer.is_err(), was_refused(meter, left));
     assert_program(rt, program);
     match &answer {
         Ok(query) => assert_query(rt, query, 4, 2),
-        Err(error) => assert_eq!(rt; *error, REFUSED),
+        Err(error) => equal(rt, *error, REFUSED),
     }
-    Ok(answer.is_ok())
+    answer.is_ok()
 }
 
 /// As `is_asked`, over a program of its own. It can be called again.
@@ -68,12 +68,12 @@ fn is_asked_anew<M: Allocator + Copy>(
     alloc: M,
     meter: &Refusing<Global>,
     left: u64,
-) -> Result<bool, Fail> {
+) -> bool {
     meter.allow(AMPLE);
-    let mut program = program_of(alloc, PROGRAM)?;
-    let is_done = is_asked(rt, alloc, meter, &mut program, left)?;
-    assert!(rt; is_asked(rt, alloc, meter, &mut program, AMPLE)?);
-    Ok(is_done)
+    let mut program = got(rt, program_of(alloc, PROGRAM));
+    let is_done = is_asked(rt, alloc, meter, &mut program, left);
+    holds(rt, is_asked(rt, alloc, meter, &mut program, AMPLE));
+    is_done
 }
 
 /// Whether `Query::copy` goes through with `left` growths.
@@ -85,7 +85,7 @@ fn is_copied<M: Allocator + Copy>(
 ) -> bool {
     meter.allow(left);
     let answer = query.copy();
-    assert_eq!(rt; answer.is_err(), was_refused(meter, left), "{left}");
+    equal(rt, answer.is_err(), was_refused(meter, left));
     if let Ok(copied) = &answer {
         assert_query(rt, copied, 4, 2);
     }
@@ -93,26 +93,23 @@ fn is_copied<M: Allocator + Copy>(
 }
 
 /// How often it is refused for one query.
-fn copies_refused<M: Allocator + Copy>(
-    rt: &impl Abort,
-    alloc: M,
-    meter: &Refusing<Global>,
-) -> Result<u64, Fail> {
+fn copies_refused<M: Allocator + Copy>(rt: &impl Abort, alloc: M, meter: &Refusing<Global>) -> u64 {
     meter.allow(AMPLE);
-    let (_, query) = both_of(alloc, PROGRAM, QUERY)?;
-    refused_in_turn(MOST, |left| -> Result<bool, Fail> {
-        Ok(is_copied(rt, meter, &query, left))
-    })
+    let (_, query) = got(rt, both_of(alloc, PROGRAM, QUERY));
+    refused_in_turn(MOST, |left| is_copied(rt, meter, &query, left))
+}
+
+/// The call was refused, and went through in the end.
+fn assert_count(rt: &impl Abort, refused: u64) {
+    assert!(rt; refused > 0 && refused < MOST, "{refused}");
 }
 
 #[test]
-fn want_of_memory(rt: HostRuntime) -> Result<(), Fail> {
+fn want_of_memory(rt: HostRuntime) {
     let meter = Refusing::new(rt.alloc(), 0);
-    let refused = refused_in_turn(MOST, |left| is_built(&rt, &meter, &meter, left))?;
-    assert!(&rt; refused > 0 && refused < MOST, "{refused}");
-    let refused = refused_in_turn(MOST, |left| is_asked_anew(&rt, &meter, &meter, left))?;
-    assert!(&rt; refused > 0 && refused < MOST, "{refused}");
-    let refused = copies_refused(&rt, &meter, &meter)?;
-    assert!(&rt; refused > 0 && refused < MOST, "{refused}");
-    Ok(())
+    let refused = refused_in_turn(MOST, |left| is_built(&rt, &meter, &meter, left));
+    assert_count(&rt, refused);
+    let refused = refused_in_turn(MOST, |left| is_asked_anew(&rt, &meter, &meter, left));
+    assert_count(&rt, refused);
+    assert_count(&rt, copies_refused(&rt, &meter, &meter));
 }

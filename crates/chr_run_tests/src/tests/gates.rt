@@ -41,8 +41,8 @@ impl Watch {
 
     /// The first own point was as it should be, and no hold ended by its turns.
     fn assert_kept(&self, rt: &impl Abort) {
-        assert_eq!(rt; self.first.load(Ordering::SeqCst), FIRST_OWN);
-        assert_eq!(rt; self.overdue.count(), 0);
+        equal(rt, self.first.load(Ordering::SeqCst), FIRST_OWN);
+        equal(rt, self.overdue.count(), 0);
     }
 }
 
@@ -73,15 +73,15 @@ impl Gate for Meeting {
 
 /// Two workers search at one time, while the run stands at its first own point.
 #[test]
-fn two_searches_meet(rt: HostRuntime) -> Result<(), Fail> {
+fn two_searches_meet(rt: HostRuntime) {
     let gate = Meeting {
         begun: Mark::new(),
         watch: Watch::new(),
     };
-    let run = run_of(&rt, rt.alloc(), SPECULATION, 2, &gate)?;
+    let run = run_of(&rt, rt.alloc(), SPECULATION, 2, &gate);
     gate.watch.assert_kept(&rt);
-    assert!(rt; gate.begun.count() >= 2);
-    assert_replayed(&rt, rt.alloc(), SPECULATION, &run)
+    holds(&rt, gate.begun.count() >= 2);
+    assert_replayed(&rt, rt.alloc(), SPECULATION, &run);
 }
 
 /// Holds the first own point until the search for the task of serial 1 has begun.
@@ -124,39 +124,34 @@ fn place_of_step(events: &[Event], number: u64) -> Option<usize> {
 
 /// How many answers are used by the first events of a schedule of `speculation`.
 fn used_within<A: Allocator + Copy>(
-    rt: &impl Wait,
-    alloc: A,
-    events: &[Event],
-    count: usize,
-) -> Result<u64, Fail> {
-    let events = &events[..count.min(events.len())];
-    Ok(counts_of(rt, alloc, SPECULATION, events)?.used)
-}
-
-/// The Step of the first own point uses an answer.
-fn assert_used<A: Allocator + Copy>(
     rt: &(impl Abort + Wait),
     alloc: A,
     events: &[Event],
-) -> Result<(), Fail> {
+    count: usize,
+) -> u64 {
+    let events = &events[..count.min(events.len())];
+    counts_of(rt, alloc, SPECULATION, events).used
+}
+
+/// The Step of the first own point uses an answer.
+fn assert_used<A: Allocator + Copy>(rt: &(impl Abort + Wait), alloc: A, events: &[Event]) {
     let place = place_of_step(events, FIRST_OWN).expect(rt, "a step");
-    let before = used_within(rt, alloc, events, place)?;
-    let with = used_within(rt, alloc, events, place.saturating_add(1))?;
-    assert_eq!(rt; with, before.saturating_add(1));
-    Ok(())
+    let before = used_within(rt, alloc, events, place);
+    let with = used_within(rt, alloc, events, place.saturating_add(1));
+    equal(rt, with, before.saturating_add(1));
 }
 
 /// A worker that begins with its second task has posted the answer to the first.
 #[test]
-fn an_answer_is_used(rt: HostRuntime) -> Result<(), Fail> {
+fn an_answer_is_used(rt: HostRuntime) {
     let gate = Second {
         begun: Mark::new(),
         watch: Watch::new(),
     };
-    let run = run_of(&rt, rt.alloc(), SPECULATION, 1, &gate)?;
+    let run = run_of(&rt, rt.alloc(), SPECULATION, 1, &gate);
     gate.watch.assert_kept(&rt);
-    assert_used(&rt, rt.alloc(), run.schedule.as_slice())?;
-    assert_replayed(&rt, rt.alloc(), SPECULATION, &run)
+    assert_used(&rt, rt.alloc(), run.schedule.as_slice());
+    assert_replayed(&rt, rt.alloc(), SPECULATION, &run);
 }
 
 /// Some of the points.
@@ -206,27 +201,27 @@ fn assert_gated<A: Allocator + Copy + Send + Sync, R: Threads + Wait + Abort + S
     alloc: A,
     held: Points,
     until: Points,
-) -> Result<(), Fail> {
+) {
     let gate = Hold {
         held,
         until,
         reached: Mark::new(),
     };
-    let run = run_of(rt, alloc, SPECULATION, 2, &gate)?;
-    assert_replayed(rt, alloc, SPECULATION, &run)
+    let run = run_of(rt, alloc, SPECULATION, 2, &gate);
+    assert_replayed(rt, alloc, SPECULATION, &run);
 }
 
 #[test]
-fn gated_runs_hold_a_post(rt: HostRuntime) -> Result<(), Fail> {
-    assert_gated(&rt, rt.alloc(), Points::PostOf(0), Points::PostOf(1))
+fn gated_runs_hold_a_post(rt: HostRuntime) {
+    assert_gated(&rt, rt.alloc(), Points::PostOf(0), Points::PostOf(1));
 }
 
 #[test]
-fn gated_runs_hold_searches(rt: HostRuntime) -> Result<(), Fail> {
-    assert_gated(&rt, rt.alloc(), Points::Begins, Points::Owns)
+fn gated_runs_hold_searches(rt: HostRuntime) {
+    assert_gated(&rt, rt.alloc(), Points::Begins, Points::Owns);
 }
 
 #[test]
-fn gated_runs_hold_the_run(rt: HostRuntime) -> Result<(), Fail> {
-    assert_gated(&rt, rt.alloc(), Points::Owns, Points::Posts)
+fn gated_runs_hold_the_run(rt: HostRuntime) {
+    assert_gated(&rt, rt.alloc(), Points::Owns, Points::Posts);
 }

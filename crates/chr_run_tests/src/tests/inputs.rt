@@ -49,10 +49,8 @@ impl Creates for SpacesOf {
 fn a_million_calls(rt: HostRuntime) {
     for (bytes, is_read) in [(999_999, true), (1_000_000, false)] {
         let read = read_file(rt.alloc(), &SpacesOf(bytes), "spaces");
-        assert_eq!(rt;
-            read.is_some_and(|text| text.len() as u64 == bytes),
-            is_read
-        );
+        let is_whole = read.is_some_and(|text| text.len() as u64 == bytes);
+        equal(&rt, is_whole, is_read);
     }
 }
 
@@ -70,17 +68,14 @@ fn chr<R: Threads + Wait + Sync>(
 
 /// Over 1,000 lines of a run go out by at most 20 writes.
 #[test]
-fn lines_go_out_together(rt: HostRuntime) -> Result<(), Fail> {
+fn lines_go_out_together(rt: HostRuntime) {
     let mut input = Vec::new(rt.alloc());
-    input.extend_from_slice(b"gcd(1), gcd(500).\n")?;
-    input.extend_from_slice(GCD.program.as_bytes())?;
+    got(&rt, input.extend_from_slice(b"gcd(1), gcd(500).\n"));
+    got(&rt, input.extend_from_slice(GCD.program.as_bytes()));
     let mut output = Sink::new(rt.alloc(), usize::MAX, 20);
     let mut error = Sink::new(rt.alloc(), usize::MAX, 0);
-    assert_eq!(rt;
-        chr(&rt, rt.alloc(), input.as_slice(), &mut output, &mut error),
-        0
-    );
+    let status = chr(&rt, rt.alloc(), input.as_slice(), &mut output, &mut error);
+    equal(&rt, status, 0);
     let lines = output.text.iter().filter(|byte| **byte == b'\n').count();
-    assert!(rt; lines > 1_000);
-    Ok(())
+    holds(&rt, lines > 1_000);
 }

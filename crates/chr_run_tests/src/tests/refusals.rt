@@ -100,11 +100,11 @@ fn assert_kept<A: Allocator>(rt: &impl Abort, run: &Run<A>, places: Option<u64>)
         .kept
         .saturating_add(counts.late)
         .saturating_add(counts.double);
-    assert_eq!(rt; arrivals, arrived);
-    assert_eq!(rt; arrivals, run.totals.drained);
-    assert!(rt; run.totals.posted >= run.totals.drained);
+    equal(rt, arrivals, arrived);
+    equal(rt, arrivals, run.totals.drained);
+    holds(rt, run.totals.posted >= run.totals.drained);
     if let Some(places) = places {
-        assert_eq!(rt; rounds.saturating_add(run.skipped), places);
+        equal(rt, rounds.saturating_add(run.skipped), places);
     }
 }
 
@@ -116,10 +116,10 @@ fn assert_run<A: Allocator + Copy>(
     program: &Program<A>,
     run: &Run<A>,
     places: Option<u64>,
-) -> Result<(), Fail> {
+) {
     assert_kept(rt, run, places);
-    assert_text(rt, alloc, example, program, &run.outcome)?;
-    assert_replayed(rt, alloc, example, run)
+    assert_text(rt, alloc, example, program, &run.outcome);
+    assert_replayed(rt, alloc, example, run);
 }
 
 /// A run over a program. Where it meets a refusal, it is refused for memory, or gives the text of the example.
@@ -132,7 +132,7 @@ fn run_over<A: Allocator + Copy + Send + Sync, R: Threads + Wait + Abort + Sync>
     gate: &Late,
     searching: Searching,
     workers: u32,
-) -> Result<(), Fail>
+)
     requires { IsQueryBounded (query_view query) }
 {
     turn.begin();
@@ -140,8 +140,8 @@ fn run_over<A: Allocator + Copy + Send + Sync, R: Threads + Wait + Abort + Sync>
     turn.end(run.is_err());
     match run {
         Err(error) => {
-            assert!(rt; error == RunError::Memory && !turn.met_none());
-            Ok(())
+            equal(rt, error, RunError::Memory);
+            holds(rt, !turn.met_none());
         }
         Ok(run) => {
             let are_known = workers > 0 && gate.was_kept();
@@ -150,7 +150,7 @@ fn run_over<A: Allocator + Copy + Send + Sync, R: Threads + Wait + Abort + Sync>
             } else {
                 None
             };
-            assert_run(rt, alloc, searching.example, program, &run, places)
+            assert_run(rt, alloc, searching.example, program, &run, places);
         }
     }
 }
@@ -164,11 +164,12 @@ fn is_through<A: Allocator + Copy + Send + Sync, R: Threads + Wait + Abort + Syn
     turn: &Turn<'_, Global>,
     searching: Searching,
     workers: u32,
-) -> Result<bool, Fail> {
-    let (program, query) = both_of(alloc, searching.example.program, searching.example.query)?;
+) -> bool {
+    let example = searching.example;
+    let (program, query) = both(rt, alloc, (example.program, example.query));
     let gate = Late::new(searching.last);
-    run_over(rt, alloc, turn, &program, query, &gate, searching, workers)?;
-    Ok(turn.met_none())
+    run_over(rt, alloc, turn, &program, query, &gate, searching, workers);
+    turn.met_none()
 }
 
 /// As `is_through`, where the meter refuses.
@@ -178,23 +179,22 @@ fn is_through_metered<R: Threads + Wait + Abort + Sync>(
     searching: Searching,
     workers: u32,
     left: u64,
-) -> Result<bool, Fail> {
+) -> bool {
     is_through(rt, meter, &Turn::new(meter, left), searching, workers)
 }
 
 /// With no worker, one and two.
 #[test]
-fn want_of_memory(rt: HostRuntime) -> Result<(), Fail> {
+fn want_of_memory(rt: HostRuntime) {
     let meter = Refusing::new(rt.alloc(), 0);
     for searching in EXAMPLES {
         for workers in 0..3 {
             let refused = refused_in_turn(MOST, |left| {
                 is_through_metered(&rt, &meter, searching, workers, left)
-            })?;
+            });
             assert!(rt; refused > 10 && refused < MOST, "{refused}");
         }
     }
-    Ok(())
 }
 
 /// A call that writes a text.
@@ -206,39 +206,39 @@ enum Call {
 }
 
 /// How the text of `speculation` ended by `run_into`, or why it was refused.
-fn written_into<A: Allocator + Copy + Send + Sync, R: Threads + Wait + Sync>(
+fn written_into<A: Allocator + Copy + Send + Sync, R: Threads + Wait + Abort + Sync>(
     rt: &R,
     alloc: A,
     turn: &Turn<'_, Global>,
     sink: &mut Sink,
-) -> Result<Result<Status, TextError>, Fail> {
-    let (program, query) = both_of(alloc, SPECULATION.program, SPECULATION.query)?;
+) -> Result<Status, TextError> {
+    let (program, query) = both(rt, alloc, (SPECULATION.program, SPECULATION.query));
     turn.begin();
     let run = run_into(rt, alloc, &program, query, AMPLE, 0, &Open, sink);
-    Ok(run.map(|run| run.outcome.status))
+    run.map(|run| run.outcome.status)
 }
 
 /// How the text of `speculation` ended, or why it was refused, by each call.
-fn written<A: Allocator + Copy + Send + Sync, R: Threads + Wait + Sync>(
+fn written<A: Allocator + Copy + Send + Sync, R: Threads + Wait + Abort + Sync>(
     rt: &R,
     alloc: A,
     turn: &Turn<'_, Global>,
     call: Call,
     sink: &mut Sink,
-) -> Result<Result<Status, TextError>, Fail> {
+) -> Result<Status, TextError> {
     let (program, query) = (SPECULATION.program.as_bytes(), SPECULATION.query.as_bytes());
     match call {
         Call::RunInto => written_into(rt, alloc, turn, sink),
         Call::RunText => {
             turn.begin();
             let run = run_text(rt, alloc, program, query, AMPLE, 0, sink);
-            Ok(run.map(|run| run.outcome.status))
+            run.map(|run| run.outcome.status)
         }
         Call::ReplayText => {
             let schedule = b"step 6\npublish\narrive 0 0\nstep 8\n".as_slice();
             turn.begin();
             let made = replay_text(rt, alloc, program, query, schedule, sink);
-            Ok(made.map(|(status, _)| status))
+            made.map(|(status, _)| status)
         }
     }
 }
@@ -264,35 +264,34 @@ fn goes_out<R: Threads + Wait + Abort + Sync>(
     meter: &Refusing<Global>,
     call: Call,
     left: u64,
-) -> Result<bool, Fail> {
+) -> bool {
     let turn = Turn::new(meter, left);
     let mut sink = Sink::new(alloc, usize::MAX, u64::MAX);
-    let written = written(rt, meter, &turn, call, &mut sink)?;
-    assert!(rt; turn.end(written.is_err()));
+    let written = written(rt, meter, &turn, call, &mut sink);
+    holds(rt, turn.end(written.is_err()));
     let (text, whole) = (sink.text.as_slice(), SPECULATION.text.as_bytes());
     match written {
         Ok(status) => {
-            assert!(rt; status == Status::Done);
-            assert_eq!(rt; text, whole);
-            Ok(true)
+            equal(rt, status, Status::Done);
+            equal(rt, text, whole);
+            true
         }
         Err(error) => {
-            assert!(rt; is_memory(error));
-            assert!(rt; whole.starts_with(text));
-            Ok(false)
+            holds(rt, is_memory(error));
+            holds(rt, whole.starts_with(text));
+            false
         }
     }
 }
 
 /// Of a program and a query, of two texts, and of two texts and a schedule.
 #[test]
-fn want_of_memory_of_texts(rt: HostRuntime) -> Result<(), Fail> {
+fn want_of_memory_of_texts(rt: HostRuntime) {
     let meter = Refusing::new(rt.alloc(), 0);
     for call in [Call::RunInto, Call::RunText, Call::ReplayText] {
         let refused = refused_in_turn(MOST, |left| {
             goes_out(&rt, rt.alloc(), &meter, call, left)
-        })?;
+        });
         assert!(rt; refused > 10 && refused < MOST, "{refused}");
     }
-    Ok(())
 }

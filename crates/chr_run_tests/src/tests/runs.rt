@@ -13,16 +13,20 @@ fn arrivals(events: &[Event]) -> usize {
 /// What the workers did is what came of the tasks, and what was drained arrived.
 fn assert_sums<A: Allocator>(rt: &impl Abort, run: &Run<A>) {
     let (totals, tally, counts) = (run.totals, run.tally, run.counts);
-    assert_eq!(rt; totals.taken, totals.posted.saturating_add(totals.given_up));
-    assert_eq!(rt; totals.taken, u64::from(tally.taken));
-    assert_eq!(rt; totals.posted, u64::from(tally.posted));
-    assert_eq!(rt; totals.given_up, u64::from(tally.given_up));
+    equal(
+        rt,
+        totals.taken,
+        totals.posted.saturating_add(totals.given_up),
+    );
+    equal(rt, totals.taken, u64::from(tally.taken));
+    equal(rt, totals.posted, u64::from(tally.posted));
+    equal(rt, totals.given_up, u64::from(tally.given_up));
     let arrived = counts
         .kept
         .saturating_add(counts.late)
         .saturating_add(counts.double);
-    assert_eq!(rt; totals.drained, arrived);
-    assert_eq!(rt; totals.drained, arrivals(run.schedule.as_slice()) as u64);
+    equal(rt, totals.drained, arrived);
+    equal(rt, totals.drained, arrivals(run.schedule.as_slice()) as u64);
 }
 
 /// The numbers of a run of an example with these workers add up.
@@ -31,20 +35,18 @@ fn assert_totals<A: Allocator + Copy + Send + Sync, R: Threads + Wait + Abort + 
     alloc: A,
     example: Worked,
     workers: u32,
-) -> Result<(), Fail> {
-    let run = run_of(rt, alloc, example, workers, &Open)?;
+) {
+    let run = run_of(rt, alloc, example, workers, &Open);
     assert_sums(rt, &run);
-    Ok(())
 }
 
 #[test]
-fn totals_add_up(rt: HostRuntime) -> Result<(), Fail> {
+fn totals_add_up(rt: HostRuntime) {
     for example in [GCD, SPECULATION] {
         for workers in [1, 2, 8] {
-            assert_totals(&rt, rt.alloc(), example, workers)?;
+            assert_totals(&rt, rt.alloc(), example, workers);
         }
     }
-    Ok(())
 }
 
 /// The printed schedule of a run, handed to `replay_text`, gives the bytes and the counts of the run.
@@ -54,15 +56,15 @@ fn assert_printed<A: Allocator + Copy>(
     example: Worked,
     run: &Run<A>,
     sink: &mut Sink,
-) -> Result<(), Fail> {
+) {
     let mut schedule = Vec::new(alloc);
-    print_schedule(run.schedule.as_slice(), &mut schedule)?;
+    got(rt, print_schedule(run.schedule.as_slice(), &mut schedule));
     let (program, query) = (example.program.as_bytes(), example.query.as_bytes());
-    let (status, counts) = replay_text(rt, alloc, program, query, schedule.as_slice(), sink)?;
-    assert!(rt; status == Status::Done);
-    assert_eq!(rt; counts, run.counts, "{}", example.query);
-    assert_eq!(rt; sink.text.as_slice(), example.text.as_bytes());
-    Ok(())
+    let events = schedule.as_slice();
+    let (status, counts) = got(rt, replay_text(rt, alloc, program, query, events, sink));
+    equal(rt, status, Status::Done);
+    equal(rt, counts, run.counts);
+    equal(rt, sink.text.as_slice(), example.text.as_bytes());
 }
 
 /// A run of an example with these workers gives its text, by its schedule too, and each place for a round was used.
@@ -71,33 +73,32 @@ fn assert_bytes<R: Threads + Wait + Abort + Sync>(
     alloc: Global,
     example: Worked,
     workers: u32,
-) -> Result<(), Fail> {
-    let run = run_of(rt, alloc, example, workers, &Open)?;
-    assert_eq!(rt; run.skipped, 0);
+) {
+    let run = run_of(rt, alloc, example, workers, &Open);
+    equal(rt, run.skipped, 0);
     let mut sink = Sink::new(alloc, usize::MAX, u64::MAX);
-    assert_printed(rt, alloc, example, &run, &mut sink)
+    assert_printed(rt, alloc, example, &run, &mut sink);
 }
 
 #[test]
-fn same_bytes(rt: HostRuntime) -> Result<(), Fail> {
+fn same_bytes(rt: HostRuntime) {
     for example in [GCD, SPECULATION] {
         for workers in [0, 1, 8] {
-            assert_bytes(&rt, rt.alloc(), example, workers)?;
+            assert_bytes(&rt, rt.alloc(), example, workers);
         }
     }
-    Ok(())
 }
 
 /// A query of `gcd` whose run has more places for rounds than rounds are made.
 const MANY_PLACES: &str = "gcd(1), gcd(6000).";
 
 /// Its run to the end, beside a worker.
-fn long_run<A: Allocator + Copy + Send + Sync, R: Threads + Wait + Sync>(
+fn long_run<A: Allocator + Copy + Send + Sync, R: Threads + Wait + Abort + Sync>(
     rt: &R,
     alloc: A,
-) -> Result<Run<A>, Fail> {
-    let (program, query) = both_of(alloc, GCD.program, MANY_PLACES)?;
-    Ok(made(rt, alloc, &program, query, 1_000_000, 1, &Open)?)
+) -> Run<A> {
+    let (program, query) = both(rt, alloc, (GCD.program, MANY_PLACES));
+    got(rt, made(rt, alloc, &program, query, 1_000_000, 1, &Open))
 }
 
 /// How many rounds were published.
@@ -110,11 +111,11 @@ fn rounds(events: &[Event]) -> usize {
 
 /// After 4,096 rounds a run goes on with none more, and counts what it passes over.
 #[test]
-fn rounds_run_out(rt: HostRuntime) -> Result<(), Fail> {
-    let run = long_run(&rt, rt.alloc())?;
-    assert!(rt; run.outcome.status == Status::Done);
-    assert_eq!(rt; rounds(run.schedule.as_slice()), 4_096);
-    assert!(rt; run.skipped > 0 && run.skipped <= run.outcome.steps);
+fn rounds_run_out(rt: HostRuntime) {
+    let run = long_run(&rt, rt.alloc());
+    equal(&rt, run.outcome.status, Status::Done);
+    equal(&rt, rounds(run.schedule.as_slice()), 4_096);
+    holds(&rt, run.skipped > 0);
+    holds(&rt, run.skipped <= run.outcome.steps);
     assert_sums(&rt, &run);
-    Ok(())
 }

@@ -47,20 +47,19 @@ impl Gate for Comparing<'_> {
 }
 
 /// `run_into` of an example to its end, with no clause.
-fn sent_into<A: Allocator + Copy + Send + Sync, G: Gate, R: Threads + Wait + Sync, W: Write>(
-    rt: &R,
-    alloc: A,
-    example: Worked,
-    gate: &G,
-    writer: &mut W,
-) -> Result<Result<Run<A>, TextError>, Fail> {
-    let (program, query) = both_of(alloc, example.program, example.query)?;
-    Ok(run_into(rt, alloc, &program, query, AMPLE, 0, gate, writer))
+fn sent_into<
+    A: Allocator + Copy + Send + Sync,
+    G: Gate,
+    R: Threads + Wait + Abort + Sync,
+    W: Write,
+>(rt: &R, alloc: A, example: Worked, gate: &G, writer: &mut W) -> Result<Run<A>, TextError> {
+    let (program, query) = both(rt, alloc, (example.program, example.query));
+    run_into(rt, alloc, &program, query, AMPLE, 0, gate, writer)
 }
 
 /// Each line goes out before the next transition.
 #[test]
-fn lines_go_out_as_made(rt: HostRuntime) -> Result<(), Fail> {
+fn lines_go_out_as_made(rt: HostRuntime) {
     let lines = AtomicU64::new(0);
     let gate = Comparing {
         lines: &lines,
@@ -68,11 +67,10 @@ fn lines_go_out_as_made(rt: HostRuntime) -> Result<(), Fail> {
         alike: AtomicU64::new(0),
     };
     let mut writer = Counting { lines: &lines };
-    let sent = sent_into(&rt, rt.alloc(), SPECULATION, &gate, &mut writer)?;
-    assert!(rt; sent.is_ok());
-    assert_eq!(rt; gate.owns.load(Ordering::SeqCst), OWNS.len() as u64);
-    assert_eq!(rt; gate.alike.load(Ordering::SeqCst), OWNS.len() as u64);
-    Ok(())
+    let sent = sent_into(&rt, rt.alloc(), SPECULATION, &gate, &mut writer);
+    holds(&rt, sent.is_ok());
+    equal(&rt, gate.owns.load(Ordering::SeqCst), OWNS.len() as u64);
+    equal(&rt, gate.alike.load(Ordering::SeqCst), OWNS.len() as u64);
 }
 
 /// `run_text` of an example to its end: how it ended, or why it was refused.
@@ -101,13 +99,13 @@ fn goes_out<R: Threads + Wait + Abort + Sync>(
     let (text, whole) = (sink.text.as_slice(), example.text.as_bytes());
     match sent {
         Ok(status) => {
-            assert_eq!(rt; status, Status::Done, "{calls}");
-            assert_eq!(rt; text, whole, "{calls}");
+            equal(rt, status, Status::Done);
+            equal(rt, text, whole);
             true
         }
         Err(error) => {
-            assert_eq!(rt; error, TextError::Write, "{calls}");
-            assert!(rt; whole.starts_with(text), "{calls}");
+            equal(rt, error, TextError::Write);
+            holds(rt, whole.starts_with(text));
             false
         }
     }
@@ -135,11 +133,12 @@ fn failing_writes(rt: HostRuntime) {
     for example in [GCD, GROUND_RULE] {
         for workers in [0, 2] {
             let writes = writes_of(&rt, rt.alloc(), example, workers, usize::MAX);
-            assert!(rt; writes > 0 && writes < MOST, "{writes} {}", example.query);
+            holds(&rt, writes > 0);
+            holds(&rt, writes < MOST);
             let writes = writes_of(&rt, rt.alloc(), example, workers, 1);
-            assert_eq!(rt; writes, example.text.len() as u64, "{}", example.query);
+            equal(&rt, writes, example.text.len() as u64);
         }
     }
     let takes_nothing = goes_out(&rt, rt.alloc(), GROUND_RULE, 0, (0, MOST));
-    assert!(rt; !takes_nothing);
+    holds(&rt, !takes_nothing);
 }

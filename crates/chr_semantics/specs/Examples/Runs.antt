@@ -13,20 +13,21 @@ nothing = record { symbols = []; program = []; query = record { goals = []; var_
 abbrev pub only_p : Example
 only_p = record { symbols = (codes "p", 0) ∷ []; program = []; query = record { goals = chr 7 [] ∷ []; var_names = [] } }
 
--- gcd1 @ gcd(0) <=> true. gcd2 @ gcd(N) \ gcd(M) <=> M >= N | L is M-N, gcd(L).
+-- gcd2 @ gcd(N) \ gcd(M) <=> M >= N | L is M-N, gcd(L).
+abbrev pub subtract : Rule
+subtract = record {
+  label = codes "gcd2";
+  kept = 1;
+  heads = head 7 (var 0 ∷ []) ∷ head 7 (var 1 ∷ []) ∷ [];
+  guard = compares at_least (var 1) (var 0) ∷ [];
+  body = evaluate (var 2) (minus (var 1) (var 0)) ∷ chr 7 (var 2 ∷ []) ∷ [];
+  head_vars = 2;
+  vars = 3;
+}
+
+-- gcd1 @ gcd(0) <=> true. and subtract
 abbrev pub gcd_rules : Program
-gcd_rules =
-    record { label = codes "gcd1"; kept = 0; heads = head 7 (number 0 ∷ []) ∷ []; guard = []; body = []; head_vars = 0; vars = 0 }
-    ∷ record {
-      label = codes "gcd2";
-      kept = 1;
-      heads = head 7 (var 0 ∷ []) ∷ head 7 (var 1 ∷ []) ∷ [];
-      guard = compares at_least (var 1) (var 0) ∷ [];
-      body = evaluate (var 2) (minus (var 1) (var 0)) ∷ chr 7 (var 2 ∷ []) ∷ [];
-      head_vars = 2;
-      vars = 3;
-    }
-    ∷ []
+gcd_rules = record { label = codes "gcd1"; kept = 0; heads = head 7 (number 0 ∷ []) ∷ []; guard = []; body = []; head_vars = 0; vars = 0 } ∷ subtract ∷ []
 
 -- gcd_rules    gcd(4), gcd(2).
 abbrev pub gcd_example : Example

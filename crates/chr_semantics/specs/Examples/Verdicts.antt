@@ -4,6 +4,7 @@ use Rattle.chr_semantics.specs.Tree.{Tree, var}
 use Rattle.chr_semantics.specs.Program.{Rule, Test, compares, fail, greater, is_integer}
 use Rattle.chr_semantics.specs.State.{start}
 use Rattle.chr_semantics.specs.Life.{came, could_from, firings, gone, looks, made_by, taken_by, woken}
+use Rattle.chr_semantics.specs.Lists.{fronts, furthest, like, of_stage}
 use Rattle.chr_semantics.specs.Verdict.{Verdict, tested, verdict}
 use Rattle.chr_semantics.specs.Examples.Terms.{chr, head, nil, number, pair, term}
 use Rattle.chr_semantics.specs.Examples.Example.{Example, state_after}
@@ -171,3 +172,18 @@ test_after e n rule ids k = tested (state_after e n) rule ids k
 -- the verdict after n transitions
 abbrev pub verdict_after : Example → ℕ → ℕ → Rule → List ℕ → Verdict
 verdict_after e n r rule ids = verdict (state_after e n) r rule ids
+
+-- the fronts that are looked at for the rule r, in the state after n transitions
+abbrev pub fronts_after : Example → ℕ → ℕ → Rule → List (List ℕ)
+fronts_after e n r rule = fronts (state_after e n) r rule
+
+-- the n of them that came furthest
+abbrev pub furthest_after : Example → ℕ → ℕ → Rule → List (List ℕ × Verdict)
+furthest_after e n r rule = furthest (state_after e n) r rule 5 [] (fronts (state_after e n) r rule)
+
+-- how many of k constraints are like the heads, and how many lists have a verdict of a kind
+abbrev pub like_after : Example → ℕ → ℕ → Rule → ℕ → ℕ
+like_after e n r rule k = like (state_after e n) r rule k (fronts (state_after e n) r rule)
+
+abbrev pub stage_after : Example → ℕ → ℕ → Rule → ℕ → ℕ
+stage_after e n r rule k = of_stage (state_after e n) r rule k (fronts (state_after e n) r rule)

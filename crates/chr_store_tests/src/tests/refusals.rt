@@ -24,27 +24,25 @@ fn is_added<M: Allocator + Copy>(
     meter: &Refusing<Global>,
     store: &mut Store<M>,
     left: u64,
-) -> Result<bool, Memory> {
-    let args = one(alloc, Term::Int(2))?;
+) -> bool {
+    let args = one(rt, alloc, Term::Int(2));
     meter.allow(left);
-    assert!(rt; store.changes() < MAX_CHANGES);
+    holds(rt, store.changes() < MAX_CHANGES);
     let answer = store.add(Q, args);
-    assert_eq!(rt; answer.is_err(), was_refused(meter, left), "{left}");
     let is_done = answer.is_ok();
+    equal(rt, !is_done, was_refused(meter, left));
     if let Err((args, _)) = answer {
-        assert!(rt; store.rows_of(P) == [Id(1)].as_slice() && store.rows_of(Q).is_empty());
-        assert_eq!(rt;
+        equal(rt, store.rows_of(P), &[Id(1)]);
+        equal(rt, store.rows_of(Q), &[]);
+        equal(
+            rt,
             (store.next(), store.changes(), store.stamp(Q)),
-            (Id(2), 1, 0)
+            (Id(2), 1, 0),
         );
-        add(rt, store, Q, args)?;
+        add(rt, store, Q, args);
     }
-    assert_eq!(rt;
-        store.rows_keyed(Q, Some(Key::Int(2))),
-        [Id(2)].as_slice(),
-        "{left}"
-    );
-    Ok(is_done)
+    equal(rt, store.rows_keyed(Q, Some(Key::Int(2))), &[Id(2)]);
+    is_done
 }
 
 /// Whether `woken` of p(X) goes through with `left` growths.
@@ -57,7 +55,7 @@ fn is_woken<M: Allocator + Copy>(
 ) -> bool {
     meter.allow(left);
     let answer = store.woken(bindings);
-    assert_eq!(rt; answer.is_err(), was_refused(meter, left), "{left}");
+    equal(rt, answer.is_err(), was_refused(meter, left));
     answer.is_ok_and(|ids| ids.as_slice() == [Id(1)].as_slice())
 }
 
@@ -67,15 +65,15 @@ fn is_put<M: Allocator + Copy>(
     meter: &Refusing<Global>,
     history: &mut History<M>,
     left: u64,
-) -> Result<bool, Memory> {
-    let entry = fired(0, &[Id(2), Id(1)]);
+) -> bool {
     meter.allow(left);
-    let is_done = history.put(entry).is_ok();
-    assert_eq!(rt; !is_done, was_refused(meter, left), "{left}");
-    assert_eq!(rt; history.stamp(0), u64::from(is_done), "{left}");
-    assert_eq!(rt; history.list().len(), usize::from(is_done), "{left}");
-    assert_eq!(rt; history.put(entry)?, !is_done, "{left}");
-    Ok(is_done)
+    let is_done = history.put(fired(0, &[Id(2), Id(1)])).is_ok();
+    equal(rt, !is_done, was_refused(meter, left));
+    equal(rt, history.stamp(0), u64::from(is_done));
+    equal(rt, history.list().len(), usize::from(is_done));
+    let is_new = got(rt, history.put(fired(0, &[Id(2), Id(1)])));
+    equal(rt, is_new, !is_done);
+    is_done
 }
 
 /// A call that is refused in turn.
@@ -93,26 +91,25 @@ fn is_through<M: Allocator + Copy>(
     meter: &Refusing<Global>,
     call: Call,
     left: u64,
-) -> Result<bool, Memory> {
+) -> bool {
     meter.allow(AMPLE);
     let mut store = Store::new(alloc);
     let mut bindings = Bindings::new(alloc);
     let mut history = History::new(alloc);
-    bindings.fresh(1)?;
-    add(rt, &mut store, P, one(alloc, Term::Var(0))?)?;
+    got(rt, bindings.fresh(1));
+    add(rt, &mut store, P, one(rt, alloc, Term::Var(0)));
     match call {
         Call::Add => is_added(rt, alloc, meter, &mut store, left),
-        Call::Woken => Ok(is_woken(rt, meter, &store, &bindings, left)),
+        Call::Woken => is_woken(rt, meter, &store, &bindings, left),
         Call::Put => is_put(rt, meter, &mut history, left),
     }
 }
 
 #[test]
-fn want_of_memory(rt: HostRuntime) -> Result<(), Fail> {
+fn want_of_memory(rt: HostRuntime) {
     let meter = Refusing::new(rt.alloc(), 0);
     for call in [Call::Add, Call::Woken, Call::Put] {
-        let refused = refused_in_turn(MOST, |left| is_through(&rt, &meter, &meter, call, left))?;
+        let refused = refused_in_turn(MOST, |left| is_through(&rt, &meter, &meter, call, left));
         assert!(&rt; refused > 0 && refused < MOST, "{call:?} {refused}");
     }
-    Ok(())
 }
