@@ -17,16 +17,19 @@ use Rattle.chr_rules.specs.RuleView.{goal_view, rule_view}
 use Rattle.chr_rules.specs.declared.goal.Goal.{Goal}
 use Rattle.chr_base.specs.Standing.{AreStanding}
 use Rattle.chr_find.specs.Finding as table
+use Rattle.chr_find.specs.Finding.{HasTried}
 use Rattle.chr_find.specs.Shown.{AllOver, Rises}
 use Rattle.chr_find.specs.TableView.{HasRows, atom_at, lives}
 use Rattle.chr_find.specs.declared.active.Active.{Active}
 use Rattle.chr_find.specs.declared.active.Cursor.{Cursor}
+use Rattle.chr_find.specs.declared.tried.Tried.{Tried}
 use Rattle.chr_base.specs.Agreement.{is_alive, under}
 use Rattle.chr_base.specs.BaseView.{IsFresh, base_view}
 use Rattle.chr_base.specs.Model.{rows_of}
 use Rattle.chr_base.specs.Searching.{FindsFirst, FindsNext, IsBodyFor, IsTried, occurrence_of}
 use Rattle.chr_base.specs.declared.base.Base.{Base}
-use Rattle.chr_semantics.specs.Profile.{tries_of}
+use Rattle.chr_semantics.specs.Profile.{Count, counted_of}
+use Rattle.chr_semantics.specs.Trail.{partial_lists}
 
 over_resolved : (s : Subst) (n : ℕ) (rows : List Row) → AllOver n rows → AllOver n (map (λ (r : Row). (r.0, resolved_atom s r.1)) rows)
 over_resolved s n [] h = tt
@@ -83,15 +86,21 @@ module _ {A : Type 0} (b : Base A) (fresh : IsFresh b) where
   pub found_none : (s : Active A) → None ≡ atom_at b.table s.id.0 → FindsFirst (base_view b) s None
   found_none s none a e = absurd (none-some a (none ∙ table_own s.id.0 a e))
 
-  -- how many lists it tries
-  pub tried_some : (s : Active A) (now : ℕ) (found : Option (List ℕ)) (a : Atom) → table.FindsFirst (base_view b).entries.list b.table s found 0 now → Some a ≡ atom_at b.table s.id.0 → IsTried (base_view b) s now
-  tried_some s now found a f there =
-      let n = tried_tuples (rows_of (base_view b)) (base_view b).entries.list s.number (rule_view s.rule.now) s.place (s.id.0, a) in
-      let all : 0 + n ≡ n = omega arith in
-      (f (rows_of (base_view b)) table_rows a (sym there)).1 ∙ ap capped all ∙ sym (ap (tries_of (rows_of (base_view b)) (base_view b).entries.list s.id.0 (occurrence_of s)) (table_rows.same s.id.0 ∙ sym there))
+  -- how many lists it looks at
+  counted_some : (f : Count) (s : Active A) (a : Atom) → Some a ≡ atom_at b.table s.id.0
+      → capped (f (rows_of (base_view b)) (base_view b).entries.list s.number (rule_view s.rule.now) s.place (s.id.0, a)) ≡ counted_of f (rows_of (base_view b)) (base_view b).entries.list s.id.0 (occurrence_of s) (atom_of (rows_of (base_view b)) s.id.0)
+  counted_some f s a there = sym (ap (counted_of f (rows_of (base_view b)) (base_view b).entries.list s.id.0 (occurrence_of s)) (table_rows.same s.id.0 ∙ sym there))
 
-  pub tried_none : (s : Active A) → None ≡ atom_at b.table s.id.0 → IsTried (base_view b) s 0
-  tried_none s none = sym (ap (tries_of (rows_of (base_view b)) (base_view b).entries.list s.id.0 (occurrence_of s)) (table_rows.same s.id.0 ∙ sym none))
+  pub tried_some : (s : Active A) (tried : Tried) (a : Atom) → HasTried (base_view b).entries.list b.table s tried → Some a ≡ atom_at b.table s.id.0 → IsTried (base_view b) s tried
+  tried_some s tried a f there =
+      let both = f (rows_of (base_view b)) table_rows a (sym there) in
+      (both.0 ∙ counted_some tried_tuples s a there, both.1 ∙ counted_some partial_lists s a there)
+
+  counted_none : (f : Count) (s : Active A) → None ≡ atom_at b.table s.id.0 → 0 ≡ counted_of f (rows_of (base_view b)) (base_view b).entries.list s.id.0 (occurrence_of s) (atom_of (rows_of (base_view b)) s.id.0)
+  counted_none f s none = sym (ap (counted_of f (rows_of (base_view b)) (base_view b).entries.list s.id.0 (occurrence_of s)) (table_rows.same s.id.0 ∙ sym none))
+
+  pub tried_none : (s : Active A) (tried : Tried) → tried.lists ≡ 0 → tried.partial ≡ 0 → None ≡ atom_at b.table s.id.0 → IsTried (base_view b) s tried
+  tried_none s tried lists partial none = (lists ∙ counted_none tried_tuples s none, partial ∙ counted_none partial_lists s none)
 
   -- what does not live does not stand in the table
   pub found_dead : (i : ℕ) → atom_of (base_view b).store.rows i ≡ None → atom_at b.table i ≡ None

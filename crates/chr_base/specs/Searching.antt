@@ -8,10 +8,12 @@ use Rattle.chr_semantics.specs.Search.{atom_of, ids_of}
 use Rattle.chr_semantics.specs.State.{Element}
 use Rattle.chr_semantics.specs.Step.{body_of}
 use Rattle.chr_semantics.specs.Subst.{Subst}
-use Rattle.chr_semantics.specs.Profile.{tries_of}
+use Rattle.chr_semantics.specs.Profile.{counted_of}
 use Rattle.chr_find.specs.First.{IsFirst}
+use Rattle.chr_find.specs.TriedView.{AreTried}
 use Rattle.chr_find.specs.declared.active.Active.{Active}
 use Rattle.chr_find.specs.declared.active.Cursor.{Cursor}
+use Rattle.chr_find.specs.declared.tried.Tried.{Tried}
 use Rattle.chr_base.specs.Model.{BaseModel, rows_of}
 
 -- the occurrence at which a constraint is active
@@ -33,9 +35,9 @@ module _ {A : Type 0} (b : BaseModel) (s : Active A) where
       ForOwn (λ a. IsSpent (rows_of b) b.entries.list s.number (rule_view s.rule.now) s.place a c.after c.from
       → IsFirst (rows_of b) b.entries.list s.number (rule_view s.rule.now) s.place a found)
 
-  -- how many complete lists a search that begins anew tries
-  abbrev pub IsTried : ℕ → Type 0
-  IsTried n = n ≡ tries_of (rows_of b) b.entries.list s.id.0 (occurrence_of s) (atom_of (rows_of b) s.id.0)
+  -- how many lists a search that begins anew looks at
+  abbrev pub IsTried : Tried → Type 0
+  IsTried = AreTried (λ count. counted_of count (rows_of b) b.entries.list s.id.0 (occurrence_of s) (atom_of (rows_of b) s.id.0))
 
 -- the goals are those of the rule's body, where the constraints with these identities fit its heads
 abbrev pub IsBodyFor : BaseModel → Rule → List ℕ → List Element → Type 0

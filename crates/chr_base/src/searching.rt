@@ -11,7 +11,7 @@ ghost use Rattle.chr_find.specs.TableView.{IsFor, atom_at};
 use crate::Memory;
 use crate::base::Base;
 use crate::heads::build_fired;
-use chr_find::{Active, Cursor};
+use chr_find::{Active, Cursor, Tried};
 use chr_rules::{Goal, Rule};
 use chr_store::{HeadIds, Id, Row};
 use std::alloc::Allocator;
@@ -112,12 +112,12 @@ impl<'p, A: Allocator + Copy> Base<'p, A> {
             None => return Ok(None),
             Some(row) => row,
         };
-        let mut tries = 0;
+        let mut tried = Tried::nothing();
         match self.cursor(active) {
-            None => self.table.first(active, row, &self.history, &mut tries),
+            None => self.table.first(active, row, &self.history, &mut tried),
             Some(cursor) => self
                 .table
-                .next(active, row, &self.history, &cursor, &mut tries),
+                .next(active, row, &self.history, &cursor, &mut tried),
         }
     }
 
@@ -142,23 +142,21 @@ impl<'p, A: Allocator + Copy> Base<'p, A> {
     }
 
     /// How many lists a search of a table looks at that is ready for the active constraint.
-    fn tried(&self, active: &Active<'_, A>) -> Result<u64, Memory>
+    fn tried(&self, active: &Active<'_, A>) -> Result<Tried, Memory>
         requires fresh { IsFresh self.now }
         requires own { IsFor active.now.id.0 self.now.table }
         ensures { IfOk result (IsTried (base_view self.now) active.now) }
     {
         let row = match self.row(active.id) {
-            None => return Ok(0),
+            None => return Ok(Tried::nothing()),
             Some(row) => row,
         };
-        let mut tries = 0;
-        let _found = self.table.first(active, row, &self.history, &mut tries)?;
-        Ok(tries)
+        self.table.tried(active, row, &self.history)
     }
 
-    /// How many complete lists of partners a search for the active constraint looks at that begins anew: up to and with the first with which
-    /// the rule can fire, and no more than 64 bits count. Contracts see the same base, after a refusal too.
-    pub fn tries(&mut self, active: &Active<'_, A>) -> Result<u64, Memory>
+    /// How many lists a search for the active constraint looks at that begins anew: the complete ones up to and with the first with which the
+    /// rule can fire, and the partial ones up to it; no more than 64 bits count. Contracts see the same base, after a refusal too.
+    pub fn tries(&mut self, active: &Active<'_, A>) -> Result<Tried, Memory>
         ensures same { base_view self.new ≡ base_view self.old }
         ensures fresh { OnOk result (IsFresh self.new) }
         ensures tries { IfOk result (IsTried (base_view self.old) active.now) }

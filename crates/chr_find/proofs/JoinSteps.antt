@@ -45,7 +45,7 @@ left_out rows a place hs used k m h c known same (inl e) = step_used rows a plac
 left_out rows a place hs used k m h c known same (inr e) = step_misfit rows a place hs used k m h c e
 
 -- the own identity and the partners so far
-known_as : (a : Row) (own : ℕ) (used prefix : List ℕ) → a.0 ≡ own → ((c : ℕ) → has_number used c ≡ has_number prefix c) → (c : ℕ) → has_number (a.0 ∷ used) c ≡ has_number (own ∷ prefix) c
+pub known_as : (a : Row) (own : ℕ) (used prefix : List ℕ) → a.0 ≡ own → ((c : ℕ) → has_number used c ≡ has_number prefix c) → (c : ℕ) → has_number (a.0 ∷ used) c ≡ has_number (own ∷ prefix) c
 known_as a own used prefix e h c = cc (e, h c)
 
 module _ {A : Type 0} (rows : List Row) (h : History) (r : ℕ) (rule : Rule) (place own level : ℕ) (partners : List ℕ) (matching : Match A) (from quiet : ℕ) (threshold : Threshold) (head : Atom) where

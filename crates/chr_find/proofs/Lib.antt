@@ -29,6 +29,7 @@ pub mod OwnFirst
 pub mod OwnJoins
 pub mod OwnRow
 pub mod OwnSearch
+pub mod PartialLists
 pub mod PassedRows
 pub mod Rebinds
 pub mod RuleClashes
@@ -47,6 +48,8 @@ pub mod TableShown
 pub mod TakenFirings
 pub mod TakenRows
 pub mod TakenSnapshots
+pub mod TrailSteps
+pub mod TrailVisits
 pub mod Visits
 pub mod Walk
 pub mod WalkSpans

@@ -11,6 +11,7 @@ pub mod Joins
 pub mod LentKeysView
 pub mod CursorStateView
 pub mod Newest
+pub mod Partial
 pub mod IndexChangeView
 pub mod PendingIndexView
 pub mod PendingFiringsView
@@ -27,3 +28,4 @@ pub mod Shown
 pub mod SnapshotView
 pub mod TableView
 pub mod Taking
+pub mod TriedView

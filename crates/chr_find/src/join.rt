@@ -50,8 +50,8 @@ impl<'a, P: FiringHistory, A: Allocator + Copy> Search<'a, P, A> {
         }
     }
 
-    /// The first list that begins with the partners so far, fits and may fire, and one try more for each complete list. Where none is
-    /// found, the match is as before.
+    /// The first list that begins with the partners so far, fits and may fire, with one try more for each complete list, and one partial
+    /// list more each time a partner is looked for. Where none is found, the match is as before.
     #[cycle(join)]
     pub(crate) fn join(
         &self,
@@ -70,6 +70,7 @@ impl<'a, P: FiringHistory, A: Allocator + Copy> Search<'a, P, A> {
         if level == self.place {
             return self.join(&self.longer(prefix, self.own), matching, reached);
         }
+        reached.tried.partial = reached.tried.partial.saturating_add(1);
         let (sym, args) = &self.rule.heads[level];
         let bucket = bucket_for(self.plan, self.rows, *sym, args.as_slice(), matching);
         let least = self.least(prefix);
@@ -95,8 +96,9 @@ impl<'a, P: FiringHistory, A: Allocator + Copy> Search<'a, P, A> {
         ensures { IfOk result (WalkLeads (P.history self.now.past.now) self.now prefix.now
             (walk bucket.now span.now) matching.old matching.new reached.old reached.new) }
     {
-        // For the proof: that the count has 64 bits is known once it is read.
-        let _so_far = reached.tries;
+        // For the proof: that the counts have 64 bits is known once they are read.
+        let _lists = reached.tried.lists;
+        let _partial = reached.tried.partial;
         let middle = match span.middle() {
             None => return Ok(false),
             Some(middle) => middle,
@@ -163,8 +165,9 @@ impl<'a, P: FiringHistory, A: Allocator + Copy> Search<'a, P, A> {
         ensures { IfOk result (RowLeads (P.history self.now.past.now) self.now prefix.now
             (id.0, row_atom row.now) matching.old matching.new reached.old reached.new) }
     {
-        // For the proof: that the count has 64 bits is known once it is read.
-        let _so_far = reached.tries;
+        // For the proof: that the counts have 64 bits is known once they are read.
+        let _lists = reached.tried.lists;
+        let _partial = reached.tried.partial;
         let head = &self.rule.heads[prefix.partners.len()];
         if takes(self.own, &prefix.partners, head, id, row, matching) {
             self.join(&self.longer(prefix, id), matching, reached)
@@ -184,12 +187,13 @@ impl<'a, P: FiringHistory, A: Allocator + Copy> Search<'a, P, A> {
         ensures { IfOk result (JoinLeads (P.history self.now.past.now) self.now prefix.now
             matching.now matching.now reached.old reached.new) }
     {
-        // For the proof: that the count has 64 bits is known once it is read.
-        let _so_far = reached.tries;
+        // For the proof: that the counts have 64 bits is known once they are read.
+        let _lists = reached.tried.lists;
+        let _partial = reached.tried.partial;
         if !prefix.mode.is_free() {
             return Ok(false);
         }
-        reached.tries = reached.tries.saturating_add(1);
+        reached.tried.lists = reached.tried.lists.saturating_add(1);
         let fired = Fired {
             rule: self.number,
             ids: prefix.partners,

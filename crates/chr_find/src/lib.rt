@@ -31,6 +31,7 @@ mod snapshot_taking;
 mod table;
 mod table_search;
 mod task_search;
+mod tried;
 
 pub use active::{Active, Cursor};
 pub use answer::{Found, find};
@@ -40,3 +41,4 @@ pub use pending_firings::PendingFirings;
 pub use plan::{Lookup, Plan};
 pub use snapshot::{Snapshot, Task};
 pub use table::Table;
+pub use tried::Tried;

@@ -5,7 +5,7 @@ ghost use Rattle.chr_store.specs.Rows.{row_atom};
 ghost use Rattle.chr_semantics.specs.Program.{Head};
 ghost use Rattle.chr_find.specs.Barren.{IsBarren, LacksPartner};
 ghost use Rattle.chr_find.specs.PlanView.{lookups_of};
-ghost use Rattle.chr_find.specs.SearchIs.{OwnFinds};
+ghost use Rattle.chr_find.specs.SearchIs.{OwnCounts, OwnFinds};
 ghost use Rattle.chr_find.specs.Shown.{ForRows};
 
 use crate::Memory;
@@ -14,6 +14,7 @@ use crate::cursor_state::CursorState;
 use crate::firing_history::FiringHistory;
 use crate::new_partners::has_new;
 use crate::search::{Prefix, Reached, Search};
+use crate::tried::Tried;
 use chr_bind::Match;
 use chr_store::{HeadIds, Row};
 use std::alloc::Allocator;
@@ -45,24 +46,27 @@ impl<'a, P: FiringHistory, A: Allocator + Copy> Search<'a, P, A> {
         false
     }
 
-    /// The first list with the own constraint in its place that may fire, and one try more for each complete list.
+    /// The first list with the own constraint in its place that may fire, and what was tried beside.
     pub(crate) fn first(
         &self,
         row: &'a Row<A>,
         mode: CursorState,
-        tries: &mut u64,
+        tried: &mut Tried,
     ) -> Result<Option<HeadIds>, Memory>
-        ensures { IfOk result (λ found. OwnFinds (P.history self.now.past.now) self.now
-            (row_atom row.now) mode found tries.old tries.new) }
+        ensures finds { IfOk result (λ found. OwnFinds (P.history self.now.past.now) self.now
+            (row_atom row.now) mode found tried.old.lists tried.new.lists) }
+        ensures counts { IfOk result (λ found. self.now.counts ≡ true → OwnCounts (P.history self.now.past.now) self.now
+            (row_atom row.now) mode found tried.old.partial tried.new.partial) }
     {
-        // For the proof: that the count has 64 bits is known once it is read.
-        let _so_far = *tries;
+        // For the proof: that the counts have 64 bits is known once they are read.
+        let _lists = tried.lists;
+        let _partial = tried.partial;
         let mut matching = Match::new();
         if !fits(&self.rule.heads[self.place], row, &mut matching) {
             return Ok(None);
         }
         // With one partner there is no other to ask for.
-        if self.rule.heads.len() > 2 && self.lacks_partner(&matching) {
+        if self.rule.heads.len() > 2 && !self.counts && self.lacks_partner(&matching) {
             return Ok(None);
         }
         let start = Prefix {
@@ -71,10 +75,10 @@ impl<'a, P: FiringHistory, A: Allocator + Copy> Search<'a, P, A> {
         };
         let mut reached = Reached {
             partners: HeadIds::new(),
-            tries: *tries,
+            tried: *tried,
         };
         let is_found = self.join(&start, &mut matching, &mut reached)?;
-        *tries = reached.tries;
+        *tried = reached.tried;
         if is_found {
             Ok(Some(reached.partners))
         } else {

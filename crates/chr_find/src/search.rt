@@ -5,6 +5,7 @@ ghost use Rattle.chr_find.specs.SearchView.{IsSearchable};
 use crate::cursor_state::CursorState;
 use crate::index::Index;
 use crate::plan::Plan;
+use crate::tried::Tried;
 use chr_rules::Rule;
 use chr_store::{HeadIds, Id};
 use std::alloc::Allocator;
@@ -29,6 +30,8 @@ pub(crate) struct Search<'a, P, A: Allocator> {
     pub(crate) from: u64,
     /// From this head on, counted from 0, no constraint for a head is new.
     pub(crate) quiet: usize,
+    /// Whether each partial list counts, so that none is left out.
+    pub(crate) counts: bool,
     ghost searchable: { IsSearchable rule.now place } by { Prim.hlevel bounds },
 }
 
@@ -44,6 +47,5 @@ pub(crate) struct Prefix {
 pub(crate) struct Reached {
     /// The partners, where they are found.
     pub(crate) partners: HeadIds,
-    /// How many complete lists were looked at.
-    pub(crate) tries: u64,
+    pub(crate) tried: Tried,
 }

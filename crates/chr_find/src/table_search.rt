@@ -1,8 +1,9 @@
 //! The search of a table.
-ghost use Rattle.std.specs.Prelude.{◌≡◌, IfOk, Some};
-ghost use Rattle.chr_find.specs.Finding.{FindsFirst, FindsJoined, FindsNext};
+ghost use Rattle.std.specs.Prelude.{◌≡◌, IfOk, Some, true};
+ghost use Rattle.chr_find.specs.Finding.{FindsFirst, FindsJoined, FindsNext, FitsJoined, HasTried};
 ghost use Rattle.chr_store.specs.Rows.{row_atom};
 ghost use Rattle.chr_find.specs.CursorStateView.{threshold_of};
+ghost use Rattle.chr_find.specs.Threshold.{free};
 ghost use Rattle.chr_find.specs.TableView.{IsFor, IsSettled, atom_at};
 
 use crate::Memory;
@@ -12,6 +13,7 @@ use crate::firing_history::FiringHistory;
 use crate::new_partners::quiet_from;
 use crate::search::Search;
 use crate::table::Table;
+use crate::tried::Tried;
 use chr_store::{HeadIds, Row};
 use std::alloc::Allocator;
 
@@ -26,15 +28,16 @@ impl<A: Allocator + Copy> Table<A> {
         after: &HeadIds,
         from: u64,
         quiet: usize,
-        tries: &mut u64,
+        counts: bool,
+        tried: &mut Tried,
     ) -> Result<Option<HeadIds>, Memory>
         requires settled { IsSettled self.now }
         requires row { atom_at self.now active.now.id.0 ≡ Some (row_atom own.now) }
-        ensures { IfOk result (λ found. FindsJoined (P.history past.now) self.now active.now from quiet
-            (threshold_of mode after.now) found tries.old tries.new) }
+        ensures finds { IfOk result (λ found. FindsJoined (P.history past.now) self.now active.now from quiet
+            (threshold_of mode after.now) found tried.old.lists tried.new.lists) }
+        ensures counts { IfOk result (λ found. counts ≡ true → threshold_of mode after.now ≡ free →
+            FitsJoined (P.history past.now) self.now active.now found tried.old.partial tried.new.partial) }
     {
-        // For the proof: that the count has 64 bits is known once it is read.
-        let _so_far = *tries;
         let search = Search {
             alloc: self.alloc,
             plan: self.index.plan.value(),
@@ -47,27 +50,26 @@ impl<A: Allocator + Copy> Table<A> {
             after,
             from,
             quiet,
+            counts,
         };
-        search.first(own, mode, tries)
+        search.first(own, mode, tried)
     }
 
-    /// The first list of partners with which the rule can fire, and one try more for each complete list that was looked at. The active
-    /// constraint has this row, and the table is ready to be searched for it.
+    /// The first list of partners with which the rule can fire, and one try more for each complete list that was looked at: of partial
+    /// lists, no more are looked at than that takes. The active constraint has this row, and the table is ready to be searched for it.
     pub fn first<P: FiringHistory>(
         &self,
         active: &Active<'_, A>,
         own: &Row<A>,
         past: &P,
-        tries: &mut u64,
+        tried: &mut Tried,
     ) -> Result<Option<HeadIds>, Memory>
         requires settled { IsSettled self.now }
         requires own { IsFor active.now.id.0 self.now }
         requires row { atom_at self.now active.now.id.0 ≡ Some (row_atom own.now) }
-        ensures { IfOk result (λ found. FindsFirst (P.history past.now) self.now active.now found tries.old
-            tries.new) }
+        ensures { IfOk result (λ found. FindsFirst (P.history past.now) self.now active.now found tried.old.lists
+            tried.new.lists) }
     {
-        // For the proof: that the count has 64 bits is known once it is read.
-        let _so_far = *tries;
         let quiet = active.rule.heads.len();
         let after = HeadIds::new();
         self.found(
@@ -78,7 +80,8 @@ impl<A: Allocator + Copy> Table<A> {
             &after,
             0,
             quiet,
-            tries,
+            false,
+            tried,
         )
     }
 
@@ -89,15 +92,13 @@ impl<A: Allocator + Copy> Table<A> {
         own: &Row<A>,
         past: &P,
         cursor: &Cursor,
-        tries: &mut u64,
+        tried: &mut Tried,
     ) -> Result<Option<HeadIds>, Memory>
         requires settled { IsSettled self.now }
         requires own { IsFor active.now.id.0 self.now }
         requires row { atom_at self.now active.now.id.0 ≡ Some (row_atom own.now) }
         ensures { IfOk result (λ found. FindsNext (P.history past.now) self.now active.now cursor.now found) }
     {
-        // For the proof: that the count has 64 bits is known once it is read.
-        let _so_far = *tries;
         let (plan, rows) = (self.index.plan.value(), &self.index.rows);
         let from = cursor.from;
         let quiet = quiet_from(plan, rows, active.rule, active.place, active.id.0, from);
@@ -109,7 +110,38 @@ impl<A: Allocator + Copy> Table<A> {
             &cursor.after,
             from,
             quiet,
-            tries,
+            false,
+            tried,
         )
+    }
+
+    /// What a search looks at that begins anew: the complete lists, up to and with the first with which the rule can fire, and the partial
+    /// ones up to it. The active constraint has this row, and the table is ready to be searched for it.
+    pub fn tried<P: FiringHistory>(
+        &self,
+        active: &Active<'_, A>,
+        own: &Row<A>,
+        past: &P,
+    ) -> Result<Tried, Memory>
+        requires settled { IsSettled self.now }
+        requires own { IsFor active.now.id.0 self.now }
+        requires row { atom_at self.now active.now.id.0 ≡ Some (row_atom own.now) }
+        ensures { IfOk result (HasTried (P.history past.now) self.now active.now) }
+    {
+        let quiet = active.rule.heads.len();
+        let after = HeadIds::new();
+        let mut tried = Tried::nothing();
+        let _found = self.found(
+            active,
+            own,
+            past,
+            CursorState::Free,
+            &after,
+            0,
+            quiet,
+            true,
+            &mut tried,
+        )?;
+        Ok(tried)
     }
 }

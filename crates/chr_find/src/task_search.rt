@@ -14,6 +14,7 @@ use crate::answer::Found;
 use crate::firing_history::FiringHistory;
 use crate::snapshot::Task;
 use crate::table::Table;
+use crate::tried::Tried;
 use chr_rules::Program;
 use chr_store::HeadIds;
 use std::alloc::Allocator;
@@ -42,7 +43,10 @@ pub(crate) fn search<P: FiringHistory, A: Allocator + Copy>(
         Some(occurrence) => occurrence,
     };
     let active = Active::at(program, occurrence, task.goal);
-    let mut tries = 0;
-    let ids = table.first(&active, row, past, &mut tries)?;
-    Ok(Found { ids, tries })
+    let mut tried = Tried::nothing();
+    let ids = table.first(&active, row, past, &mut tried)?;
+    Ok(Found {
+        ids,
+        tries: tried.lists,
+    })
 }

@@ -1,6 +1,6 @@
 -- What a run cost.
 use Rattle.std.specs.Prelude.{◌≡◌, ℕ, Option, false, get_or}
-use Rattle.chr_semantics.specs.Profile.{Kind, finds_in, is_woken_at, of_kind, searches_in, solves_in, tries_in, wakes_in, woken_fire_in}
+use Rattle.chr_semantics.specs.Profile.{Kind, finds_in, is_woken_at, of_kind, partial_in, searches_in, solves_in, tries_in, wakes_in, woken_fire_in}
 use Rattle.chr_semantics.specs.Program.{Program}
 use Rattle.chr_semantics.specs.State.{State}
 use Rattle.chr_semantics.specs.Tries.{capped}
@@ -8,10 +8,10 @@ use Rattle.chr_look.specs.CostView.{cost_in, solves_of}
 use Rattle.chr_look.specs.KindView.{count_in}
 use Rattle.chr_look.specs.declared.profile.Profile.{Profile}
 
--- of the first n transitions, as far as numbers of 64 bits go: the searches at a head of a rule, how many of them fired it, and the lists
--- that they tried
-abbrev pub costs_of : Program → State → ℕ → ℕ → ℕ → ℕ × ℕ × ℕ
-costs_of p s n r k = (capped (searches_in p s n r k), capped (finds_in p s n r k), capped (tries_in p s n r k))
+-- of the first n transitions, as far as numbers of 64 bits go: the searches at a head of a rule, how many of them fired it, the lists that
+-- they tried, and the partial ones that fitted
+abbrev pub costs_of : Program → State → ℕ → ℕ → ℕ → ℕ × ℕ × ℕ × ℕ
+costs_of p s n r k = (capped (searches_in p s n r k), capped (finds_in p s n r k), capped (tries_in p s n r k), capped (partial_in p s n r k))
 
 -- those of a kind
 abbrev pub counts_of : Program → State → ℕ → Kind → ℕ

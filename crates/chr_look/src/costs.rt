@@ -4,6 +4,7 @@ ghost use Rattle.chr_semantics.specs.Profile.{is_place, same_rule};
 ghost use Rattle.chr_rules.specs.Index.{pair_view};
 ghost use Rattle.chr_look.specs.CostView.{cost_at, cost_in, cost_view, noted_cost, noted_solve, solve_view, solves_of};
 
+use chr_machine::Tried;
 use chr_rules::Occurrence;
 use chr_term::Memory;
 use std::alloc::{Allocator, Global};
@@ -17,6 +18,8 @@ pub struct HeadCost {
     pub finds: u64,
     /// How many complete lists of constraints were tried.
     pub tries: u64,
+    /// How many lists fitted so far, so that a partner for their next head was looked for.
+    pub partial: u64,
 }
 
 /// What the built-ins did that stand in the body of a rule, or in the query.
@@ -33,6 +36,7 @@ const NO_COST: HeadCost = HeadCost {
     searches: 0,
     finds: 0,
     tries: 0,
+    partial: 0,
 };
 
 /// Nothing was told.
@@ -43,14 +47,15 @@ const NO_SOLVES: SolveCost = SolveCost {
 
 impl HeadCost {
     /// One more search.
-    fn note(&mut self, fires: bool, tries: u64)
-        ensures { cost_view self.new ≡ noted_cost fires tries (cost_view self.old) }
+    fn note(&mut self, fires: bool, tried: Tried)
+        ensures { cost_view self.new ≡ noted_cost fires tried (cost_view self.old) }
     {
         self.searches = self.searches.saturating_add(1);
         if fires {
             self.finds = self.finds.saturating_add(1);
         }
-        self.tries = self.tries.saturating_add(tries);
+        self.tries = self.tries.saturating_add(tried.lists);
+        self.partial = self.partial.saturating_add(tried.partial);
     }
 }
 
@@ -86,13 +91,13 @@ fn note_at<A: Allocator>(
     row: &mut Vec<HeadCost, A>,
     head: usize,
     fires: bool,
-    tries: u64,
+    tried: Tried,
 ) -> Result<(), Memory>
     ensures { OnOk result ((k : ℕ) → cost_at row.new.items k
-        ≡ cond (head == k) (noted_cost fires tries (cost_at row.old.items k)) (cost_at row.old.items k)) }
+        ≡ cond (head == k) (noted_cost fires tried (cost_at row.old.items k)) (cost_at row.old.items k)) }
 {
     grow(row, head, NO_COST)?;
-    row[head].note(fires, tries);
+    row[head].note(fires, tried);
     Ok(())
 }
 
@@ -118,16 +123,16 @@ pub(crate) fn note_search<A: Allocator + Copy>(
     heads: &mut Vec<Vec<HeadCost, A>, A>,
     place: Option<Occurrence>,
     fires: bool,
-    tries: u64,
+    tried: Tried,
 ) -> Result<(), Memory>
     ensures { OnOk result ((r k : ℕ) → cost_in heads.new.items r k ≡ cond (is_place r k (option_map pair_view place))
-        (noted_cost fires tries (cost_in heads.old.items r k)) (cost_in heads.old.items r k)) }
+        (noted_cost fires tried (cost_in heads.old.items r k)) (cost_in heads.old.items r k)) }
 {
     let Some(at) = place else {
         return Ok(());
     };
     grow_rows(alloc, heads, at.rule)?;
-    note_at(&mut heads[at.rule], at.place, fires, tries)
+    note_at(&mut heads[at.rule], at.place, fires, tried)
 }
 
 /// What was done at a head of a rule.

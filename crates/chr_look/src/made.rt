@@ -14,7 +14,7 @@ use crate::log::Sight;
 use crate::looking::is_running;
 use crate::next::{Next, kind_of, next_of, place_of};
 use crate::watching::{Watched, sight_of};
-use chr_machine::Machine;
+use chr_machine::{Machine, Tried};
 use chr_rules::Occurrence;
 use chr_term::Memory;
 use std::alloc::Allocator;
@@ -24,8 +24,8 @@ use std::alloc::Allocator;
 pub(crate) struct Seen {
     /// What the transition does.
     next: Option<Next>,
-    /// How many complete lists its search tries.
-    tries: u64,
+    /// What its search looks at.
+    tried: Tried,
     sight: Sight,
     /// The rule whose firing put the top on the stack, where one did.
     rule: Option<usize>,
@@ -39,8 +39,8 @@ pub(crate) struct Made {
     pub(crate) place: Option<Occurrence>,
     /// Whether a rule fired.
     pub(crate) fires: bool,
-    /// How many complete lists its search tried.
-    pub(crate) tries: u64,
+    /// What its search looked at.
+    pub(crate) tried: Tried,
     /// How high the stack was before it.
     pub(crate) height: usize,
     /// The rule whose firing put the goal on the stack, where one did.
@@ -68,10 +68,10 @@ impl Seen {
         ensures seen { IfOk result (λ seen. (p : semantics.Program) (q : semantics.Query)
             → IsWatched p q watched.old → IsSeen p (start q) (machine_in watched.old).steps seen) }
     {
-        let tries = watched.tries()?;
+        let tried = watched.tries()?;
         Ok(Seen {
             next: next_of(watched.machine()),
-            tries,
+            tried,
             sight: sight_of(watched.machine()),
             rule: watched.goal_rule(),
         })
@@ -87,7 +87,7 @@ impl Seen {
             kind: kind_of(self.next, fires),
             place: place_of(self.next),
             fires,
-            tries: self.tries,
+            tried: self.tried,
             height: self.sight.height,
             rule: self.rule,
             put: put(machine, self.sight.height),

@@ -113,7 +113,7 @@ impl<A: Allocator + Copy> Profile<A> {
             &mut self.heads,
             made.place,
             made.fires,
-            made.tries,
+            made.tried,
         )?;
         note_solve(&mut self.solves, made)?;
         note_turn(&mut self.woken, made.height, made.kind)?;

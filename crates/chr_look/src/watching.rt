@@ -1,7 +1,7 @@
 //! Runs that are watched: each transition is noted.
 ghost use Rattle.std.specs.Prelude.{◌≡◌, IfOk, OnOk, Some, option_map};
 ghost use Rattle.chr_semantics.specs.Bounds.{IsQueryBounded};
-ghost use Rattle.chr_semantics.specs.Profile.{goal_of, tries_next};
+ghost use Rattle.chr_semantics.specs.Profile.{counted_next, goal_of};
 ghost use Rattle.chr_semantics.specs.Program as semantics;
 ghost use Rattle.chr_semantics.specs.Search.{atom_of};
 ghost use Rattle.chr_semantics.specs.State.{start};
@@ -9,6 +9,7 @@ ghost use Rattle.chr_rules.specs.ProgramView.{names_of, rules_of};
 ghost use Rattle.chr_rules.specs.RuleView.{query_view};
 ghost use Rattle.chr_term.specs.TermView.{atom_over};
 ghost use Rattle.chr_store.specs.HistoryView.{firings_view};
+ghost use Rattle.chr_find.specs.TriedView.{AreTried};
 ghost use Rattle.chr_machine.specs.MachineView.{Steps, Starts, machine_view};
 ghost use Rattle.chr_machine.specs.Model.{state_in};
 ghost use Rattle.chr_look.specs.Logs.{entry_at, sight};
@@ -16,7 +17,7 @@ ghost use Rattle.chr_look.specs.LogView.{sight_view};
 ghost use Rattle.chr_look.specs.Watching.{IsWatched, machine_in};
 
 use crate::log::{Log, Sight};
-use chr_machine::{Id, Machine, Stepped};
+use chr_machine::{Id, Machine, Stepped, Tried};
 use chr_rules::{Program, Query};
 use chr_store::Entry;
 use chr_term::{Args, Memory, Sym};
@@ -76,12 +77,12 @@ impl<'p, A: Allocator + Copy> Watched<'p, A> {
         Ok(Watched { machine, log })
     }
 
-    /// How many complete lists a search that begins anew tries for the constraint that is active; 0 where the next transition makes no search.
-    /// Contracts see the same run.
-    pub fn tries(&mut self) -> Result<u64, Memory>
+    /// How many lists a search that begins anew looks at for the constraint that is active, complete ones and partial ones; none where the next
+    /// transition makes no search. Contracts see the same run.
+    pub fn tries(&mut self) -> Result<Tried, Memory>
         ensures same { machine_in self.new ≡ machine_in self.old }
         ensures watched { (p : semantics.Program) (q : semantics.Query) → IsWatched p q self.old → IsWatched p q self.new }
-        ensures tries { let m = machine_in self.old in IfOk result (λ n. n ≡ tries_next m.rules (state_in m)) }
+        ensures tries { let m = machine_in self.old in IfOk result (AreTried (λ f. counted_next f m.rules (state_in m))) }
     {
         self.machine.tries()
     }

@@ -15,5 +15,5 @@ pub mod Stacks
 pub mod Starts
 pub mod Tops
 pub mod Transitions
-pub mod Tried
+pub mod TriedOnTop
 pub mod Woken

@@ -1,6 +1,6 @@
 -- The search of the next transition, by the top of the stack.
 use Rattle.std.specs.Prelude.{ℕ, List, [], ◌∷◌, None, Option, Some}
-use Rattle.chr_semantics.specs.Profile.{tries_at}
+use Rattle.chr_semantics.specs.Profile.{Count, counted_at}
 use Rattle.chr_semantics.specs.Program.{Program, occurrence}
 use Rattle.chr_semantics.specs.State.{Element, State, active, goal, known, rows}
 
@@ -11,7 +11,7 @@ searching (goal g ∷ es) = None
 searching (known i a ∷ es) = None
 searching (active i j a ∷ es) = Some (i, a.sym, j)
 
--- how many lists its search tries
-abbrev pub tries_by : Program → State → Option (ℕ × ℕ × ℕ) → ℕ
-tries_by p s None = 0
-tries_by p s (Some w) = tries_at (rows s) s.history w.0 (occurrence p w.1 w.2)
+-- how many lists its search looks at
+abbrev pub counted_by : Count → Program → State → Option (ℕ × ℕ × ℕ) → ℕ
+counted_by f p s None = 0
+counted_by f p s (Some w) = counted_at f (rows s) s.history w.0 (occurrence p w.1 w.2)

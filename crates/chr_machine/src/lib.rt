@@ -19,7 +19,7 @@ mod turning;
 mod waking;
 
 pub use chr_bind::Fault;
-pub use chr_find::{Found, Snapshot, Task};
+pub use chr_find::{Found, Snapshot, Task, Tried};
 pub use chr_store::{Fired, History, Id, Row, Store};
 pub use chr_trace::{Elem, Lines, Status};
 pub use machine::Machine;

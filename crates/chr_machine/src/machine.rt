@@ -2,7 +2,7 @@
 ghost use Rattle.std.specs.Prelude.{◌≡◌, ◌≤◌, IfOk, OnErr, length, nat_le, option_map};
 ghost use Rattle.chr_semantics.specs.Bounds.{IsQueryBounded};
 ghost use Rattle.chr_semantics.specs.Outcome.{outcome_of};
-ghost use Rattle.chr_semantics.specs.Profile.{tries_next};
+ghost use Rattle.chr_semantics.specs.Profile.{counted_next};
 ghost use Rattle.chr_semantics.specs.Snapshot.{snapshot_of};
 ghost use Rattle.chr_semantics.specs.Tasks.{guest, tasks};
 ghost use Rattle.chr_semantics.specs.declared.limits.TheConstants.{MAX_TRANSITIONS};
@@ -12,6 +12,7 @@ ghost use Rattle.chr_store.specs.HistoryView.{entries_view};
 ghost use Rattle.chr_store.specs.Numbers.{numbers};
 ghost use Rattle.chr_store.specs.StoreView.{store_view};
 ghost use Rattle.chr_find.specs.SnapshotView.{IsSnapshot, guest_view, task_view, tasks_view};
+ghost use Rattle.chr_find.specs.TriedView.{AreTried};
 ghost use Rattle.chr_trace.specs.State.{stack_view, status_view};
 ghost use Rattle.chr_machine.specs.Model.{model_of, state_in};
 ghost use Rattle.chr_machine.specs.NeedView.{Answers, need, need_view, plain, search_of};
@@ -25,7 +26,7 @@ use crate::outcome::Outcome;
 use crate::search_answer::SearchAnswer;
 use crate::stepped::Stepped;
 use chr_bind::Bindings;
-use chr_find::{Found, Snapshot, Task};
+use chr_find::{Found, Snapshot, Task, Tried};
 use chr_rules::{Program, Query};
 use chr_store::{HeadIds, History, Id, Store};
 use chr_term::{Memory, Sym, Term, VarNames};
@@ -164,13 +165,13 @@ impl<'p, A: Allocator + Copy> Machine<'p, A> {
         self.execution.snapshot()
     }
 
-    /// How many complete lists of partners a search that begins anew looks at for the constraint that is active on top, at its occurrence: up to
-    /// and with the first that can fire, and no more than 64 bits count. It is 0 where the next transition makes no search. The only error is
-    /// want of memory.
-    pub fn tries(&mut self) -> Result<u64, Memory>
+    /// How many lists a search that begins anew looks at for the constraint that is active on top, at its occurrence: the complete ones up to
+    /// and with the first that can fire, and the partial ones up to it; no more than 64 bits count. There are none where the next transition
+    /// makes no search. The only error is want of memory.
+    pub fn tries(&mut self) -> Result<Tried, Memory>
         ensures same { machine_view self.new ≡ machine_view self.old }
         ensures tries { let m = machine_view self.old in
-            IfOk result (λ n. n ≡ tries_next m.rules (state_in m)) }
+            IfOk result (AreTried (λ f. counted_next f m.rules (state_in m))) }
     {
         self.execution.tries()
     }

@@ -78,8 +78,7 @@ renamed_made n g m ts = instances-instances (beside n g m) (λ x. var (n + x)) t
 
 -- the later rows are the earlier ones, bound further
 abbrev pub AreBound : (ℕ → Tree) → List Row → List Row → Type 0
-AreBound g [] [] = Unit {0}
-AreBound g [] (c ∷ cs) = ⊥
+AreBound g [] cs = Unit {0}
 AreBound g (r ∷ rs) [] = ⊥
 AreBound g (r ∷ rs) (c ∷ cs) = (instances g r.1.args ≡ c.1.args) × AreBound g rs cs
 

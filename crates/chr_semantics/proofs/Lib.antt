@@ -43,6 +43,7 @@ pub mod KeyLaw
 pub mod SearchedLists
 pub mod JoinLaw
 pub mod TriesLaw
+pub mod TrailLaw
 pub mod CursorLaw
 pub mod LookLaw
 pub mod SnapshotLaw

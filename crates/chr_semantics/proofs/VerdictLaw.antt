@@ -1,6 +1,6 @@
 -- What a verdict on a rule and a list of constraints says.
-use Rattle.std.proofs.Common.{length, ◌≡◌, ◌∙◌, ◌+◌, ◌==◌, ◌&&◌, ◌∷◌, [], Bool, List, None, Option, Some, ap, arith, cond, not, refl, sym, true, false, true≢false, ℕ, ◌<◌, nat_lt, subst}
-use Rattle.std.proofs.lemmas.Bool.{and_parts}
+use Rattle.std.proofs.Common.{append-nil, length, ◌≡◌, ◌∙◌, ◌+◌, ◌==◌, ◌&&◌, ◌∷◌, ◌++◌, [], Bool, List, None, Option, Some, ap, arith, cond, not, refl, sym, true, false, true≢false, ℕ, ◌<◌, nat_lt, subst}
+use Rattle.std.proofs.lemmas.Bool.{and_from, and_parts}
 use Rattle.std.proofs.lemmas.List.{length-map}
 use Rattle.std.proofs.lemmas.Bool.Decides.{Decides-eqb}
 use Rattle.std.specs.List.{list_all}
@@ -238,16 +238,20 @@ lives_below lo hi i (x ∷ xs) a h e = by (x.0 == i) refl (lives_below (x.0 + 1)
 bound_twice : (s r : Subst) (ts : Trees) → Solves (value_at r) s → instances (value_at r) (instances (value_at s) ts) ≡ instances (value_at r) ts
 bound_twice s r ts h = instances-instances (value_at r) (value_at s) ts ∙ (λ k. instances (λ x. h x k) ts)
 
--- the rows of identities that live then and now
-bound_rows : (s t : State) → GoesOn s t → Ascends 0 s.store s.next_id → (ids : List ℕ) → list_all (λ i. is_some (atom_of s.store i)) ids ≡ true → list_all (λ i. is_some (atom_of t.store i)) ids ≡ true
-    → AreBound (value_at t.subst) (rows_of (rows s) ids) (rows_of (rows t) ids)
-bound_rows s t on h [] old now = tt
-bound_rows s t on h (i ∷ ids) old now = by (atom_of s.store i) (atom_of t.store i) refl refl (bound_rows s t on h ids) old now
+all_first : {X : Type 0} (test : X → Bool) (xs ys : List X) → list_all test (xs ++ ys) ≡ true → list_all test xs ≡ true
+all_first test [] ys e = refl
+all_first test (x ∷ xs) ys e = let parts = and_parts (test x) _ e in and_from (test x) (list_all test xs) parts.0 (all_first test xs ys parts.1)
+
+-- the rows of identities that live then and now; now others may stand behind them
+bound_rows : (s t : State) → GoesOn s t → Ascends 0 s.store s.next_id → (ids others : List ℕ) → list_all (λ i. is_some (atom_of s.store i)) ids ≡ true → list_all (λ i. is_some (atom_of t.store i)) ids ≡ true
+    → AreBound (value_at t.subst) (rows_of (rows s) ids) (rows_of (rows t) (ids ++ others))
+bound_rows s t on h [] others old now = tt
+bound_rows s t on h (i ∷ ids) others old now = by (atom_of s.store i) (atom_of t.store i) refl refl (bound_rows s t on h ids others) old now
   where
     by : (x y : Option Atom) → atom_of s.store i ≡ x → atom_of t.store i ≡ y
-        → (list_all (λ k. is_some (atom_of s.store k)) ids ≡ true → list_all (λ k. is_some (atom_of t.store k)) ids ≡ true → AreBound (value_at t.subst) (rows_of (rows s) ids) (rows_of (rows t) ids))
+        → (list_all (λ k. is_some (atom_of s.store k)) ids ≡ true → list_all (λ k. is_some (atom_of t.store k)) ids ≡ true → AreBound (value_at t.subst) (rows_of (rows s) ids) (rows_of (rows t) (ids ++ others)))
         → (is_some x && list_all (λ k. is_some (atom_of s.store k)) ids) ≡ true → (is_some y && list_all (λ k. is_some (atom_of t.store k)) ids) ≡ true
-        → AreBound (value_at t.subst) (rows_of (rows s) (i ∷ ids)) (rows_of (rows t) (i ∷ ids))
+        → AreBound (value_at t.subst) (rows_of (rows s) (i ∷ ids)) (rows_of (rows t) (i ∷ ids ++ others))
     by None y ex ey go old now = absurd (true≢false (sym old))
     by (Some a) None ex ey go old now = absurd (true≢false (sym now))
     by (Some a) (Some b) ex ey go old now =
@@ -263,20 +267,23 @@ some_match : (rule : Rule) (o : Option Subst) → passes_guard rule o ≡ true �
 some_match rule None e = absurd (true≢false (sym e))
 some_match rule (Some m) e = (m, refl)
 
-never_fires : (s t : State) → GoesOn s t → Ascends 0 s.store s.next_id → (r : ℕ) (rule : Rule) (ids way : List ℕ) (x y : Tree) → verdict s r rule ids ≡ unlike way x y → can_fire_with t r rule ids ≡ true → ⊥
-never_fires s t on h r rule ids way x y e fires =
+never_fires : (s t : State) → GoesOn s t → Ascends 0 s.store s.next_id → (r : ℕ) (rule : Rule) (ids others way : List ℕ) (x y : Tree) → verdict s r rule ids ≡ unlike way x y → can_fire_with t r rule (ids ++ others) ≡ true → ⊥
+never_fires s t on h r rule ids others way x y e fires =
     let parts = of_its_rows s r rule ids (unlike way x y) e refl in
-    let now = and_parts (list_all (λ i. is_some (atom_of t.store i)) ids) _ fires in
-    let passes = and_parts (passes_guard rule (fits rule.heads (rows_of (rows t) ids))) _ (and_parts (is_none (first_repeated ids)) _ now.1).1 in
-    let m = some_match rule (fits rule.heads (rows_of (rows t) ids)) passes.0 in
+    let now = and_parts (list_all (λ i. is_some (atom_of t.store i)) (ids ++ others)) _ fires in
+    let passes = and_parts (passes_guard rule (fits rule.heads (rows_of (rows t) (ids ++ others)))) _ (and_parts (is_none (first_repeated (ids ++ others))) _ now.1).1 in
+    let m = some_match rule (fits rule.heads (rows_of (rows t) (ids ++ others))) passes.0 in
     subst (Meets (beside (past (row_vars (rows_of (rows s) ids))) (value_at t.subst) m.0)) (unlike_parted rule (rows_of (rows s) ids) (join_rows [] (past (row_vars (rows_of (rows s) ids))) 1 rule.heads (rows_of (rows s) ids)) way x y parts.is)
-    (not_parted (value_at t.subst) m.0 rule.heads (rows_of (rows s) ids) (rows_of (rows t) ids) (bound_rows s t on h ids parts.live now.0) m.1)
+    (not_parted (value_at t.subst) m.0 rule.heads (rows_of (rows s) ids) (rows_of (rows t) (ids ++ others)) (bound_rows s t on h ids others parts.live (all_first _ ids others now.0)) m.1)
 
-for_good : (p : Program) (q : Query) (n m r : ℕ) (rule : Rule) (ids way : List ℕ) (t u : Tree) → verdict (after p (start q) n) r rule ids ≡ unlike way t u → can_fire_with (after p (start q) (n + m)) r rule ids ≡ false
-for_good p q n m r rule ids way t u e =
+behind : (p : Program) (q : Query) (n m r : ℕ) (rule : Rule) (ids others way : List ℕ) (t u : Tree) → verdict (after p (start q) n) r rule ids ≡ unlike way t u → can_fire_with (after p (start q) (n + m)) r rule (ids ++ others) ≡ false
+behind p q n m r rule ids others way t u e =
     let sound = sound_after p n (start q) (sound_start q) in
     not_true _ (λ fires. never_fires (after p (start q) n) (after p (start q) (n + m))
-    (subst (GoesOn (after p (start q) n)) (sym (after-add p (start q) n m)) (goes_on p m (after p (start q) n) sound)) sound.ascends r rule ids way t u e fires)
+    (subst (GoesOn (after p (start q) n)) (sym (after-add p (start q) n m)) (goes_on p m (after p (start q) n) sound)) sound.ascends r rule ids others way t u e fires)
+
+for_good : (p : Program) (q : Query) (n m r : ℕ) (rule : Rule) (ids way : List ℕ) (t u : Tree) → verdict (after p (start q) n) r rule ids ≡ unlike way t u → can_fire_with (after p (start q) (n + m)) r rule ids ≡ false
+for_good p q n m r rule ids way t u e = ap (can_fire_with (after p (start q) (n + m)) r rule) (sym (append-nil ids)) ∙ behind p q n m r rule ids [] way t u e
 
 -- ---- what waits is mended
 
@@ -309,4 +316,4 @@ mends s r rule ids k x long e =
     (made_by u.0 (past (row_vars rs)) 1 rule.heads rs as_long parts.alike joins.equal)
 
 pub verdict_law : VerdictLaw
-verdict_law = record { could = could; for_good = for_good; mends = mends; decides = decides }
+verdict_law = record { could = could; for_good = for_good; behind = behind; mends = mends; decides = decides }

@@ -28,6 +28,7 @@ pub mod Examples
 pub mod Join
 pub mod Keys
 pub mod Tries
+pub mod Trail
 pub mod Cursor
 pub mod Snapshot
 pub mod Stamps

@@ -3,10 +3,11 @@
 use Rattle.std.specs.Prelude.{ℕ, zero, suc, ◌+◌, ◌-◌, Bool, false, true, cond, not, ◌&&◌, ◌||◌, ◌==◌, nat_lt, List, [], ◌∷◌, Option, Some, None, length, option_and_then, option_map}
 use Rattle.chr_semantics.specs.Life.{firing_at, origin}
 use Rattle.chr_semantics.specs.Match.{Row}
-use Rattle.chr_semantics.specs.Program.{Atom, Goal, Occurrence, Program, constraint, tell, evaluate, compare, fail, occurrence}
+use Rattle.chr_semantics.specs.Program.{Atom, Goal, Occurrence, Program, Rule, constraint, tell, evaluate, compare, fail, occurrence}
 use Rattle.chr_semantics.specs.Search.{Found, History, atom_of, firing, no_firing, no_occurrence}
 use Rattle.chr_semantics.specs.State.{Element, State, active, goal, known, rows}
 use Rattle.chr_semantics.specs.Step.{after, is_running, search_at, step}
+use Rattle.chr_semantics.specs.Trail.{partial_lists}
 use Rattle.chr_semantics.specs.Tries.{capped, tried_tuples}
 
 -- ---- searches
@@ -18,24 +19,28 @@ searched_on_top p (goal g ∷ es) = None
 searched_on_top p (known i a ∷ es) = None
 searched_on_top p (active i j a ∷ es) = option_map (λ (o : Occurrence). (o.number, o.place)) (occurrence p a.sym j)
 
--- how many complete lists a search at the occurrence tries, up to and with the first that can fire
-abbrev pub tries_of : List Row → History → ℕ → Occurrence → Option Atom → ℕ
-tries_of rows h i o None = 0
-tries_of rows h i o (Some a) = capped (tried_tuples rows h o.number o.rule o.place (i, a))
+-- how many lists a search looks at for a head of a rule where a constraint stands: `tried_tuples`, or `partial_lists`
+abbrev pub Count : Type 0
+Count = List Row → History → ℕ → Rule → ℕ → Row → ℕ
 
-abbrev pub tries_at : List Row → History → ℕ → Option Occurrence → ℕ
-tries_at rows h i None = 0
-tries_at rows h i (Some o) = tries_of rows h i o (atom_of rows i)
+-- as far as numbers of 64 bits go, at the occurrence, by the goal of the constraint
+abbrev pub counted_of : Count → List Row → History → ℕ → Occurrence → Option Atom → ℕ
+counted_of f rows h i o None = 0
+counted_of f rows h i o (Some a) = capped (f rows h o.number o.rule o.place (i, a))
 
-abbrev pub tries_on_top : Program → State → List Element → ℕ
-tries_on_top p s [] = 0
-tries_on_top p s (goal g ∷ es) = 0
-tries_on_top p s (known i a ∷ es) = 0
-tries_on_top p s (active i j a ∷ es) = tries_at (rows s) s.history i (occurrence p a.sym j)
+abbrev pub counted_at : Count → List Row → History → ℕ → Option Occurrence → ℕ
+counted_at f rows h i None = 0
+counted_at f rows h i (Some o) = counted_of f rows h i o (atom_of rows i)
+
+abbrev pub counted_on_top : Count → Program → State → List Element → ℕ
+counted_on_top f p s [] = 0
+counted_on_top f p s (goal g ∷ es) = 0
+counted_on_top f p s (known i a ∷ es) = 0
+counted_on_top f p s (active i j a ∷ es) = counted_at f (rows s) s.history i (occurrence p a.sym j)
 
 -- the next transition does
-abbrev pub tries_next : Program → State → ℕ
-tries_next p s = cond (is_running s.status) (tries_on_top p s s.stack) 0
+abbrev pub counted_next : Count → Program → State → ℕ
+counted_next f p s = cond (is_running s.status) (counted_on_top f p s s.stack) 0
 
 abbrev pub is_place : ℕ → ℕ → Option (ℕ × ℕ) → Bool
 is_place r k None = false
@@ -49,9 +54,9 @@ searches p r k s = is_running s.status && is_place r k (searched_on_top p s.stac
 abbrev pub finds : Program → ℕ → ℕ → State → Bool
 finds p r k s = searches p r k s && nat_lt (length s.history) (length (step p s).history)
 
--- how many complete lists it tries there
-abbrev pub tries : Program → ℕ → ℕ → State → ℕ
-tries p r k s = cond (searches p r k s) (tries_next p s) 0
+-- how many lists it looks at there
+abbrev pub counted : Count → Program → ℕ → ℕ → State → ℕ
+counted f p r k s = cond (searches p r k s) (counted_next f p s) 0
 
 -- ---- kinds of transitions
 
@@ -113,15 +118,22 @@ sum_to f (suc n) = sum_to f n + f n
 abbrev pub times_to : (ℕ → Bool) → ℕ → ℕ
 times_to test = sum_to (λ n. cond (test n) 1 0)
 
--- how often a head of a rule was searched at in the first n transitions, how often that fired the rule, and how many lists it tried
+-- how often a head of a rule was searched at in the first n transitions, how often that fired the rule, how many complete lists were tried
+-- there, and how many partial ones fitted
 abbrev pub searches_in : Program → State → ℕ → ℕ → ℕ → ℕ
 searches_in p s n r k = times_to (λ m. searches p r k (after p s m)) n
 
 abbrev pub finds_in : Program → State → ℕ → ℕ → ℕ → ℕ
 finds_in p s n r k = times_to (λ m. finds p r k (after p s m)) n
 
+abbrev pub counted_in : Count → Program → State → ℕ → ℕ → ℕ → ℕ
+counted_in f p s n r k = sum_to (λ m. counted f p r k (after p s m)) n
+
 abbrev pub tries_in : Program → State → ℕ → ℕ → ℕ → ℕ
-tries_in p s n r k = sum_to (λ m. tries p r k (after p s m)) n
+tries_in = counted_in tried_tuples
+
+abbrev pub partial_in : Program → State → ℕ → ℕ → ℕ → ℕ
+partial_in = counted_in partial_lists
 
 -- how many of the first n transitions are of a kind
 abbrev pub of_kind : Program → State → ℕ → Kind → ℕ

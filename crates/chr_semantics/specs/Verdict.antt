@@ -1,5 +1,5 @@
 -- Why a rule does not fire with a list of constraints, one for each head, or that it could (this project's own).
-use Rattle.std.specs.Prelude.{◌≡◌, ℕ, ◌+◌, ◌-◌, Bool, true, false, cond, not, ◌&&◌, ◌||◌, ◌==◌, nat_lt, List, [], ◌∷◌, Option, Some, None, is_none, is_some, find, filter_map, map, length, flat_map, option_and_then, option_map, slice_get, unwrap_or, Ok, Err}
+use Rattle.std.specs.Prelude.{◌≡◌, ℕ, ◌+◌, ◌-◌, Bool, true, false, cond, not, ◌&&◌, ◌||◌, ◌==◌, nat_lt, List, [], ◌∷◌, ◌++◌, Option, Some, None, is_none, is_some, find, filter_map, map, length, flat_map, option_and_then, option_map, slice_get, unwrap_or, Ok, Err}
 use Rattle.std.specs.List.{list_all}
 use Rattle.chr_semantics.specs.Tree.{Tree, var, int, node, Trees, none, more, is_ground_tree, same}
 use Rattle.chr_semantics.specs.Subst.{Subst, apply, binds_var, instance, instances}
@@ -219,11 +219,14 @@ IsDecided f m (is_integer t) = is_int (instance f (apply m t)) ≡ true
 IsDecided f m (is_ground t) = is_ground_tree (instance f (apply m t)) ≡ true
 
 -- A list could fire exactly where its constraints live, are different and can fire the rule. Where, in a query's run, a list is unlike the
--- heads, it is so for good. Where it waits, some binding makes the heads match; and where a test is undecided, some binding decides it.
+-- heads, it is so for good, and so is each that begins with it: a list for the first heads that is unlike them has none behind it that ever
+-- fires. Where it waits, some binding makes the heads match; and where a test is undecided, some binding decides it.
 pub record VerdictLaw : Type 0 where
   pub could : (s : State) (r : ℕ) (rule : Rule) (ids : List ℕ) → is_could_fire (verdict s r rule ids) ≡ can_fire_with s r rule ids
   pub for_good : (p : Program) (q : Query) (n m r : ℕ) (rule : Rule) (ids way : List ℕ) (t u : Tree)
       → verdict (after p (start q) n) r rule ids ≡ unlike way t u → can_fire_with (after p (start q) (n + m)) r rule ids ≡ false
+  pub behind : (p : Program) (q : Query) (n m r : ℕ) (rule : Rule) (ids others way : List ℕ) (t u : Tree)
+      → verdict (after p (start q) n) r rule ids ≡ unlike way t u → can_fire_with (after p (start q) (n + m)) r rule (ids ++ others) ≡ false
   pub mends : (s : State) (r : ℕ) (rule : Rule) (ids : List ℕ) (k x : ℕ) → length ids ≡ length rule.heads → verdict s r rule ids ≡ waits k x
       → (f : ℕ → Tree) × (m : Subst) × (fits rule.heads (bound_by f (rows_of (rows s) ids)) ≡ Some m)
   pub decides : (m : Subst) (t : Test) → lack m t ≡ undecided → (f : ℕ → Tree) × IsDecided f m t

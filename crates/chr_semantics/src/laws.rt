@@ -14,6 +14,7 @@ ghost use Rattle.chr_semantics.specs.Stamps.{StampsByCallLaw};
 ghost use Rattle.chr_semantics.specs.Calls.{CallsLaw};
 ghost use Rattle.chr_semantics.specs.Desk.{TotalsLaw};
 ghost use Rattle.chr_semantics.specs.Tries.{TriesLaw};
+ghost use Rattle.chr_semantics.specs.Trail.{TrailLaw};
 ghost use Rattle.chr_semantics.specs.Cursor.{CursorLaw, GatedLaw};
 ghost use Rattle.chr_semantics.specs.Suspicion.{SuspicionLaw};
 ghost use Rattle.chr_semantics.specs.Verdict.{VerdictLaw};
@@ -127,6 +128,11 @@ pub fn look_law()
 /// many as the product of the numbers of rows of the partners' symbols.
 pub fn tries_law()
     ensures { TriesLaw }
+{}
+
+/// What a search comes to step by step leads to the whole lists of the join, in their order.
+pub fn trail_law()
+    ensures { TrailLaw }
 {}
 
 /// A search may go on after a list that it found, while rows are only removed and new ones get

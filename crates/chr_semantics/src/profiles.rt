@@ -8,10 +8,10 @@ ghost use Rattle.chr_semantics.specs.Examples.Runs.{bound_guard, gcd_example};
 
 /// The searches of a run at each head: of the first rule, and of the removed and the kept head of the second one.
 pub fn searched()
-    ensures first { costs gcd_example 18 0 0 ≡ (4, 1, 1) }
-    ensures kept { costs gcd_example 18 1 0 ≡ (3, 1, 1) }
-    ensures removed { costs gcd_example 18 1 1 ≡ (3, 1, 2) }
-    ensures none { costs gcd_example 18 1 2 ≡ (0, 0, 0) }
+    ensures first { costs gcd_example 18 0 0 ≡ (4, 1, 1, 0) }
+    ensures kept { costs gcd_example 18 1 0 ≡ (3, 1, 1, 3) }
+    ensures removed { costs gcd_example 18 1 1 ≡ (3, 1, 2, 3) }
+    ensures none { costs gcd_example 18 1 2 ≡ (0, 0, 0, 0) }
 {}
 
 /// Its transitions by kind.

@@ -5,7 +5,7 @@ use Rattle.std.proofs.lemmas.Bool.{eq-eqb, ne_eqb}
 use Rattle.std.proofs.lemmas.List.{map-append}
 use Rattle.std.specs.Cmp.Lexicographic.{pointwise}
 use Rattle.std.specs.List.{list_any}
-use Rattle.chr_semantics.specs.Changes.{Entries, entered}
+use Rattle.chr_semantics.specs.Changes.{Entries, entered, no_entries}
 use Rattle.chr_semantics.specs.Search.{History, fired_before, same_ids}
 use Rattle.chr_semantics.proofs.Tests.{eqb_sym}
 use Rattle.chr_store.specs.FiredLaws.{same_fired}
@@ -40,6 +40,10 @@ other_rule f g r s first second other =
 
 abbrev pub shown : History → (ℕ → ℕ) → Entries
 shown list stamps = record { list = list; stamps = stamps }
+
+-- no firing, and no stamp that was raised
+pub shown_none : (list : List Fired) (stamps : ℕ → ℕ) → list ≡ [] → ((n : ℕ) → stamps n ≡ 0) → shown (firings_view list) stamps ≡ no_entries
+shown_none list stamps none counts = let all : stamps ≡ (λ n. 0) = fun_ext counts in λ i. shown (firings_view (none i)) (all i)
 
 -- a firing that was there leaves the history as it was, and another goes last
 pub entered_as : (f : Fired) (old new : List Fired) (before after : ℕ → ℕ) (is_new : Bool) → is_new ≡ not (list_any (same_fired f) old) → new ≡ cond (list_any (same_fired f) old) old (old ++ f ∷ [])

@@ -1,5 +1,8 @@
 -- Text that is written in parts.
-use Rattle.std.proofs.Common.{◌≡◌, ℕ, List, [], ◌∷◌, ◌++◌, ap, ◌∙◌, append_assoc, append-nil, Result, Ok, Err, OnOk}
+use Rattle.std.proofs.Common.{◌≡◌, ℕ, ◌+◌, ◌<◌, List, [], ◌∷◌, ◌++◌, map, drop, get_or, length, ap, sym, ◌∙◌, append_assoc, append-nil, Result, Ok, Err, OnOk}
+use Rattle.std.specs.Fmt.{decimal}
+use Rattle.std.proofs.lemmas.List.{at_drop_more}
+use Rattle.chr_semantics.specs.Text.{more_ids_text}
 
 joined : (out first second third a b c new : List ℕ) → first ≡ out ++ a → second ≡ first ++ b → third ≡ c → new ≡ second ++ third → new ≡ out ++ (a ++ (b ++ c))
 joined out first second third a b c new e f k h = h ∙ ap (λ t. second ++ t) k ∙ ap (λ s. s ++ c) (f ∙ ap (λ s. s ++ b) e) ∙ append_assoc (out ++ a) b c ∙ append_assoc out a (b ++ c)
@@ -28,3 +31,11 @@ call_of_two out opening first second new name a b e f k h = rw (h, k, f, e) (sim
 pub call_of_two_on_ok : {T E : Type 0} (r : Result T E) (out opening first second new name a b : List ℕ) → opening ≡ out ++ (name ++ 40 ∷ []) → first ≡ opening ++ a → second ≡ first ++ 44 ∷ b → OnOk r (new ≡ second ++ 41 ∷ []) → OnOk r (new ≡ out ++ (name ++ 40 ∷ (a ++ 44 ∷ ((b ++ []) ++ 41 ∷ []))))
 call_of_two_on_ok (Ok x) out opening first second new name a b e f k h = call_of_two out opening first second new name a b e f k h
 call_of_two_on_ok (Err x) out opening first second new name a b e f k h = tt
+
+-- one more number, with its comma
+pub numbered_on : {X : Type 0} (f : X → ℕ) (old out new : List ℕ) (xs : List X) (i : ℕ) (x : X) → i < length xs → x ≡ get_or xs i x
+    → old ++ more_ids_text (map f xs) ≡ out ++ more_ids_text (map f (drop i xs)) → new ≡ out ++ 44 ∷ decimal (f x)
+    → old ++ more_ids_text (map f xs) ≡ new ++ more_ids_text (map f (drop (i + 1) xs))
+numbered_on f old out new xs i x lt at h e =
+    h ∙ at_drop_more (λ ys. out ++ more_ids_text (map f ys)) xs i x lt ∙ ap (λ y. out ++ more_ids_text (map f (y ∷ drop (i + 1) xs))) (sym at)
+    ∙ sym (append_assoc out (44 ∷ decimal (f x)) (more_ids_text (map f (drop (i + 1) xs)))) ∙ ap (λ t. t ++ more_ids_text (map f (drop (i + 1) xs))) (sym e)

@@ -88,10 +88,18 @@ fn write_more_numbers<I: Numbered, O: Allocator>(
     ensures kept { IsExtension out.old.items out.new.items }
 {
     for item in items {
-        write_byte(b',', out)?;
-        write_number(item.number(), out)?;
+        write_next_number(item.number(), out)?;
     }
     Ok(())
+}
+
+/// A number with a comma before it.
+fn write_next_number<O: Allocator>(number: u64, out: &mut Vec<u8, O>) -> Result<(), Memory>
+    ensures ok { OnOk result (out.new.items ≡ out.old.items ++ 44 ∷ decimal number) }
+    ensures kept { IsExtension out.old.items out.new.items }
+{
+    write_byte(b',', out)?;
+    write_number(number, out)
 }
 
 /// Takes back what stands from `len` on where the writing of it was refused.

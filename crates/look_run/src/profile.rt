@@ -30,7 +30,13 @@ struct RuleRow {
 impl HeadRow {
     /// What it cost: a search costs something even where it tries no list.
     fn dearness(self) -> u64 {
-        self.cost.searches.saturating_add(self.cost.tries)
+        let HeadCost {
+            searches,
+            partial,
+            tries,
+            ..
+        } = self.cost;
+        searches.saturating_add(partial).saturating_add(tries)
     }
 }
 
@@ -116,9 +122,11 @@ fn write_head(teller: &Teller<'_, '_>, heads: &Heads, row: HeadRow, page: &mut P
         searches,
         finds,
         tries,
+        partial,
     } = row.cost;
     let defaults = searches.saturating_sub(finds);
-    write_counts(teller.alloc, &[searches, finds, defaults, tries], page);
+    let counts = [searches, finds, defaults, partial, tries];
+    write_counts(teller.alloc, &counts, page);
     teller.write_rule(row.rule, page);
     match occurrence_of(teller.watched.machine().program(), row.rule, row.head) {
         Some(number) => {
@@ -137,7 +145,8 @@ fn write_heads(teller: &Teller<'_, '_>, program: &[u8], profile: &Profile, page:
     let Some(texts) = page.made(Heads::of(teller.alloc, program)) else {
         return;
     };
-    write_heading(&["searches", "fired", "default", "tried"], "head", page);
+    let columns = ["searches", "fired", "default", "partial", "tried"];
+    write_heading(&columns, "head", page);
     let program = teller.watched.machine().program();
     let Some(rows) = page.made(head_rows(teller.alloc, program, profile)) else {
         return;

@@ -1,10 +1,11 @@
-use Rattle.std.proofs.Common.{◌≡◌, ◌∙◌, Option, Some, ap, subst, sym, ℕ}
+use Rattle.std.proofs.Common.{◌≡◌, ◌∙◌, ◌+◌, Option, Some, ap, subst, sym, ℕ}
 use Rattle.std.specs.Prelude.{option_map, slice_get}
 use Rattle.chr_rules.specs.Index.{pair_of}
 use Rattle.chr_rules.specs.ProgramView.{rules_of}
 use Rattle.chr_rules.specs.RuleView.{rule_view}
 use Rattle.chr_semantics.specs.Program.{Atom, Rule, occurrence}
 use Rattle.chr_semantics.specs.Search.{atom_of}
+use Rattle.chr_semantics.specs.Tries.{capped, tried_tuples}
 use Rattle.chr_store.specs.Rows.{row_atom}
 use Rattle.chr_store.specs.declared.row.Row.{Row}
 use Rattle.chr_find.specs.TableView.{IsFor, atom_at}
@@ -37,6 +38,6 @@ returns g c = λ rows has h alike.
     let there : atom_at c.args.table.now s.id.0 ≡ Some a = ap (atom_at c.args.table.now) id ∙ sym c.in-Some.ensures in
     let k = g.P.FiringHistory.history c.args.past.now in
     let f = c.in_ok-ids.ensures rows has a there in
-    let y = answered p rows h i j a at w.o w.is s.number (rule_view s.rule.now) s.place s.id.0 c.first.new.tries c.in_ok-ids.ids (c.at-active.ensures.number ∙ sym w.number) same (c.at-active.ensures.place ∙ sym w.place) id
-    (first_own c.args.table.now s rows has k h alike a there c.in_ok-ids.ids f.0) (tried_own c.args.table.now s rows has k h alike a there 0 c.first.new.tries f.1) in
+    let y = answered p rows h i j a at w.o w.is s.number (rule_view s.rule.now) s.place s.id.0 c.first.new.tried.lists c.in_ok-ids.ids (c.at-active.ensures.number ∙ sym w.number) same (c.at-active.ensures.place ∙ sym w.place) id
+    (first_own c.args.table.now s rows has k h alike a there c.in_ok-ids.ids f.0) (tried_own c.args.table.now s rows has k h alike a there 0 c.first.new.tried.lists (subst (λ (n : ℕ). c.first.new.tried.lists ≡ capped (n + tried_tuples rows k s.number (rule_view s.rule.now) s.place (s.id.0, a))) c.nothing-tried.ensures.lists f.1)) in
     record { ids_are = y.0; least = y.1.0; most = y.1.1 }

@@ -1,4 +1,5 @@
-use Rattle.std.proofs.Common.{◌≡◌, ◌∙◌, ◌<◌, ◌∷◌, ◌++◌, [], Bool, List, Some, ap, arith, false, get_or, length, refl, subst, sym, take, true, vec_len, ℕ}
+use Rattle.std.proofs.Common.{◌≡◌, ◌∙◌, ◌<◌, ◌==◌, ◌∷◌, ◌++◌, [], Bool, List, None, Some, ap, arith, false, get_or, length, refl, subst, sym, take, true, vec_len, ℕ}
+use Rattle.std.specs.Prelude.{filter, slice_get}
 use Rattle.std.proofs.lemmas.Bool.{eq-eqb, ne_eqb}
 use Rattle.chr_semantics.specs.Bounds.{AreBelow}
 use Rattle.chr_rules.specs.RuleView.{rule_view}
@@ -13,17 +14,22 @@ use Rattle.chr_find.specs.declared.bucket.IndexKey.{IndexKey}
 use Rattle.chr_term.specs.TermView.{atom_view}
 use Rattle.chr_find.specs.Enough.{TakesAs}
 use Rattle.chr_find.specs.Joins.{WalkIs}
+use Rattle.chr_find.specs.Partial.{WalkCounts}
 use Rattle.chr_find.specs.PlanView.{lookups_of}
 use Rattle.chr_find.specs.IndexKeys.{in_bucket}
-use Rattle.chr_find.specs.SearchIs.{WalkFinds, WalkLeads, threshold_at, if_found}
-use Rattle.chr_bind.specs.Matching.{IsSame}
+use Rattle.chr_find.specs.SearchIs.{WalkFinds, WalkFits, WalkLeads, threshold_at, if_found}
+use Rattle.chr_bind.specs.Matching.{AgreesWith, IsSame}
+use Rattle.chr_semantics.specs.Subst.{Subst}
 use Rattle.chr_bind.proofs.Marked.{marks_covered}
-use Rattle.chr_find.specs.Shown.{walk}
+use Rattle.chr_find.specs.Shown.{IsShown, walk}
 use Rattle.chr_find.proofs.HeadFits.{head_takes}
 use Rattle.chr_find.proofs.JoinEnds.{at_own, from_walk}
 use Rattle.chr_find.proofs.JoinSteps.{row_out, row_taken}
 use Rattle.chr_find.proofs.RuleHeads.{head_at, heads_length}
 use Rattle.chr_find.proofs.SearchParts.{head_there, join_longer, level_less, longer_length, ok_more}
+use Rattle.chr_find.proofs.TrailSteps as steps
+use Rattle.chr_find.proofs.TrailSteps.{counts_longer, free_longer}
+use Rattle.chr_find.proofs.TrailVisits.{fits_after, fits_before, fits_nothing, fits_past, fits_there}
 use Rattle.chr_find.proofs.Visits.{finds_nothing, found_after, found_before, found_past, found_there}
 use Rattle.chr_find.proofs.Walk.{walk_shown}
 use Rattle.chr_find.proofs.WalkSpans.{span_greater, span_less}
@@ -35,14 +41,21 @@ join-returns-then-level-self g t c =
     let p = c.args.prefix.now in
     let rule = rule_view s.rule.now in
     let x : (x : Head) × _ = head_there rule.heads (length p.partners) (omega (arith, heads_length s.rule.now.heads.items s.rule.now.passive.items, c.if-level-len.false, c.len.ensures, c.len-level.ensures.len)) in
+    let long = longer_length p.partners c.longer.result.partners _ c.longer.ensures.partners in
+    let here : ((length p.partners) == s.place) ≡ true = eq-eqb (length p.partners) s.place (sym c.len-level.ensures.len ∙ c.if-level-self.true) in
     ok_more _ _ c.join.result
-    (λ found j. (
-      λ rows shown.
-          at_own rows (g.P.FiringHistory.history s.past.now) s.number (rule_view s.rule.now) s.place s.own.0 (length p.partners) p.partners c.args.matching.now s.from s.quiet (threshold_at (g.P.FiringHistory.history s.past.now) s p) x.0 x.1 c.longer.result.partners (if_found found c.join.new.reached.partners) c.args.reached.now.tries c.join.new.reached.tries
-          c.longer.ensures.partners (eq-eqb (length p.partners) s.place (sym c.len-level.ensures.len ∙ c.if-level-self.true))
-          (join_longer rows (g.P.FiringHistory.history s.past.now) s.number rule s.place s.own.0 (length p.partners) (length c.longer.result.partners) c.longer.result.partners c.args.matching.now s.from s.quiet c.longer.result.mode s.after.now _ (if_found found c.join.new.reached.partners) c.args.reached.now.tries c.join.new.reached.tries (longer_length p.partners c.longer.result.partners _ c.longer.ensures.partners) c.longer.ensures.threshold (j.0 rows shown)),
-      j.1,
-    ))
+    (λ found j. record {
+      finds = λ rows shown.
+          at_own rows (g.P.FiringHistory.history s.past.now) s.number (rule_view s.rule.now) s.place s.own.0 (length p.partners) p.partners c.args.matching.now s.from s.quiet (threshold_at (g.P.FiringHistory.history s.past.now) s p) x.0 x.1 c.longer.result.partners (if_found found c.join.new.reached.partners) c.args.reached.now.tried.lists c.join.new.reached.tried.lists
+          c.longer.ensures.partners here
+          (join_longer rows (g.P.FiringHistory.history s.past.now) s.number rule s.place s.own.0 (length p.partners) (length c.longer.result.partners) c.longer.result.partners c.args.matching.now s.from s.quiet c.longer.result.mode s.after.now _ (if_found found c.join.new.reached.partners) c.args.reached.now.tried.lists c.join.new.reached.tried.lists long c.longer.ensures.threshold (j.finds rows shown));
+      same = j.same;
+      fits = λ all rows shown.
+          steps.at_own rows (g.P.FiringHistory.history s.past.now) s.number rule s.place s.own.0 (length p.partners) p.partners c.args.matching.now x.0 x.1 c.longer.result.partners found c.args.reached.now.tried.partial c.join.new.reached.tried.partial
+          c.longer.ensures.partners here
+          (counts_longer rows (g.P.FiringHistory.history s.past.now) s.number rule s.place s.own.0 (length p.partners) (length c.longer.result.partners) c.longer.result.partners c.args.matching.now found c.args.reached.now.tried.partial c.join.new.reached.tried.partial long
+          (j.fits (free_longer c.longer.result.mode s.after.now (length p.partners) (length c.longer.result.partners) s.from s.own.0 _ long c.longer.ensures.threshold all) rows shown));
+    })
     c.join.ensures
 
 pub join-visit-requires : goal.join-visit-requires
@@ -59,16 +72,25 @@ join-returns g t c =
     let p = c.args.prefix.now in
     let lt : (length p.partners) < length s.rule.now.heads.items = omega (arith, c.if-level-len.false, c.len.ensures, c.len-level.ensures.len) in
     let x = head_at s.rule.now.heads.items s.rule.now.passive.items (length p.partners) c.index.result.now lt (c.index.ensures ∙ ap (λ (k : ℕ). get_or s.rule.now.heads.items k c.index.result.now) c.len-level.ensures.len) in
+    let apart : ((length p.partners) == s.place) ≡ false = ne_eqb (length p.partners) s.place (λ e. c.if-level-self.false (c.len-level.ensures.len ∙ e)) in
+    let shows : (rows : List semantics.Row) → IsShown (lookups_of s.plan.now) s.rows.now rows → walk c.bucket_for-bucket.result c.narrowed-span.result ≡ filter (λ row. in_bucket (lookups_of s.plan.now row.1.sym) row.1 c.bucket_for-bucket.result) rows =
+    λ rows shown. c.narrowed-span.ensures.rows ∙ (ap (walk c.bucket_for-bucket.result) c.entries.ensures.value ∙ walk_shown (lookups_of s.plan.now) c.bucket_for-bucket.result s.rows.now rows c.entries.ensures.ascending shown.rises shown.shows) in
+    let enough : (m : Subst) → AgreesWith c.args.matching.now m → (row : semantics.Row) → in_bucket (lookups_of s.plan.now row.1.sym) row.1 c.bucket_for-bucket.result ≡ false → fit_atom x.0.atom row.1 m ≡ None =
+    λ m agrees row out. ap (λ (h : Atom). fit_atom h row.1 m) (x.2 ∙ ap (atom_view c.index.result.now.0) (sym c.as_slice.ensures.value)) ∙ c.bucket_for-bucket.ensures m agrees row out in
     ok_more _ _ c.visit.result
-    (λ found w. (
-      λ rows shown.
-          from_walk rows (g.P.FiringHistory.history s.past.now) s.number (rule_view s.rule.now) s.place s.own.0 (length p.partners) p.partners c.args.matching.now s.from s.quiet (threshold_at (g.P.FiringHistory.history s.past.now) s p) x.0 x.1 (λ row. in_bucket (lookups_of s.plan.now row.1.sym) row.1 c.bucket_for-bucket.result) (if_found found c.visit.new.reached.partners) c.args.reached.now.tries c.visit.new.reached.tries
-          (ne_eqb (length p.partners) s.place (λ e. c.if-level-self.false (c.len-level.ensures.len ∙ e)))
-          (λ m agrees row out. ap (λ (h : Atom). fit_atom h row.1 m) (x.2 ∙ ap (atom_view c.index.result.now.0) (sym c.as_slice.ensures.value)) ∙ c.bucket_for-bucket.ensures m agrees row out)
-          (subst (λ (walked : List semantics.Row). WalkIs rows (g.P.FiringHistory.history s.past.now) s.number (rule_view s.rule.now) s.place s.own.0 (length p.partners) p.partners c.args.matching.now s.from s.quiet (threshold_at (g.P.FiringHistory.history s.past.now) s p) x.0.atom walked (if_found found c.visit.new.reached.partners) c.args.reached.now.tries c.visit.new.reached.tries)
-          (c.narrowed-span.ensures.rows ∙ (ap (walk c.bucket_for-bucket.result) c.entries.ensures.value ∙ walk_shown (lookups_of s.plan.now) c.bucket_for-bucket.result s.rows.now rows c.entries.ensures.ascending shown.rises shown.shows)) (w.0 x.0 x.1 rows shown)),
-      w.1,
-    ))
+    (λ found w. record {
+      finds = λ rows shown.
+          from_walk rows (g.P.FiringHistory.history s.past.now) s.number (rule_view s.rule.now) s.place s.own.0 (length p.partners) p.partners c.args.matching.now s.from s.quiet (threshold_at (g.P.FiringHistory.history s.past.now) s p) x.0 x.1 (λ row. in_bucket (lookups_of s.plan.now row.1.sym) row.1 c.bucket_for-bucket.result) (if_found found c.visit.new.reached.partners) c.args.reached.now.tried.lists c.visit.new.reached.tried.lists
+          apart enough
+          (subst (λ (walked : List semantics.Row). WalkIs rows (g.P.FiringHistory.history s.past.now) s.number (rule_view s.rule.now) s.place s.own.0 (length p.partners) p.partners c.args.matching.now s.from s.quiet (threshold_at (g.P.FiringHistory.history s.past.now) s p) x.0.atom walked (if_found found c.visit.new.reached.partners) c.args.reached.now.tried.lists c.visit.new.reached.tried.lists)
+          (shows rows shown) (w.finds x.0 x.1 rows shown));
+      same = w.same;
+      fits = λ all rows shown.
+          steps.from_walk rows (g.P.FiringHistory.history s.past.now) s.number (rule_view s.rule.now) s.place s.own.0 (length p.partners) p.partners c.args.matching.now x.0 x.1 (λ row. in_bucket (lookups_of s.plan.now row.1.sym) row.1 c.bucket_for-bucket.result) found c.args.reached.now.tried.partial c.saturating_add-reached.result c.visit.new.reached.tried.partial
+          apart (omega (arith, c.saturating_add-reached.ensures)) enough
+          (subst (λ (walked : List semantics.Row). WalkCounts rows (g.P.FiringHistory.history s.past.now) s.number (rule_view s.rule.now) s.place s.own.0 (length p.partners) p.partners c.args.matching.now x.0.atom walked found c.saturating_add-reached.result c.visit.new.reached.tried.partial)
+          (shows rows shown) (w.fits all x.0 x.1 rows shown));
+    })
     c.visit.ensures
 
 pub join_row-takes-requires : goal.join_row-takes-requires
@@ -82,45 +104,71 @@ join_row-returns-then-takes g t c =
     let s = c.args.self.now in
     let p = c.args.prefix.now in
     let row : semantics.Row = (c.args.id.0, row_atom c.args.row.now) in
+    let long = longer_length p.partners c.longer.result.partners _ c.longer.ensures.partners in
+    let taken : (x : Head) → slice_get (rule_view s.rule.now).heads (length p.partners) ≡ Some x → TakesAs true (s.own.0 ∷ p.partners) x.atom row c.args.matching.now c.takes.new.matching =
+    λ x at. head_takes s.rule.now.heads.items s.rule.now.passive.items (length p.partners) c.index-head.result.now x (omega (arith, c.requires)) (c.index-head.ensures ∙ ap (λ (k : ℕ). get_or s.rule.now.heads.items k c.index-head.result.now) c.len.ensures.len) at c.takes.result true c.if-takes.true c.args.matching.now c.takes.new.matching (s.own.0 ∷ p.partners) row c.takes.ensures.takes in
     ok_more _ _ c.join.result
-    (λ found j. (
-      λ x at rows shown.
-          let taken : TakesAs true (s.own.0 ∷ p.partners) x.atom row c.args.matching.now c.takes.new.matching =
-          head_takes s.rule.now.heads.items s.rule.now.passive.items (length p.partners) c.index-head.result.now x (omega (arith, c.requires)) (c.index-head.ensures ∙ ap (λ (k : ℕ). get_or s.rule.now.heads.items k c.index-head.result.now) c.len.ensures.len) at c.takes.result true c.if-takes.true c.args.matching.now c.takes.new.matching (s.own.0 ∷ p.partners) row c.takes.ensures.takes in
-          row_taken rows (g.P.FiringHistory.history s.past.now) s.number (rule_view s.rule.now) s.place s.own.0 (length p.partners) p.partners c.args.matching.now s.from s.quiet (threshold_at (g.P.FiringHistory.history s.past.now) s p) x.atom row c.longer.result.partners c.takes.new.matching (if_found found c.join.new.reached.partners) c.args.reached.now.tries c.join.new.reached.tries
-          c.longer.ensures.partners taken
-          (join_longer rows (g.P.FiringHistory.history s.past.now) s.number (rule_view s.rule.now) s.place s.own.0 (length p.partners) (length c.longer.result.partners) c.longer.result.partners c.takes.new.matching s.from s.quiet c.longer.result.mode s.after.now _ (if_found found c.join.new.reached.partners) c.args.reached.now.tries c.join.new.reached.tries (longer_length p.partners c.longer.result.partners _ c.longer.ensures.partners) c.longer.ensures.threshold (j.0 rows shown)),
-      λ none x u is. j.1 none x ∙ c.takes.ensures.kept x u is,
-    ))
+    (λ found j. record {
+      finds = λ x at rows shown.
+          row_taken rows (g.P.FiringHistory.history s.past.now) s.number (rule_view s.rule.now) s.place s.own.0 (length p.partners) p.partners c.args.matching.now s.from s.quiet (threshold_at (g.P.FiringHistory.history s.past.now) s p) x.atom row c.longer.result.partners c.takes.new.matching (if_found found c.join.new.reached.partners) c.args.reached.now.tried.lists c.join.new.reached.tried.lists
+          c.longer.ensures.partners (taken x at)
+          (join_longer rows (g.P.FiringHistory.history s.past.now) s.number (rule_view s.rule.now) s.place s.own.0 (length p.partners) (length c.longer.result.partners) c.longer.result.partners c.takes.new.matching s.from s.quiet c.longer.result.mode s.after.now _ (if_found found c.join.new.reached.partners) c.args.reached.now.tried.lists c.join.new.reached.tried.lists long c.longer.ensures.threshold (j.finds rows shown));
+      keeps = λ none x u is. j.same none x ∙ c.takes.ensures.kept x u is;
+      fits = λ all x at rows shown.
+          steps.row_taken rows (g.P.FiringHistory.history s.past.now) s.number (rule_view s.rule.now) s.place s.own.0 (length p.partners) p.partners c.args.matching.now x.atom row c.longer.result.partners c.takes.new.matching found c.args.reached.now.tried.partial c.join.new.reached.tried.partial
+          c.longer.ensures.partners (taken x at)
+          (counts_longer rows (g.P.FiringHistory.history s.past.now) s.number (rule_view s.rule.now) s.place s.own.0 (length p.partners) (length c.longer.result.partners) c.longer.result.partners c.takes.new.matching found c.args.reached.now.tried.partial c.join.new.reached.tried.partial long
+          (j.fits (free_longer c.longer.result.mode s.after.now (length p.partners) (length c.longer.result.partners) s.from c.args.id.0 _ long c.longer.ensures.threshold all) rows shown));
+    })
     c.join.ensures
 
 pub join_row-returns-else-takes : goal.join_row-returns-else-takes
-join_row-returns-else-takes g t c = (
-  λ x at rows shown.
-      let s = c.args.self.now in
-      let p = c.args.prefix.now in
-      let row : semantics.Row = (c.args.id.0, row_atom c.args.row.now) in
-      let out : TakesAs false (s.own.0 ∷ p.partners) x.atom row c.args.matching.now c.takes.new.matching =
-      head_takes s.rule.now.heads.items s.rule.now.passive.items (length p.partners) c.index-head.result.now x (omega (arith, c.requires)) (c.index-head.ensures ∙ ap (λ (k : ℕ). get_or s.rule.now.heads.items k c.index-head.result.now) c.len.ensures.len) at c.takes.result false c.if-takes.false c.args.matching.now c.takes.new.matching (s.own.0 ∷ p.partners) row c.takes.ensures.takes in
-      row_out rows (g.P.FiringHistory.history s.past.now) s.number (rule_view s.rule.now) s.place s.own.0 (length p.partners) p.partners c.args.matching.now s.from s.quiet (threshold_at (g.P.FiringHistory.history s.past.now) s p) x.atom row c.takes.new.matching c.args.reached.now.tries (omega arith) out,
-  λ none. c.takes.ensures.kept,
-)
+join_row-returns-else-takes g t c =
+    let s = c.args.self.now in
+    let p = c.args.prefix.now in
+    let row : semantics.Row = (c.args.id.0, row_atom c.args.row.now) in
+    let out : (x : Head) → slice_get (rule_view s.rule.now).heads (length p.partners) ≡ Some x → TakesAs false (s.own.0 ∷ p.partners) x.atom row c.args.matching.now c.takes.new.matching =
+    λ x at. head_takes s.rule.now.heads.items s.rule.now.passive.items (length p.partners) c.index-head.result.now x (omega (arith, c.requires)) (c.index-head.ensures ∙ ap (λ (k : ℕ). get_or s.rule.now.heads.items k c.index-head.result.now) c.len.ensures.len) at c.takes.result false c.if-takes.false c.args.matching.now c.takes.new.matching (s.own.0 ∷ p.partners) row c.takes.ensures.takes in
+    record {
+      finds = λ x at rows shown.
+          row_out rows (g.P.FiringHistory.history s.past.now) s.number (rule_view s.rule.now) s.place s.own.0 (length p.partners) p.partners c.args.matching.now s.from s.quiet (threshold_at (g.P.FiringHistory.history s.past.now) s p) x.atom row c.takes.new.matching c.args.reached.now.tried.lists (omega arith) (out x at);
+      keeps = λ none. c.takes.ensures.kept;
+      fits = λ all x at rows shown.
+          steps.row_out rows (g.P.FiringHistory.history s.past.now) s.number (rule_view s.rule.now) s.place s.own.0 (length p.partners) p.partners c.args.matching.now x.atom row c.takes.new.matching c.args.reached.now.tried.partial (omega arith) (out x at);
+    }
 
 pub try_row-back_to-requires : goal.try_row-back_to-requires
-try_row-back_to-requires g t c = ((omega arith), marks_covered c.args.matching.now c.join_row.new.matching c.marks-marks.result c.marks-marks.ensures (c.in_ok-join_row.ensures.1 c.if-branch.false))
+try_row-back_to-requires g t c = ((omega arith), marks_covered c.args.matching.now c.join_row.new.matching c.marks-marks.result c.marks-marks.ensures (c.in_ok-join_row.ensures.keeps c.if-branch.false))
+
+pub try_row-returns-then-branch : goal.try_row-returns-then-branch
+try_row-returns-then-branch g t c =
+    let h = g.P.FiringHistory.history c.args.self.now.past.now in
+    let row : List semantics.Row = (c.args.id.0, row_atom c.args.row.now) ∷ [] in
+    record {
+      finds = subst (λ (b : Bool). WalkFinds h c.args.self.now c.args.prefix.now c.args.matching.now row (if_found b c.join_row.new.reached.partners) c.args.reached.now.tried.lists c.join_row.new.reached.tried.lists) c.if-branch.true c.in_ok-join_row.ensures.finds;
+      same = λ none. absurd (let no : true ≡ false = none in cc);
+      fits = subst (λ (b : Bool). WalkFits h c.args.self.now c.args.prefix.now c.args.matching.now row b c.args.reached.now.tried.partial c.join_row.new.reached.tried.partial) c.if-branch.true c.in_ok-join_row.ensures.fits;
+    }
 
 pub try_row-returns : goal.try_row-returns
-try_row-returns g t c = (
-  subst (λ (b : Bool). WalkFinds (g.P.FiringHistory.history c.args.self.now.past.now) c.args.self.now c.args.prefix.now c.args.matching.now ((c.args.id.0, row_atom c.args.row.now) ∷ []) (if_found b c.join_row.new.reached.partners) c.args.reached.now.tries c.join_row.new.reached.tries) c.if-branch.false c.in_ok-join_row.ensures.0,
-  λ none. c.back_to.ensures c.args.matching.now c.marks-marks.ensures (c.in_ok-join_row.ensures.1 c.if-branch.false),
-)
+try_row-returns g t c =
+    let h = g.P.FiringHistory.history c.args.self.now.past.now in
+    let row : List semantics.Row = (c.args.id.0, row_atom c.args.row.now) ∷ [] in
+    record {
+      finds = subst (λ (b : Bool). WalkFinds h c.args.self.now c.args.prefix.now c.args.matching.now row (if_found b c.join_row.new.reached.partners) c.args.reached.now.tried.lists c.join_row.new.reached.tried.lists) c.if-branch.false c.in_ok-join_row.ensures.finds;
+      same = λ none. c.back_to.ensures c.args.matching.now c.marks-marks.ensures (c.in_ok-join_row.ensures.keeps c.if-branch.false);
+      fits = subst (λ (b : Bool). WalkFits h c.args.self.now c.args.prefix.now c.args.matching.now row b c.args.reached.now.tried.partial c.join_row.new.reached.tried.partial) c.if-branch.false c.in_ok-join_row.ensures.fits;
+    }
 
 pub visit-returns-in-None : goal.visit-returns-in-None
 visit-returns-in-None g t c =
-    let s = c.args.self.now in (
-      finds_nothing (g.P.FiringHistory.history s.past.now) s c.args.prefix.now c.args.matching.now (walk c.args.bucket.now c.args.span.now) c.args.reached.now.tries (ap (walk c.args.bucket.now) c.in-None.ensures.none) (omega arith),
-      λ none x. refl,
-    )
+    let s = c.args.self.now in
+    let none : walk c.args.bucket.now c.args.span.now ≡ [] = ap (walk c.args.bucket.now) c.in-None.ensures.none in
+    record {
+      finds = finds_nothing (g.P.FiringHistory.history s.past.now) s c.args.prefix.now c.args.matching.now (walk c.args.bucket.now c.args.span.now) c.args.reached.now.tried.lists none (omega arith);
+      same = λ none x. refl;
+      fits = fits_nothing (g.P.FiringHistory.history s.past.now) s c.args.prefix.now c.args.matching.now (walk c.args.bucket.now c.args.span.now) c.args.reached.now.tried.partial none (omega arith);
+    }
 
 pub visit-returns-in-Less : goal.visit-returns-in-Less
 visit-returns-in-Less g t c =
@@ -144,43 +192,55 @@ pub visit-returns-then-id-least : goal.visit-returns-then-id-least
 visit-returns-then-id-least g t c =
     let s = c.args.self.now in
     ok_more _ _ c.visit-then-id-least.result
-    (λ found w. (
-      found_past (g.P.FiringHistory.history s.past.now) s c.args.prefix.now c.args.bucket.now c.args.span.now c.in-Some.middle.before (c.in-Some.middle.key.now, c.in-Some.middle.value.now) c.in-Some.middle.after c.in-Some.ensures.some (sym c.cmp.ensures ∙ c.in-Equal.is)
-          c.args.matching.now c.args.least (if_found found c.visit-then-id-least.new.reached.partners) c.args.reached.now.tries c.visit-then-id-least.new.reached.tries c.in-Some.ensures.ascending c.if-id-least.true (omega arith) c.requires.bound c.requires.quiet w.0,
-      w.1,
-    ))
+    (λ found w. record {
+      finds = found_past (g.P.FiringHistory.history s.past.now) s c.args.prefix.now c.args.bucket.now c.args.span.now c.in-Some.middle.before (c.in-Some.middle.key.now, c.in-Some.middle.value.now) c.in-Some.middle.after c.in-Some.ensures.some (sym c.cmp.ensures ∙ c.in-Equal.is)
+          c.args.matching.now c.args.least (if_found found c.visit-then-id-least.new.reached.partners) c.args.reached.now.tried.lists c.visit-then-id-least.new.reached.tried.lists c.in-Some.ensures.ascending c.if-id-least.true (omega arith) c.requires.bound c.requires.quiet w.finds;
+      same = w.same;
+      fits = fits_past (g.P.FiringHistory.history s.past.now) s c.args.prefix.now c.args.bucket.now c.args.span.now c.in-Some.middle.before (c.in-Some.middle.key.now, c.in-Some.middle.value.now) c.in-Some.middle.after c.in-Some.ensures.some (sym c.cmp.ensures ∙ c.in-Equal.is)
+          c.args.matching.now c.args.least c.in-Some.middle.key.now.id.0 found c.args.reached.now.tried.partial c.visit-then-id-least.new.reached.tried.partial c.if-id-least.true c.requires.bound;
+    })
     c.visit-then-id-least.ensures
 
 -- found before the middle
 pub visit-returns-then-branch : goal.visit-returns-then-branch
 visit-returns-then-branch g t c =
-    let s = c.args.self.now in (
-      found_before (g.P.FiringHistory.history s.past.now) s c.args.prefix.now c.args.bucket.now c.args.span.now c.in-Some.middle.before (c.in-Some.middle.key.now, c.in-Some.middle.value.now) c.in-Some.middle.after c.in-Some.ensures.some (sym c.cmp.ensures ∙ c.in-Equal.is)
-          c.args.matching.now c.in_ok-visit-in-Equal.field-0 c.visit-in-Equal.new.reached.partners c.args.reached.now.tries c.visit-in-Equal.new.reached.tries c.if-branch.true c.in_ok-visit-in-Equal.ensures.0,
-      λ none. absurd (let no : true ≡ false = none in cc),
-    )
+    let s = c.args.self.now in
+    record {
+      finds = found_before (g.P.FiringHistory.history s.past.now) s c.args.prefix.now c.args.bucket.now c.args.span.now c.in-Some.middle.before (c.in-Some.middle.key.now, c.in-Some.middle.value.now) c.in-Some.middle.after c.in-Some.ensures.some (sym c.cmp.ensures ∙ c.in-Equal.is)
+          c.args.matching.now c.in_ok-visit-in-Equal.field-0 c.visit-in-Equal.new.reached.partners c.args.reached.now.tried.lists c.visit-in-Equal.new.reached.tried.lists c.if-branch.true c.in_ok-visit-in-Equal.ensures.finds;
+      same = λ none. absurd (let no : true ≡ false = none in cc);
+      fits = fits_before (g.P.FiringHistory.history s.past.now) s c.args.prefix.now c.args.bucket.now c.args.span.now c.in-Some.middle.before (c.in-Some.middle.key.now, c.in-Some.middle.value.now) c.in-Some.middle.after c.in-Some.ensures.some (sym c.cmp.ensures ∙ c.in-Equal.is)
+          c.args.matching.now c.in_ok-visit-in-Equal.field-0 c.args.reached.now.tried.partial c.visit-in-Equal.new.reached.tried.partial c.if-branch.true c.in_ok-visit-in-Equal.ensures.fits;
+    }
 
 -- at the middle
 pub visit-returns-then-branch-2 : goal.visit-returns-then-branch-2
 visit-returns-then-branch-2 g t c =
-    let s = c.args.self.now in (
-      found_there (g.P.FiringHistory.history s.past.now) s c.args.prefix.now c.args.bucket.now c.args.span.now c.in-Some.middle.before (c.in-Some.middle.key.now, c.in-Some.middle.value.now) c.in-Some.middle.after c.in-Some.ensures.some (sym c.cmp.ensures ∙ c.in-Equal.is)
-          c.args.matching.now c.visit-in-Equal.new.matching c.in_ok-visit-in-Equal.field-0 c.in_ok-try_row-in-Equal.field-0 c.visit-in-Equal.new.reached.partners c.try_row.new.reached.partners c.args.reached.now.tries c.visit-in-Equal.new.reached.tries c.try_row.new.reached.tries
-          c.in-Some.middle.value.now refl c.if-branch.false c.if-branch-2.true c.in_ok-visit-in-Equal.ensures.0 (c.in_ok-visit-in-Equal.ensures.1 c.if-branch.false) c.in_ok-try_row-in-Equal.ensures.0,
-      λ none. absurd (let no : true ≡ false = none in cc),
-    )
+    let s = c.args.self.now in
+    record {
+      finds = found_there (g.P.FiringHistory.history s.past.now) s c.args.prefix.now c.args.bucket.now c.args.span.now c.in-Some.middle.before (c.in-Some.middle.key.now, c.in-Some.middle.value.now) c.in-Some.middle.after c.in-Some.ensures.some (sym c.cmp.ensures ∙ c.in-Equal.is)
+          c.args.matching.now c.visit-in-Equal.new.matching c.in_ok-visit-in-Equal.field-0 c.in_ok-try_row-in-Equal.field-0 c.visit-in-Equal.new.reached.partners c.try_row.new.reached.partners c.args.reached.now.tried.lists c.visit-in-Equal.new.reached.tried.lists c.try_row.new.reached.tried.lists
+          c.in-Some.middle.value.now refl c.if-branch.false c.if-branch-2.true c.in_ok-visit-in-Equal.ensures.finds (c.in_ok-visit-in-Equal.ensures.same c.if-branch.false) c.in_ok-try_row-in-Equal.ensures.finds;
+      same = λ none. absurd (let no : true ≡ false = none in cc);
+      fits = fits_there (g.P.FiringHistory.history s.past.now) s c.args.prefix.now c.args.bucket.now c.args.span.now c.in-Some.middle.before (c.in-Some.middle.key.now, c.in-Some.middle.value.now) c.in-Some.middle.after c.in-Some.ensures.some (sym c.cmp.ensures ∙ c.in-Equal.is)
+          c.args.matching.now c.visit-in-Equal.new.matching c.in_ok-visit-in-Equal.field-0 c.in_ok-try_row-in-Equal.field-0 c.args.reached.now.tried.partial c.visit-in-Equal.new.reached.tried.partial c.try_row.new.reached.tried.partial
+          c.in-Some.middle.value.now refl c.if-branch.false c.if-branch-2.true c.in_ok-visit-in-Equal.ensures.fits (c.in_ok-visit-in-Equal.ensures.same c.if-branch.false) c.in_ok-try_row-in-Equal.ensures.fits;
+    }
 
 -- after it, or not at all
 pub visit-returns-else-branch-2 : goal.visit-returns-else-branch-2
 visit-returns-else-branch-2 g t c =
     let s = c.args.self.now in
-    let same : IsSame c.args.matching.now c.visit-in-Equal.new.matching = c.in_ok-visit-in-Equal.ensures.1 c.if-branch.false in
-    let still : IsSame c.visit-in-Equal.new.matching c.try_row.new.matching = c.in_ok-try_row-in-Equal.ensures.1 c.if-branch-2.false in
+    let same : IsSame c.args.matching.now c.visit-in-Equal.new.matching = c.in_ok-visit-in-Equal.ensures.same c.if-branch.false in
+    let still : IsSame c.visit-in-Equal.new.matching c.try_row.new.matching = c.in_ok-try_row-in-Equal.ensures.same c.if-branch-2.false in
     ok_more _ _ c.visit-in-Equal-2.result
-    (λ found w. (
-      found_after (g.P.FiringHistory.history s.past.now) s c.args.prefix.now c.args.bucket.now c.args.span.now c.in-Some.middle.before (c.in-Some.middle.key.now, c.in-Some.middle.value.now) c.in-Some.middle.after c.in-Some.ensures.some (sym c.cmp.ensures ∙ c.in-Equal.is)
-          c.args.matching.now c.visit-in-Equal.new.matching c.try_row.new.matching c.in_ok-visit-in-Equal.field-0 c.in_ok-try_row-in-Equal.field-0 c.visit-in-Equal.new.reached.partners c.try_row.new.reached.partners (if_found found c.visit-in-Equal-2.new.reached.partners) c.args.reached.now.tries c.visit-in-Equal.new.reached.tries c.try_row.new.reached.tries c.visit-in-Equal-2.new.reached.tries
-          c.in-Some.middle.value.now refl c.if-branch.false c.if-branch-2.false c.in_ok-visit-in-Equal.ensures.0 same c.in_ok-try_row-in-Equal.ensures.0 still w.0,
-      λ none x. w.1 none x ∙ (still x ∙ same x),
-    ))
+    (λ found w. record {
+      finds = found_after (g.P.FiringHistory.history s.past.now) s c.args.prefix.now c.args.bucket.now c.args.span.now c.in-Some.middle.before (c.in-Some.middle.key.now, c.in-Some.middle.value.now) c.in-Some.middle.after c.in-Some.ensures.some (sym c.cmp.ensures ∙ c.in-Equal.is)
+          c.args.matching.now c.visit-in-Equal.new.matching c.try_row.new.matching c.in_ok-visit-in-Equal.field-0 c.in_ok-try_row-in-Equal.field-0 c.visit-in-Equal.new.reached.partners c.try_row.new.reached.partners (if_found found c.visit-in-Equal-2.new.reached.partners) c.args.reached.now.tried.lists c.visit-in-Equal.new.reached.tried.lists c.try_row.new.reached.tried.lists c.visit-in-Equal-2.new.reached.tried.lists
+          c.in-Some.middle.value.now refl c.if-branch.false c.if-branch-2.false c.in_ok-visit-in-Equal.ensures.finds same c.in_ok-try_row-in-Equal.ensures.finds still w.finds;
+      same = λ none x. w.same none x ∙ (still x ∙ same x);
+      fits = fits_after (g.P.FiringHistory.history s.past.now) s c.args.prefix.now c.args.bucket.now c.args.span.now c.in-Some.middle.before (c.in-Some.middle.key.now, c.in-Some.middle.value.now) c.in-Some.middle.after c.in-Some.ensures.some (sym c.cmp.ensures ∙ c.in-Equal.is)
+          c.args.matching.now c.visit-in-Equal.new.matching c.try_row.new.matching c.in_ok-visit-in-Equal.field-0 c.in_ok-try_row-in-Equal.field-0 found c.args.reached.now.tried.partial c.visit-in-Equal.new.reached.tried.partial c.try_row.new.reached.tried.partial c.visit-in-Equal-2.new.reached.tried.partial
+          c.in-Some.middle.value.now refl c.if-branch.false c.if-branch-2.false c.in_ok-visit-in-Equal.ensures.fits same c.in_ok-try_row-in-Equal.ensures.fits still w.fits;
+    })
     c.visit-in-Equal-2.ensures

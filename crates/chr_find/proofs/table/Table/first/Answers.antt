@@ -21,7 +21,7 @@ returns g c =
     ok_more _ _ c.found.result
     (λ found f rows has a lives.
     let w = own_shown t s.id.0 rows c.requires.own has in
-    free_first rows h s.number rule s.place x.0 (s.id.0, a) 0 found c.args.tries.now c.found.new.tries x.1
-    (subst (λ (ps : List Joined). Finds h s.number rule.guard [] (passed 0 free ps) found c.args.tries.now c.found.new.tries) (w.same rule s.place x.0 a)
+    free_first rows h s.number rule s.place x.0 (s.id.0, a) 0 found c.args.tried.now.lists c.found.new.tried.lists x.1
+    (subst (λ (ps : List Joined). Finds h s.number rule.guard [] (passed 0 free ps) found c.args.tried.now.lists c.found.new.tried.lists) (w.same rule s.place x.0 a)
     (f a lives x.0 x.1 w.some (has_shown t w.some c.requires.settled.index w.rises w.looked) (all_quiet w.some rule.heads s.place s.id.0 0 c.len-quiet.result (omega (arith, counted, c.len-quiet.ensures))))))
-    c.found.ensures
+    c.found.ensures.finds

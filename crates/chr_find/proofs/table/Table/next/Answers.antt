@@ -27,7 +27,7 @@ returns g c =
     (λ found f rows has a lives spent.
     let w = own_shown t s.id.0 rows c.requires.own has in
     let shown = has_shown t w.some c.requires.settled.index w.rises w.looked in
-    next_first rows h s.number rule s.place x.0 (s.id.0, a) from after found c.args.tries.now c.found.new.tries x.1 spent
-    (subst (λ (ps : List Joined). Finds h s.number rule.guard [] (passed from (on after) ps) found c.args.tries.now c.found.new.tries) (w.same rule s.place x.0 a)
+    next_first rows h s.number rule s.place x.0 (s.id.0, a) from after found c.args.tried.now.lists c.found.new.tried.lists x.1 spent
+    (subst (λ (ps : List Joined). Finds h s.number rule.guard [] (passed from (on after) ps) found c.args.tried.now.lists c.found.new.tried.lists) (w.same rule s.place x.0 a)
     (f a lives x.0 x.1 w.some shown (quiet w.some shown))))
-    c.found.ensures
+    c.found.ensures.finds

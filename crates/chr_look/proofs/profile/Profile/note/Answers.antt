@@ -11,7 +11,7 @@ returns g c p s n made costs =
     let kind = option_map kind_view c.args.made.kind in
     record {
       heads_are = λ r k.
-          heads_more p s n r k (option_map pair_view c.args.made.place) c.args.made.fires c.args.made.tries (cost_in old.heads.items r k) (cost_in c.note_search.new.heads.items r k) made.place_is made.fires_is made.tries_are (costs.heads_are r k)
+          heads_more p s n r k (option_map pair_view c.args.made.place) c.args.made.fires c.args.made.tried (cost_in old.heads.items r k) (cost_in c.note_search.new.heads.items r k) made.place_is made.fires_is made.tried_is (costs.heads_are r k)
           (c.in_ok-note_search.ensures r k);
       kinds_are = λ k. kinds_more p s n kind k (count_in old.kinds k) (count_in c.note.new.self k) made.kind_is (costs.kinds_are k) (c.note.ensures k);
       solves_are = λ o.
