@@ -31,6 +31,6 @@ pub use mistake::{Declared, Detail, Kind, Mistake};
 pub use programs::mistakes;
 pub use queries::query_mistakes;
 pub use rules::MOST;
-pub use spans::{Span, heads};
+pub use spans::{RuleSpans, Span, rule_spans};
 pub use suspecting::suspicions;
 pub use suspicion::{Doubt, Suspicion};

@@ -1,11 +1,11 @@
-//! Where the heads of rules stand in a text.
+//! Where rules and their heads stand in a text.
 
 use crate::items::{Item, Role, items};
 use crate::pieces::{Piece, pieces};
 use crate::spots::{Spot, spots};
 use chr_term::Memory;
 use chr_tokens::{Unread, characters};
-use std::alloc::{AllocError, Allocator};
+use std::alloc::{AllocError, Allocator, Global};
 
 /// A part of a text.
 #[derive(Clone, Copy, PartialEq, Eq, Debug, Drop)]
@@ -14,6 +14,15 @@ pub struct Span {
     pub begin: usize,
     /// The number of its characters.
     pub width: usize,
+}
+
+/// Where a rule stands in a text.
+#[derive(Drop)]
+pub struct RuleSpans<A: Allocator = Global> {
+    /// All of it, from its first token to its last one.
+    pub whole: Span,
+    /// Its heads from left to right, without `# passive`.
+    pub heads: Vec<Span, A>,
 }
 
 /// The part from the first to the last of some tokens, behind so many characters.
@@ -44,16 +53,33 @@ fn spans_of<A: Allocator + Copy>(
     Ok(found)
 }
 
-/// Where the heads of a part of a program stand; none where it is no rule.
-fn heads_of<A: Allocator + Copy>(alloc: A, piece: Piece<'_>) -> Result<Vec<Span, A>, Memory> {
+/// Where a part of a program stands that is a rule; nothing where it is none.
+fn rule_of<A: Allocator + Copy>(
+    alloc: A,
+    piece: Piece<'_>,
+) -> Result<Option<RuleSpans<A>>, Memory> {
     let tokens = spots(alloc, piece.characters)?;
     let items = items(alloc, tokens.as_slice())?;
-    spans_of(alloc, piece.begin, items.as_slice())
+    let heads = spans_of(alloc, piece.begin, items.as_slice())?;
+    if heads.is_empty() {
+        return Ok(None);
+    }
+    // The last token is the end of the part.
+    let whole = match tokens.as_slice() {
+        [words @ .., _] => span_of(piece.begin, words),
+        [] => None,
+    };
+    match whole {
+        None => Ok(None),
+        Some(whole) => Ok(Some(RuleSpans { whole, heads })),
+    }
 }
 
-/// Where the heads of a program stand that is accepted: for each rule, in their order, those of its heads from left to right, without
-/// `# passive`.
-pub fn heads<A: Allocator + Copy>(alloc: A, text: &[u8]) -> Result<Vec<Vec<Span, A>, A>, Memory> {
+/// Where the rules of a program stand that is accepted, in their order.
+pub fn rule_spans<A: Allocator + Copy>(
+    alloc: A,
+    text: &[u8],
+) -> Result<Vec<RuleSpans<A>, A>, Memory> {
     let mut found = Vec::new(alloc);
     let characters = match characters(alloc, text) {
         Ok(characters) => characters,
@@ -61,9 +87,8 @@ pub fn heads<A: Allocator + Copy>(alloc: A, text: &[u8]) -> Result<Vec<Vec<Span,
         Err(_) => return Ok(found),
     };
     for piece in pieces(alloc, characters.as_slice(), text)? {
-        let spans = heads_of(alloc, piece)?;
-        if !spans.is_empty() {
-            found.push(spans)?;
+        if let Some(rule) = rule_of(alloc, piece)? {
+            found.push(rule)?;
         }
     }
     Ok(found)

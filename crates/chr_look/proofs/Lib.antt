@@ -22,3 +22,7 @@ pub mod Sums
 pub mod Variables
 pub mod Watches
 pub mod Woken
+pub mod Opened
+pub mod Tops
+pub mod Given
+pub mod Befores

@@ -14,3 +14,4 @@ pub mod Profiling
 pub mod Variables
 pub mod VerdictView
 pub mod Watching
+pub mod EffectView

@@ -4,6 +4,7 @@
 mod asking;
 mod constraint;
 mod costs;
+mod effects;
 mod fronts;
 mod hindrances;
 mod joining;
@@ -25,6 +26,7 @@ mod watching;
 pub use chr_term::Memory;
 pub use constraint::Constraint;
 pub use costs::{HeadCost, SolveCost};
+pub use effects::{Before, Effect};
 pub use fronts::{Front, Fronts, MOST_FRONTS, look_at_lists};
 pub use joining::Parting;
 pub use judging::{guard_test, judge};

@@ -6,10 +6,10 @@ ghost use Rattle.chr_semantics.specs.Bounds.{IsQueryBounded};
 
 use chr_bind::{Lack, Test};
 use chr_look::{
-    Kind, ListLog, Profile, Removals, Verdict, Watched, guard_test, judge, look_at_lists, watch,
-    watch_costs, watch_life, watch_list,
+    Before, Effect, Kind, ListLog, Profile, Removals, Verdict, Watched, guard_test, judge,
+    look_at_lists, watch, watch_costs, watch_life, watch_list,
 };
-use chr_machine::{Id, Machine};
+use chr_machine::{Id, Machine, Stepped};
 use chr_rules::{Program, Query};
 use chr_store::HeadIds;
 use chr_term::Memory;
@@ -86,6 +86,32 @@ fn costs_watched<'p, A: Allocator + Copy>(
     watch_costs(alloc, program, query.copy()?, BUDGET)
 }
 
+fn started<'p, A: Allocator + Copy>(
+    alloc: A,
+    program: &'p Program<A>,
+    query: &Query<A>,
+) -> Result<Machine<'p, A>, Memory>
+    requires { IsQueryBounded (query_view query.now) }
+{
+    Machine::start(alloc, program, query.copy()?)
+}
+
+/// Makes a transition, and tells whether it gave one variable a value and woke two constraints; nothing where the run has ended.
+fn binds_one<A: Allocator + Copy>(
+    alloc: A,
+    machine: &mut Machine<'_, A>,
+) -> Result<Option<bool>, Memory> {
+    let before = Before::of(alloc, machine)?;
+    if machine.step()? != Stepped::Moved {
+        return Ok(None);
+    }
+    match before.effect(alloc, machine)? {
+        None => Ok(None),
+        Some(Effect::Binds { values, woken }) => Ok(Some(values.len() == 1 && woken.len() == 2)),
+        Some(_) => Ok(Some(false)),
+    }
+}
+
 fn removals_of<A: Allocator + Copy>(
     alloc: A,
     watched: &Watched<'_, A>,
@@ -132,6 +158,8 @@ enum Call {
     WatchLife,
     WatchList,
     WatchCosts,
+    /// Of each transition of the run.
+    Effects,
     /// Of a list whose guard is not decided.
     JudgeGuard,
     /// Of a list that is unlike the head.
@@ -193,6 +221,26 @@ fn watches_costs<A: Allocator + Copy>(
     Ok(of_kind(&profile, Kind::Default) == 6)
 }
 
+/// Whether the effects of the 17 transitions are told, of which one binds.
+fn tells_effects<A: Allocator + Copy>(
+    alloc: A,
+    program: &Program<A>,
+    query: &Query<A>,
+) -> Result<bool, Memory>
+    requires { IsQueryBounded (query_view query.now) }
+{
+    let mut machine = started(alloc, program, query)?;
+    let mut bindings: u64 = 0;
+    for made in 0..BUDGET {
+        match binds_one(alloc, &mut machine)? {
+            None => return Ok(made == 17 && bindings == 1),
+            Some(true) => bindings = bindings.saturating_add(1),
+            Some(false) => {}
+        }
+    }
+    Ok(false)
+}
+
 /// Whether the guard of the first rule is found undecided.
 fn judges_guard<A: Allocator + Copy>(alloc: A, machine: &Machine<'_, A>) -> Result<bool, Memory> {
     if machine.program().rules() == 0 {
@@ -251,6 +299,7 @@ fn answers<A: Allocator + Copy>(
         Call::WatchLife => watches_life(alloc, ended.program(), query),
         Call::WatchList => watches_list(alloc, ended.program(), query),
         Call::WatchCosts => watches_costs(alloc, ended.program(), query),
+        Call::Effects => tells_effects(alloc, ended.program(), query),
         Call::JudgeGuard => judges_guard(alloc, ended),
         Call::JudgeUnlike => judges_unlike(alloc, ended),
         Call::GuardTest => finds_test(alloc, ended),
@@ -310,6 +359,7 @@ fn want_of_memory(rt: HostRuntime) {
         Call::WatchLife,
         Call::WatchList,
         Call::WatchCosts,
+        Call::Effects,
         Call::JudgeGuard,
         Call::JudgeUnlike,
         Call::GuardTest,

@@ -5,6 +5,7 @@ pub mod Tests
 pub mod Instances
 pub mod Apart
 pub mod UnifierGeneral
+pub mod UnifierBinds
 pub mod UnifierEqual
 pub mod UnifierNone
 pub mod UnifierLaw
@@ -56,3 +57,6 @@ pub mod CallsLaw
 pub mod IdleLaw
 pub mod HopelessLaw
 pub mod BarrenLaw
+pub mod EffectLaw
+pub mod EffectKinds
+pub mod Alive

@@ -139,7 +139,7 @@ mutual
       neither e f = cc (e, f)
 
 -- the variables that are bound then
-binds_more : (x y : ℕ) (u : Tree) (s : Subst) → binds_var (with_binding x u s) y ≡ (x == y || binds_var s y)
+pub binds_more : (x y : ℕ) (u : Tree) (s : Subst) → binds_var (with_binding x u s) y ≡ (x == y || binds_var s y)
 binds_more x y u s = ap (λ (b : Bool). x == y || b) (binds_mapped s)
   where
     binds_mapped : (r : Subst) → binds_var (map (λ (p : ℕ × Tree). (p.0, apply (one x u) p.1)) r) y ≡ binds_var r y

@@ -11,11 +11,11 @@ use Rattle.chr_semantics.proofs.Instances.{Solves-one, instance-solves}
 use Rattle.chr_semantics.proofs.UnifierEqual.{one}
 
 -- the number is in the list
-abbrev Has : ℕ → List ℕ → Type 0
+abbrev pub Has : ℕ → List ℕ → Type 0
 Has x [] = ⊥
 Has x (y ∷ vs) = (x ≡ y) ⊎ Has x vs
 
-without : ℕ → List ℕ → List ℕ
+pub without : ℕ → List ℕ → List ℕ
 without x [] = []
 without x (y ∷ vs) = cond (x == y) (without x vs) (y ∷ without x vs)
 
@@ -52,18 +52,28 @@ unfolding without
 Has-without x y [] h k = k
 Has-without x y (z ∷ vs) h k = Has-cond (x == z) x y z (without x vs) refl h (Has-tail x y z vs (λ w. Has-without x y vs h w) k)
 
+pub Has-within : (x y : ℕ) (vs : List ℕ) → Has y (without x vs) → Has y vs
+unfolding without
+Has-within x y [] h = h
+Has-within x y (v ∷ vs) h = by (x == v) (Has-within x y vs) h
+  where
+    by : (b : Bool) → (Has y (without x vs) → Has y vs) → Has y (cond b (without x vs) (v ∷ without x vs)) → (y ≡ v) ⊎ Has y vs
+    by true go h = inr (go h)
+    by false go (inl e) = inl e
+    by false go (inr h) = inr (go h)
+
 abbrev mutual
-  In : List ℕ → Tree → Type 0
+  pub In : List ℕ → Tree → Type 0
   In vs (var y) = Has y vs
   In vs (int z) = Unit {0}
   In vs (node g ts) = InAll vs ts
 
-  InAll : List ℕ → Trees → Type 0
+  pub InAll : List ℕ → Trees → Type 0
   InAll vs none = Unit {0}
   InAll vs (more t ts) = In vs t × InAll vs ts
 
 mutual
-  absent_in : (x : ℕ) (vs : List ℕ) (t : Tree) → occurs x t ≡ false → In vs t → In (without x vs) t
+  pub absent_in : (x : ℕ) (vs : List ℕ) (t : Tree) → occurs x t ≡ false → In vs t → In (without x vs) t
   absent_in x vs (var y) h k = Has-without x y vs h k
   absent_in x vs (int z) h k = tt
   absent_in x vs (node g ts) h k = absent_in_all x vs ts h k
@@ -87,17 +97,17 @@ mutual
   apply_in_all x u (more t ts) vs h k = (apply_in x u t vs h k.0, apply_in_all x u ts vs h k.1)
 
 -- the term is not the variable itself
-abbrev IsProper : ℕ → Tree → Type 0
+abbrev pub IsProper : ℕ → Tree → Type 0
 IsProper x (var y) = (x == y) ≡ false
 IsProper x (int z) = Unit {0}
 IsProper x (node g ts) = Unit {0}
 
 -- the variables of the equations are among vs, and no equation is between a variable and itself
-abbrev Fine : List ℕ → Equations → Type 0
+abbrev pub Fine : List ℕ → Equations → Type 0
 Fine vs [] = Unit {0}
 Fine vs (e ∷ es) = Has e.0 vs × In vs e.1 × IsProper e.0 e.1 × Fine vs es
 
-abbrev FineIn : List ℕ → Option Equations → Type 0
+abbrev pub FineIn : List ℕ → Option Equations → Type 0
 FineIn vs None = Unit {0}
 FineIn vs (Some es) = Fine vs es
 
@@ -128,7 +138,7 @@ tested_fine true vs p h = h
 tested_fine false vs p h = tt
 
 mutual
-  apart_fine : (vs : List ℕ) (a b : Tree) → In vs a → In vs b → FineIn vs (apart a b)
+  pub apart_fine : (vs : List ℕ) (a b : Tree) → In vs a → In vs b → FineIn vs (apart a b)
   apart_fine vs (var x) b h k = of_var_fine vs x b h k
   apart_fine vs (int z) (var y) h k = (k, tt, tt, tt)
   apart_fine vs (int z) (int w) h k = tested_fine (int_eq z w) vs (Some []) tt
@@ -143,7 +153,7 @@ mutual
   apart_all_fine vs (more t ts) none h k = tt
   apart_all_fine vs (more t ts) (more u us) h k = FineIn-both vs (apart t u) (apart_all ts us) (apart_fine vs t u h.0 k.0) (apart_all_fine vs ts us h.1 k.1)
 
-fine_under : (x : ℕ) (u : Tree) (vs : List ℕ) (es : Equations) → In (without x vs) u → Fine vs es → FineIn (without x vs) (apart_under (one x u) es)
+pub fine_under : (x : ℕ) (u : Tree) (vs : List ℕ) (es : Equations) → In (without x vs) u → Fine vs es → FineIn (without x vs) (apart_under (one x u) es)
 fine_under x u vs [] h k = tt
 fine_under x u vs (e ∷ es) h k =
     FineIn-both (without x vs) (apart (value_at (one x u) e.0) (apply (one x u) e.1)) (apart_under (one x u) es) (apart_fine (without x vs) (value_at (one x u) e.0) (apply (one x u) e.1) (apply_in x u (var e.0) vs h k.0) (apply_in x u e.1 vs h k.1)) (fine_under x u vs es h k.3)
@@ -203,17 +213,17 @@ none_solves f (suc n) s (e ∷ es) vs l p is h =
           none_solves f n (with_binding e.0 e.1 s) r.0 (without e.0 vs) shorter (subst (FineIn (without e.0 vs)) r.1 fine) r.2 (subst (HoldsIn f) r.1 later)
     ]
 
-Has-left : (x : ℕ) (vs ws : List ℕ) → Has x vs → Has x (vs ++ ws)
+pub Has-left : (x : ℕ) (vs ws : List ℕ) → Has x vs → Has x (vs ++ ws)
 Has-left x [] ws h = absurd h
 Has-left x (v ∷ vs) ws (inl e) = inl e
 Has-left x (v ∷ vs) ws (inr h) = inr (Has-left x vs ws h)
 
-Has-right : (x : ℕ) (vs ws : List ℕ) → Has x ws → Has x (vs ++ ws)
+pub Has-right : (x : ℕ) (vs ws : List ℕ) → Has x ws → Has x (vs ++ ws)
 Has-right x [] ws h = h
 Has-right x (v ∷ vs) ws h = inr (Has-right x vs ws h)
 
 mutual
-  vars_in : (vs : List ℕ) (t : Tree) → ((y : ℕ) → Has y (vars t) → Has y vs) → In vs t
+  pub vars_in : (vs : List ℕ) (t : Tree) → ((y : ℕ) → Has y (vars t) → Has y vs) → In vs t
   vars_in vs (var x) h = h x (inl refl)
   vars_in vs (int z) h = tt
   vars_in vs (node g ts) h = vars_in_all vs ts h

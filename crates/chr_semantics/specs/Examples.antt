@@ -11,4 +11,5 @@ pub mod Calls
 pub mod Schedules
 pub mod Suspicions
 pub mod Verdicts
+pub mod Effects
 pub mod Profiles

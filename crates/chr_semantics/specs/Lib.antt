@@ -43,3 +43,4 @@ pub mod Life
 pub mod Suspicion
 pub mod Lists
 pub mod Profile
+pub mod Effect

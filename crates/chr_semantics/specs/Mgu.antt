@@ -1,8 +1,9 @@
 -- The most general unifier (Frühwirth 2009, unification; Duck et al. 2004 leave solving to the built-in solver).
-use Rattle.std.specs.Prelude.{◌≡◌, ℕ, zero, suc, true, false, cond, ◌==◌, nat_lt, Option, Some, None, List, [], ◌∷◌, ◌++◌, length}
+use Rattle.std.specs.Prelude.{◌≡◌, ℕ, zero, suc, true, false, cond, ◌==◌, ◌||◌, nat_lt, Option, Some, None, List, [], ◌∷◌, ◌++◌, length}
+use Rattle.std.specs.List.{list_any}
 use Rattle.std.specs.Ordering.{int_eq}
 use Rattle.chr_semantics.specs.Tree.{Tree, var, int, node, Trees, none, more}
-use Rattle.chr_semantics.specs.Subst.{instance, Subst, value_at, apply, occurs, with_binding, Solves, IsSolved}
+use Rattle.chr_semantics.specs.Subst.{instance, Subst, value_at, apply, binds_var, occurs, with_binding, Solves, IsSolved}
 
 -- An equation has a variable on the left and another term on the right.
 abbrev pub Equations : Type 0
@@ -72,10 +73,11 @@ unfoldable pub mgu : Subst → Tree → Tree → Option Subst
 mgu s a b = elimination_from (length (vars (apply s a) ++ vars (apply s b))) s (apart (apply s a) (apply s b))
 
 -- The law of the mgu, for a solved s: the result is solved, has the bindings of s and makes both terms equal; whatever solves s and makes
--- both terms equal solves the result too, so that t and apply(result, t) come to the same under it; and where there is no result,
--- nothing solves s and makes both terms equal.
+-- both terms equal solves the result too, so that t and apply(result, t) come to the same under it; it binds no variable but those that s
+-- binds and those of the terms under s; and where there is no result, nothing solves s and makes both terms equal.
 pub record UnifierLaw : Type 0 where
   pub equal : (s : Subst) (a b : Tree) → IsSolved s → (r : Subst) → mgu s a b ≡ Some r → IsSolved r × Solves (value_at r) s × (apply r a ≡ apply r b)
   pub general : (s : Subst) (a b : Tree) (f : ℕ → Tree) → Solves f s → instance f a ≡ instance f b → (r : Subst) → mgu s a b ≡ Some r → Solves f r
   pub same_result : (f : ℕ → Tree) (r : Subst) → Solves f r → (t : Tree) → instance f (apply r t) ≡ instance f t
+  pub binds : (s : Subst) (a b : Tree) (r : Subst) → mgu s a b ≡ Some r → (y : ℕ) → binds_var r y ≡ true → (binds_var s y || list_any (λ (v : ℕ). v == y) (vars (apply s a) ++ vars (apply s b))) ≡ true
   pub only : (s : Subst) (a b : Tree) → mgu s a b ≡ None → (f : ℕ → Tree) → Solves f s → instance f a ≡ instance f b → ⊥

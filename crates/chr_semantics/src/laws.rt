@@ -3,6 +3,7 @@
 ghost use Rattle.chr_semantics.specs.Tree.{SameLaw};
 ghost use Rattle.chr_semantics.specs.Subst.{SolvedLaw};
 ghost use Rattle.chr_semantics.specs.Mgu.{UnifierLaw};
+ghost use Rattle.chr_semantics.specs.Effect.{EffectLaw};
 ghost use Rattle.chr_semantics.specs.Match.{FitsLaw};
 ghost use Rattle.chr_semantics.specs.Search.{TuplesLaw, RowsLaw, DeadEntriesLaw, RuleEntriesLaw};
 ghost use Rattle.chr_semantics.specs.Schedule.{AppendedLaw, IdleLaw, LimitsLaw};
@@ -201,4 +202,9 @@ pub fn verdict_law()
 /// A rule whose heads are all passive fires in no run, and a test that is hopeless as it is written is entailed under no match.
 pub fn suspicion_law()
     ensures { SuspicionLaw }
+{}
+
+/// A run can be made again from what its transitions change: each change makes a state that shows the next one.
+pub fn effect_law()
+    ensures { EffectLaw }
 {}

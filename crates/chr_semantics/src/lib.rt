@@ -4,6 +4,7 @@
 
 pub mod calls;
 pub mod checks;
+pub mod effects;
 pub mod laws;
 pub mod limits;
 pub mod policy;

@@ -2,7 +2,7 @@
 //!
 //! `look answer PROGRAM QUERY` shows how the run ended, `look firings PROGRAM QUERY` each firing, `look life PROGRAM QUERY ID` how a constraint
 //! came and went, `look profile PROGRAM QUERY` what the run cost, `look why PROGRAM QUERY RULE ID ..` why a rule does not fire with a list of
-//! constraints, and `look check PROGRAM` what is wrong with a program.
+//! constraints, and `look check PROGRAM` what is wrong with a program; `look page PROGRAM QUERY` writes a page of the run for a browser.
 #![tactic(auto)]
 
 use chr_words::Disk;

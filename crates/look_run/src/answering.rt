@@ -12,6 +12,7 @@ use crate::page::Page;
 use crate::profile::write_profile;
 use crate::reading::Texts;
 use crate::refusal::Refusal;
+use crate::showing::{Titles, write_page};
 use crate::teller::Teller;
 use crate::unsought::Listed;
 use crate::why::{ids_of, rule_of, write_why};
@@ -276,12 +277,12 @@ fn answer_why_rule(
     write_lists_and_end(alloc, texts, text, asked, &mut watched, n, page)
 }
 
-/// Answers a question about the run of a query, of n transitions or fewer, over a program with this text, and says how that ended.
+/// Answers a question about the run of a query, of n transitions or fewer, and says how that ended.
 pub(crate) fn answer<W: Write>(
     alloc: Global,
     question: &Question<'_>,
     texts: &Texts,
-    text: &[u8],
+    titles: Titles<'_>,
     n: u64,
     output: &mut W,
 ) -> Result<Status, Refusal>
@@ -292,7 +293,8 @@ pub(crate) fn answer<W: Write>(
         Question::Answer => answer_ending(alloc, texts, n, &mut page)?,
         Question::Firings => answer_firings(alloc, texts, n, output, &mut page)?,
         Question::Life(id) => answer_life(alloc, texts, *id, n, &mut page)?,
-        Question::Profile => answer_profile(alloc, texts, text, n, &mut page)?,
+        Question::Profile => answer_profile(alloc, texts, titles.program, n, &mut page)?,
+        Question::Page => write_page(alloc, texts, titles, n, output, &mut page)?,
         Question::Why(label, numbers, at) => {
             let asked = Asked {
                 label: *label,
@@ -300,7 +302,7 @@ pub(crate) fn answer<W: Write>(
                 at: *at,
             };
             if numbers.is_empty() {
-                answer_why_rule(alloc, texts, text, asked, n, &mut page)?
+                answer_why_rule(alloc, texts, titles.program, asked, n, &mut page)?
             } else {
                 answer_why(alloc, texts, asked, n, &mut page)?
             }

@@ -5,6 +5,7 @@ use crate::checked::{Source, write_checked};
 use crate::page::Page;
 use crate::reading::read_texts;
 use crate::refusal::Refusal;
+use crate::showing::Titles;
 use chr_machine::Status;
 use chr_semantics::limits::MAX_TRANSITIONS;
 use chr_words::files::write_all;
@@ -69,14 +70,15 @@ fn look<O: Opens, W: Write, E: Write>(
     }
     let program = read_file(alloc, files, run.program).ok_or(Refusal::Unreadable)?;
     match read_texts(alloc, program.as_slice(), run.query.as_bytes()) {
-        Ok(texts) => Ok(status_code(answer(
-            alloc,
-            question,
-            &texts,
-            program.as_slice(),
-            budget,
-            output,
-        )?)),
+        Ok(texts) => {
+            let titles = Titles {
+                file: run.program,
+                program: program.as_slice(),
+                query: run.query,
+            };
+            let status = answer(alloc, question, &texts, titles, budget, output)?;
+            Ok(status_code(status))
+        }
         Err(Refusal::Mistaken) => {
             let source = Source {
                 name: run.program,

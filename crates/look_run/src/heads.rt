@@ -2,15 +2,15 @@
 
 use crate::excerpt::{characters, write_flat};
 use crate::page::Page;
-use chr_check::{Span, heads};
+use chr_check::{RuleSpans, rule_spans};
 use chr_term::Memory;
 use std::alloc::Global;
 
-/// The text of a program, and where the heads of its rules stand in it.
+/// The text of a program, and where its rules and their heads stand in it.
 #[derive(Drop)]
 pub(crate) struct Heads {
-    characters: Vec<char>,
-    spans: Vec<Vec<Span>>,
+    pub(crate) characters: Vec<char>,
+    pub(crate) rules: Vec<RuleSpans>,
 }
 
 impl Heads {
@@ -18,16 +18,16 @@ impl Heads {
     pub(crate) fn of(alloc: Global, program: &[u8]) -> Result<Heads, Memory> {
         Ok(Heads {
             characters: characters(alloc, program)?,
-            spans: heads(alloc, program)?,
+            rules: rule_spans(alloc, program)?,
         })
     }
 
     /// Writes a head of a rule, both counted from 0, in one line.
     pub(crate) fn write(&self, rule: usize, head: usize, page: &mut Page) {
-        let Some(spans) = self.spans.get(rule) else {
+        let Some(rule) = self.rules.get(rule) else {
             return;
         };
-        match spans.get(head) {
+        match rule.heads.get(head) {
             None => {}
             Some(span) => write_flat(self.characters.as_slice(), span.begin, span.width, page),
         }

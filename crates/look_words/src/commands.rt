@@ -92,5 +92,10 @@ pub(crate) fn look_command<'a>(alloc: Global) -> Result<Command<'a>, AllocError>
             "Shows what the run cost, by heads, rules and kinds",
         )?)?
         .subcommand(why(alloc)?)?
+        .subcommand(question(
+            alloc,
+            "page",
+            "Writes a page of the run for a browser: each transition, and how it left the run",
+        )?)?
         .subcommand(check(alloc)?)
 }

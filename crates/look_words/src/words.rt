@@ -27,6 +27,8 @@ pub enum Question<'a> {
     Life(u64),
     /// What it cost.
     Profile,
+    /// A page to look at.
+    Page,
     /// Why the rule of a label does not fire with these, or where there are none with those of the store: where the run stands, or after so many
     /// transitions.
     Why(&'a str, Vec<u64>, Option<u64>),
@@ -78,6 +80,7 @@ fn question_of<'a>(
         "answer" => Question::Answer,
         "firings" => Question::Firings,
         "profile" => Question::Profile,
+        "page" => Question::Page,
         "life" => match matches.get_one::<u64>("ID") {
             Some(id) => Question::Life(id),
             None => return Ok(None),
