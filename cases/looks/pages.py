@@ -20,6 +20,18 @@ r @ p(X) <=> X > 1 | q(X). /* </SCRIPT > & &lt; " ' \\ \\u003c \u00e9 \u2028 */
 HOSTILE_QUERY = 'p(2). % </script><img src=x onerror="alert(1)">'
 
 
+HOSTILE_RUN = b"""1 activate p(2)#1
+2 simplify p(2)#1:1 r 1
+3 activate q(2)#2
+4 drop q(2)#2:1
+end done
+stack 0
+store 1
+q(2)#2
+bindings 0
+history 1
+r 1
+"""
 # The guide's first program, whose page is kept in `docs/page/`.
 LEAST = """:- chr_constraint min/1.
 keep_least @ min(X) \\ min(Y) <=> X =< Y | true.
@@ -97,7 +109,7 @@ for case in ("programs/fibonacci_of_four", "programs/gcd_of_three", "programs/gr
 # The run of `speculation` is that of its schedule; of `circuit` no case has the trace, which is long.
 page("speculation", text("examples/speculation.chr"), "q(1), act.", text_of("schedules/speculation"))
 page("circuit", text("examples/circuit.chr"), query_of("circuit"))
-page("hostile", HOSTILE, HOSTILE_QUERY)
+page("hostile", HOSTILE, HOSTILE_QUERY, HOSTILE_RUN)
 # The page in `docs/` is that of the program least.chr.
 kept = text("docs/page/least.html")
 before, behind = fixed_parts()
