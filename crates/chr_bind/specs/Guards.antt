@@ -24,6 +24,14 @@ test_view (Differs t u) = compares differs (view t) (view u)
 test_view (Integer t) = is_integer (view t)
 test_view (Ground t) = is_ground (view t)
 
+-- the test over other terms, of which one of a single term takes the first
+abbrev pub over : semantics.Test → Tree → Tree → semantics.Test
+over (identical s t) u v = identical u v
+over (not_unifiable s t) u v = not_unifiable u v
+over (compares c s t) u v = compares c u v
+over (is_integer t) u v = is_integer u
+over (is_ground t) u v = is_ground u
+
 -- why a test is not entailed
 abbrev pub lack_view : Lack → verdict.Lack
 lack_view Untrue = untrue

@@ -1,5 +1,6 @@
 //! Values of arithmetic terms.
-ghost use Rattle.std.specs.Prelude.{◌≡◌, ◌≢◌, ◌∷◌, [], ◌*ℤ◌, int_div, int_rem, negsuc, pos, IsTrue, ◌↔◌, ◌≤◌, MatchOption, Ok, length};
+ghost use Rattle.std.specs.Prelude.{◌≡◌, ◌≢◌, ◌==◌, ◌∷◌, [], cond, int_div, pos, IsTrue, ◌↔◌, ◌≤◌, MatchOption, Ok, length};
+ghost use Rattle.chr_semantics.specs.Names.{divide_symbol};
 ghost use Rattle.chr_semantics.specs.Value.{operator_value, modulo as modulo_of, node_value, value as value_of, value_in_range, values};
 ghost use Rattle.chr_term.specs.TermView.{trees_view, view};
 ghost use Rattle.chr_bind.specs.Values.{checked_value, value_view};
@@ -82,13 +83,24 @@ fn apply_operator(sym: Sym, left: i128, right: i128) -> Result<i128, Fault>
     } else if sym == Sym::MINUS {
         in_range(left.checked_sub(right))
     } else if sym == Sym::TIMES {
-        in_range(product(left, right))
+        in_range(left.checked_mul(right))
     } else if right == 0 {
         Err(Fault::ZeroDivisor)
-    } else if sym == Sym::DIVIDE {
-        in_range(quotient(left, right))
     } else {
-        modulo(left, right)
+        divide(sym, left, right)
+    }
+}
+
+/// What `//` or `mod` gives for two numbers.
+fn divide(sym: Sym, left: i128, right: i128) -> Result<i128, Fault>
+    requires { right ≢ pos 0 }
+    ensures { value_view result
+        ≡ cond (sym.0 == divide_symbol) (value_in_range (int_div left right)) (Ok (modulo_of left right)) }
+{
+    if sym == Sym::DIVIDE {
+        in_range(left.checked_div(right))
+    } else {
+        Ok(modulo(left, right))
     }
 }
 
@@ -102,76 +114,23 @@ fn in_range(number: Option<i128>) -> Result<i128, Fault>
     }
 }
 
-/// The product of two numbers of 64 bits.
-fn short_product(left: i64, right: i64) -> i128
-    ensures { value_in_range (left *ℤ right) ≡ Ok result }
-{
-    i128::from(left) * i128::from(right)
-}
-
-/// The product, if it is in range. Two numbers of 64 bits are multiplied by one instruction.
-fn product(left: i128, right: i128) -> Option<i128>
-    ensures { checked_value result ≡ value_in_range (left *ℤ right) }
-{
-    match (i64::try_from(left), i64::try_from(right)) {
-        (Ok(left), Ok(right)) => Some(short_product(left, right)),
-        _ => left.checked_mul(right),
-    }
-}
-
-/// The quotient of two numbers of 64 bits.
-fn short_quotient(left: i64, right: i64) -> i128
-    requires some { right ≢ pos 0 }
-    requires in_range { right ≢ negsuc 0 }
-    ensures { value_in_range (int_div left right) ≡ Ok result }
-{
-    i128::from(left / right)
-}
-
-/// The quotient, if it is in range. Two numbers of 64 bits are divided by one instruction, where 128 bits take a loop.
-fn quotient(left: i128, right: i128) -> Option<i128>
+/// The remainder with the sign of the divisor.
+fn modulo(left: i128, right: i128) -> i128
     requires { right ≢ pos 0 }
-    ensures { checked_value result ≡ value_in_range (int_div left right) }
-{
-    // The least number of 64 bits has no quotient by -1 among them.
-    if right == -1 {
-        return left.checked_div(right);
-    }
-    match (i64::try_from(left), i64::try_from(right)) {
-        (Ok(left), Ok(right)) => Some(short_quotient(left, right)),
-        _ => left.checked_div(right),
-    }
-}
-
-/// The remainder with the sign of the left number. Two numbers of 64 bits are divided by one instruction.
-fn remainder(left: i128, right: i128) -> i128
-    requires some { right ≢ pos 0 }
-    requires in_range { right ≢ negsuc 0 }
-    ensures { result ≡ int_rem left right }
-{
-    match (i64::try_from(left), i64::try_from(right)) {
-        (Ok(left), Ok(right)) => i128::from(left % right),
-        _ => left % right,
-    }
-}
-
-/// The remainder with the sign of the divisor, which is in range.
-fn modulo(left: i128, right: i128) -> Result<i128, Fault>
-    requires { right ≢ pos 0 }
-    ensures { value_view result ≡ Ok (modulo_of left right) }
+    ensures { result ≡ modulo_of left right }
 {
     // The least number has no quotient by -1 in range, so `%` is not asked.
     if right == -1 {
-        return Ok(0);
+        return 0;
     }
-    let rest = remainder(left, right);
+    let rest = left % right;
     if rest == 0 {
-        return Ok(rest);
+        return rest;
     }
     match (rest < 0, right < 0) {
-        (true, true) => Ok(rest),
-        (true, false) => Ok(rest + right),
-        (false, true) => Ok(rest + right),
-        (false, false) => Ok(rest),
+        (true, true) => rest,
+        (true, false) => rest + right,
+        (false, true) => rest + right,
+        (false, false) => rest,
     }
 }

@@ -1,5 +1,5 @@
 //! Bindings that are followed: terms stay as they were, and nothing is replaced in them.
-ghost use Rattle.std.specs.Prelude.{◌≡◌, ◌<◌, ◌↔◌, IsTrue, Some, ℕ, length, option_map, slice_get};
+ghost use Rattle.std.specs.Prelude.{◌≡◌, ◌<◌, ◌↔◌, IfSome, IsTrue, Ok, Some, ℕ, length, option_map, slice_get};
 ghost use Rattle.chr_semantics.specs.Tree.{Tree, is_ground_tree, is_ground_trees, var as variable};
 ghost use Rattle.chr_semantics.specs.Subst.{apply, occurs, occurs_any, instances, value_at};
 ghost use Rattle.chr_semantics.specs.Value.{node_value, value as value_of, values};
@@ -11,6 +11,7 @@ ghost use Rattle.chr_bind.specs.Values.{value_view};
 
 use crate::arithmetic::{evaluate_operator, pair_of};
 use crate::fault::Fault;
+use crate::short::{apply_short, short};
 use chr_term::{Args, Sym, Term};
 use std::alloc::Allocator;
 
@@ -200,8 +201,44 @@ impl<'l, 't, A: Allocator> Chains<'l, 't, A> {
     }
 
     /// The value of what the term stands for.
-    #[cycle(number)]
     pub fn number(&self, term: &'t Term<A>) -> Result<i128, Fault>
+        requires { AreSound self.now }
+        ensures { value_view result ≡ value_of (apply (subst_of self.now) (view term.now)) }
+    {
+        match self.short_number(term) {
+            Some(number) => Ok(i128::from(number)),
+            None => self.full_number(term),
+        }
+    }
+
+    /// The value of what the term stands for, where it and all that it is made of have 64 bits.
+    #[cycle(short_number)]
+    fn short_number(&self, term: &'t Term<A>) -> Option<i64>
+        requires { AreSound self.now }
+        ensures { IfSome result (λ short. value_of (apply (subst_of self.now) (view term.now)) ≡ Ok short) }
+    {
+        match self.root(term) {
+            ResolvedRoot::Free(_, _) => None,
+            ResolvedRoot::Int(number) => short(number),
+            ResolvedRoot::Node(sym, args) => self.short_node_number(sym, args.as_slice()),
+        }
+    }
+
+    #[cycle(short_number)]
+    fn short_node_number(&self, sym: Sym, args: &'t [Term<A>]) -> Option<i64>
+        requires { AreSound self.now }
+        ensures { IfSome result (λ short.
+            node_value sym.0 (values (instances (value_at (subst_of self.now)) (trees_view args.now))) ≡ Ok short) }
+    {
+        let (left, right) = pair_of(args)?;
+        let left = self.short_number(left)?;
+        let right = self.short_number(right)?;
+        apply_short(sym, left, right)
+    }
+
+    /// As `number`, for all numbers.
+    #[cycle(number)]
+    fn full_number(&self, term: &'t Term<A>) -> Result<i128, Fault>
         requires { AreSound self.now }
         ensures { value_view result ≡ value_of (apply (subst_of self.now) (view term.now)) }
     {
@@ -220,8 +257,8 @@ impl<'l, 't, A: Allocator> Chains<'l, 't, A> {
     {
         match pair_of(args) {
             Some((left, right)) => {
-                let left = self.number(left);
-                evaluate_operator(sym, left, self.number(right))
+                let left = self.full_number(left);
+                evaluate_operator(sym, left, self.full_number(right))
             }
             None => Err(Fault::NotNumber),
         }

@@ -1,5 +1,5 @@
 //! Guards over what the variables of a rule are matched to.
-ghost use Rattle.std.specs.Prelude.{◌≡◌, IfOk, map};
+ghost use Rattle.std.specs.Prelude.{◌≡◌, IfOk, IfSome, Ok, map};
 ghost use Rattle.chr_semantics.specs.Guard.{all_entailed, entailed, value_comparison_holds, is_int};
 ghost use Rattle.chr_semantics.specs.Program.{identical, is_ground as is_ground_test, is_integer, not_unifiable};
 ghost use Rattle.chr_semantics.specs.Subst.{Subst, apply, instances, value_at};
@@ -16,6 +16,7 @@ use crate::comparison::Comparison;
 use crate::fault::Fault;
 use crate::matching::Match;
 use crate::renaming::are_unifiable;
+use crate::short::{apply_short, short, short_number};
 use chr_term::{Args, Sym, Term, copy, is_ground, same};
 use std::alloc::{Allocator, Global};
 
@@ -161,8 +162,40 @@ fn node_value_under<A: Allocator>(
     }
 }
 
-/// Whether both sides have values, and the comparison holds of them.
-fn compares<A: Allocator>(
+/// The value of a pattern under the match, where it and all that it is made of have 64 bits.
+#[cycle(short_value)]
+fn short_value_under<A: Allocator>(matching: &Match<'_, A>, pattern: &Term<A>) -> Option<i64>
+    ensures { IfSome result (λ short. (m : Subst) → AgreesWith matching.now m →
+        value_of (apply m (view pattern.now)) ≡ Ok short) }
+{
+    match pattern {
+        Term::Var(x) => match matching.get(*x) {
+            Some(matched) => short_number(matched),
+            None => None,
+        },
+        Term::Int(number) => short(*number),
+        Term::Node(sym, patterns) => short_node_value_under(matching, *sym, patterns.as_slice()),
+    }
+}
+
+/// The value of a symbol over patterns under the match, where that is so.
+#[cycle(short_value)]
+fn short_node_value_under<A: Allocator>(
+    matching: &Match<'_, A>,
+    sym: Sym,
+    patterns: &[Term<A>],
+) -> Option<i64>
+    ensures { IfSome result (λ short. (m : Subst) → AgreesWith matching.now m →
+        node_value sym.0 (values (instances (value_at m) (trees_view patterns.now))) ≡ Ok short) }
+{
+    let (left, right) = pair_of(patterns)?;
+    let left = short_value_under(matching, left)?;
+    let right = short_value_under(matching, right)?;
+    apply_short(sym, left, right)
+}
+
+/// As `compares`, for all numbers.
+fn compares_in_full<A: Allocator>(
     matching: &Match<'_, A>,
     comparison: Comparison,
     left: &Term<A>,
@@ -177,6 +210,26 @@ fn compares<A: Allocator>(
         (Ok(_), Err(_)) => false,
         (Err(_), Ok(_)) => false,
         (Err(_), Err(_)) => false,
+    }
+}
+
+/// Whether both sides have values, and the comparison holds of them.
+fn compares<A: Allocator>(
+    matching: &Match<'_, A>,
+    comparison: Comparison,
+    left: &Term<A>,
+    right: &Term<A>,
+) -> bool
+    ensures { (m : Subst) → AgreesWith matching.now m →
+        result ≡ value_comparison_holds (comparison_view comparison)
+        (value_of (apply m (view left.now))) (value_of (apply m (view right.now))) }
+{
+    match (
+        short_value_under(matching, left),
+        short_value_under(matching, right),
+    ) {
+        (Some(left), Some(right)) => comparison.holds(i128::from(left), i128::from(right)),
+        _ => compares_in_full(matching, comparison, left, right),
     }
 }
 

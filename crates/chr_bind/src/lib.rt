@@ -12,6 +12,7 @@ mod guard;
 mod matching;
 mod renaming;
 mod resolving;
+mod short;
 mod unification;
 
 pub use arithmetic::value;

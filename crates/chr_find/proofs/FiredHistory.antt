@@ -14,7 +14,7 @@ use Rattle.chr_semantics.specs.Search.{History, fired_before, same_ids}
 use Rattle.chr_store.specs.FiredLaws.{same_fired}
 use Rattle.chr_store.specs.contracts.fired.FiredOrd.TheImpl.Laws.{matches_eq-law, total-law}
 use Rattle.chr_store.specs.declared.fired.Fired.{Fired}
-use Rattle.chr_find.specs.Firings.{fired_cmp, firing, history_in, history_of, is_in}
+use Rattle.chr_find.specs.Firings.{fired_cmp, history_in, history_of, is_in}
 use Rattle.chr_find.proofs.FiringMaps.{same_Decides}
 
 pub same_ids_Decides : (xs ys : List ℕ) → Decides (same_ids xs ys) (xs ≡ ys)

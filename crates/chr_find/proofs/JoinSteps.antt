@@ -1,11 +1,11 @@
 -- The steps of the join.
-use Rattle.std.proofs.Common.{◌≡◌, ◌^◌, ◌<◌, append-nil, ℕ, ◌+◌, Bool, true, false, ◌||◌, ◌==◌, List, [], ◌∷◌, ◌++◌, map, Option, Some, None, length, take, drop, subst, ap, refl, ◌∙◌, sym, ◌⊎◌, inl, inr}
+use Rattle.std.proofs.Common.{◌≡◌, ◌^◌, ◌<◌, append-nil, ℕ, ◌+◌, Bool, true, false, ◌||◌, ◌==◌, List, [], ◌∷◌, ◌++◌, map, Option, Some, None, drop, subst, ap, refl, ◌∙◌, sym, ◌⊎◌, inl, inr}
 use Rattle.std.specs.Prelude.{flat_map}
 use Rattle.std.proofs.lemmas.List.Concat.{flat_map-append}
 use Rattle.std.proofs.lemmas.List.Folds.{list_any-append}
 use Rattle.chr_bind.specs.Matching.{AgreesWith, IsSame}
 use Rattle.chr_bind.specs.declared.matching.Match.{Match}
-use Rattle.chr_semantics.specs.Join.{Joined, after_row, branch, joined}
+use Rattle.chr_semantics.specs.Join.{Joined, after_row, joined}
 use Rattle.chr_semantics.specs.Match.{Row, fit_atom}
 use Rattle.chr_semantics.specs.Program.{Atom, Head, Rule}
 use Rattle.chr_semantics.specs.Search.{History, has_number}

@@ -16,6 +16,7 @@ pub mod Kept
 pub mod KeyedRows
 pub mod KeyedTables
 pub mod LiveFirings
+pub mod Leads
 pub mod Lookups
 pub mod Loops
 pub mod Made

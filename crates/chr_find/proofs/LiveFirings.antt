@@ -1,5 +1,5 @@
 -- The rows of a table that live.
-use Rattle.std.proofs.Common.{◌≡◌, ◌∙◌, ◌==◌, ◌&&◌, ℕ, Bool, true, false, cond, List, [], ◌∷◌, ap, refl, sym}
+use Rattle.std.proofs.Common.{◌≡◌, ◌∙◌, ◌==◌, ℕ, Bool, true, false, cond, List, [], ◌∷◌, ap, refl, sym}
 use Rattle.std.specs.List.{list_all}
 use Rattle.std.specs.Prelude.{Option, Some, is_some}
 use Rattle.std.proofs.lemmas.Bool.{and_from, eq-eqb}

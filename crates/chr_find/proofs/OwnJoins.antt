@@ -1,5 +1,5 @@
 -- What the join finds from the match of the own head.
-use Rattle.std.proofs.Common.{◌≡◌, ℕ, Bool, List, [], Option, Some, length, refl}
+use Rattle.std.proofs.Common.{◌≡◌, ℕ, Bool, List, [], Option, Some, refl}
 use Rattle.chr_bind.specs.Matching.{AgreesWith}
 use Rattle.chr_bind.specs.declared.matching.Match.{Match}
 use Rattle.chr_rules.specs.RuleView.{rule_view}

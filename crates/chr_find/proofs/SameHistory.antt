@@ -1,20 +1,16 @@
 -- Histories that agree on the identities of the rows: a search comes to the same with either.
-use Rattle.std.proofs.Common.{◌≡◌, ◌∙◌, ◌<◌, ◌≤◌, ◌+◌, ℕ, zero, suc, Bool, true, false, not, cond, ◌&&◌, List, [], ◌∷◌, ap, refl, sym, subst, arith, length, ◌⊎◌, inl, inr, Option, Some}
+use Rattle.std.proofs.Common.{◌≡◌, ◌∙◌, ◌+◌, ℕ, zero, suc, Bool, true, false, not, cond, ◌&&◌, List, [], ◌∷◌, ap, refl, sym, subst, arith, length, ◌⊎◌, inl, inr, Option, Some}
 use Rattle.std.specs.List.{list_all}
 use Rattle.std.specs.Prelude.{Contains, filter, find, option_map}
 use Rattle.std.proofs.lemmas.Bool.{and_from, and_parts}
-use Rattle.std.proofs.lemmas.Bool.Decides.{Decides-ltb}
-use Rattle.std.proofs.lemmas.List.{length-map}
-use Rattle.std.proofs.lemmas.List.Elements.{All-contains}
 use Rattle.chr_semantics.specs.Cursor.{IsSpent}
 use Rattle.chr_semantics.specs.Match.{Row, fits}
 use Rattle.chr_semantics.specs.Program.{Rule}
-use Rattle.chr_semantics.specs.Search.{History, IsTuple, can_fire, fired_before, first_tuple, ids_of, passes_guard, tuples}
+use Rattle.chr_semantics.specs.Search.{History, can_fire, fired_before, first_tuple, ids_of, passes_guard, tuples}
 use Rattle.chr_semantics.specs.Tries.{capped, fits_some, tried, tried_tuples}
 use Rattle.chr_find.specs.First.{IsFirst}
 use Rattle.chr_semantics.proofs.DeadEntriesLaw.{AllRows, tuples_all}
 use Rattle.chr_semantics.proofs.Lists.{contains_cases}
-use Rattle.chr_semantics.proofs.TuplesLaw.{tuples_law}
 
 contains_later : {X : Type 0} (x y : X) (xs : List X) → Contains xs y → Contains (x ∷ xs) y
 contains_later x y xs (k, lt, e) = (suc k, omega (arith, lt), e)

@@ -53,10 +53,10 @@ pub longer_length : (partners longer : List ℕ) (c : ℕ) → longer ≡ partne
 longer_length partners longer c is = ap length is ∙ length-append partners (c ∷ [])
 
 -- The measure falls where all entries are visited for a level, and where those after a middle are.
-pub level_less : (h l r n : ℕ) → l < h → n ≤ r → (h - l - 1) * (r + 4) + n + 3 < (h - l) * (r + 4)
+pub level_less : (h l r n : ℕ) → l < h → n ≤ r → (h - l - 1) * (2 * r + 5) + 2 * n + 3 < (h - l) * (2 * r + 5)
 level_less h l r n lt e =
     let one_more : h - l ≡ (h - l - 1) + 1 = omega (arith, lt) in
-    let whole : (h - l) * (r + 4) ≡ (h - l - 1) * (r + 4) + 1 * (r + 4) = ap (λ (x : ℕ). x * (r + 4)) one_more ∙ add-mul (h - l - 1) 1 (r + 4) in
+    let whole : (h - l) * (2 * r + 5) ≡ (h - l - 1) * (2 * r + 5) + 1 * (2 * r + 5) = ap (λ (x : ℕ). x * (2 * r + 5)) one_more ∙ add-mul (h - l - 1) 1 (2 * r + 5) in
     omega (arith, whole, e)
 
 pub before_shorter : {X : Type 0} (part xs : List X) (m : X) (ys : List X) → part ≡ xs ++ m ∷ ys → length xs < length part

@@ -1,5 +1,5 @@
 -- Tables that are taken of a state, as snapshots of it.
-use Rattle.std.proofs.Common.{◌≡◌, ◌∙◌, ◌==◌, ◌≤◌, ◌+◌, ℕ, Bool, true, false, not, List, [], ◌∷◌, ap, arith, cond, length, refl, subst, sym}
+use Rattle.std.proofs.Common.{◌≡◌, ◌∙◌, ◌==◌, ◌≤◌, ◌+◌, ℕ, true, false, not, List, [], ◌∷◌, ap, arith, length, refl, subst, sym}
 use Rattle.std.specs.List.{list_all}
 use Rattle.std.specs.Prelude.{Option, Some, None, filter}
 use Rattle.chr_semantics.specs.Footprint.{Ascends}

@@ -1,5 +1,5 @@
 -- What a search finds among the rows of a span that are in a list: before its middle, there, and after it.
-use Rattle.std.proofs.Common.{◌≡◌, ◌^◌, ◌<◌, ◌≤◌, ◌+◌, ℕ, Bool, true, false, List, [], ◌∷◌, ◌++◌, Option, Some, None, ap, length, refl, subst, sym}
+use Rattle.std.proofs.Common.{◌≡◌, ◌^◌, ◌<◌, ◌≤◌, ◌+◌, ℕ, Bool, true, false, List, [], ◌∷◌, ◌++◌, Option, Some, None, length, refl, subst, sym}
 use Rattle.std.specs.declared.cmp.Ordering.TheVariants.{Equal}
 use Rattle.chr_map.specs.Order.{Ascends}
 use Rattle.chr_bind.specs.Matching.{IsSame}
@@ -20,7 +20,7 @@ use Rattle.chr_find.specs.declared.bucket.Bucket.{Bucket}
 use Rattle.chr_find.specs.declared.bucket.IndexKey.{IndexKey}
 use Rattle.chr_find.proofs.JoinSteps.{walk_found, walk_none, walk_on, walk_same}
 use Rattle.chr_find.proofs.PassedRows.{rows_passed}
-use Rattle.chr_find.proofs.WalkSpans.{span_equal, span_passed, span_under}
+use Rattle.chr_find.proofs.WalkSpans.{span_passed, span_under}
 
 module _ {P A : Type 0} (h : History) (s : Search P A) (p : Prefix) where
   -- without rows nothing is found
@@ -30,40 +30,18 @@ module _ {P A : Type 0} (h : History) (s : Search P A) (p : Prefix) where
       (λ x at rows shown. walk_none rows h s.number (rule_view s.rule.now) s.place s.own.0 (length p.partners) p.partners old s.from s.quiet (threshold_at h s p) x.atom told small)
 
   -- what is found among the first rows is found
-  finds_first : (old : Match A) (walked xs ys : List semantics.Row) (b : Bool) (l : List ℕ) (told now : ℕ) → walked ≡ xs ++ ys → b ≡ true → WalkFinds h s p old xs (if_found b l) told now → WalkFinds h s p old walked (Some l) told now
+  pub finds_first : (old : Match A) (walked xs ys : List semantics.Row) (b : Bool) (l : List ℕ) (told now : ℕ) → walked ≡ xs ++ ys → b ≡ true → WalkFinds h s p old xs (if_found b l) told now → WalkFinds h s p old walked (Some l) told now
   finds_first old walked xs ys b l told now is found w x at rows shown =
       walk_found rows h s.number (rule_view s.rule.now) s.place s.own.0 (length p.partners) p.partners old s.from s.quiet (threshold_at h s p) x.atom walked xs ys b l told now is found (w x at rows shown)
 
   -- where nothing is found among them, it is what is found among those after them
-  finds_second : (old next : Match A) (walked xs ys : List semantics.Row) (b : Bool) (l : List ℕ) (result : Option (List ℕ)) (told mid now : ℕ) → walked ≡ xs ++ ys → b ≡ false → WalkFinds h s p old xs (if_found b l) told mid → IsSame old next → WalkFinds h s p next ys result mid now
+  pub finds_second : (old next : Match A) (walked xs ys : List semantics.Row) (b : Bool) (l : List ℕ) (result : Option (List ℕ)) (told mid now : ℕ) → walked ≡ xs ++ ys → b ≡ false → WalkFinds h s p old xs (if_found b l) told mid → IsSame old next → WalkFinds h s p next ys result mid now
       → WalkFinds h s p old walked result told now
   finds_second old next walked xs ys b l result told mid now is none v same w x at rows shown =
       walk_on rows h s.number (rule_view s.rule.now) s.place s.own.0 (length p.partners) p.partners old s.from s.quiet (threshold_at h s p) x.atom walked xs ys b l result told mid now is none (v x at rows shown)
       (walk_same rows h s.number (rule_view s.rule.now) s.place s.own.0 (length p.partners) p.partners next s.from s.quiet (threshold_at h s p) x.atom old ys result mid now same (w x at rows shown))
 
   module _ (list : Bucket) (span before : List (IndexKey × Row A)) (m : IndexKey × Row A) (after : List (IndexKey × Row A)) (spans : span ≡ before ++ m ∷ after) (equal : ghosts.cmp list m.0.bucket ≡ Equal) where
-    -- found before the middle
-    pub found_before : (old : Match A) (b : Bool) (l : List ℕ) (told now : ℕ) → b ≡ true → WalkFinds h s p old (walk list before) (if_found b l) told now → WalkFinds h s p old (walk list span) (Some l) told now
-    found_before old b l told now found w = finds_first old (walk list span) (walk list before) ((m.0.id.0, row_atom m.1) ∷ [] ++ walk list after) b l told now (span_equal list span before m after spans equal) found w
-
-    -- there
-    pub found_there : (old next : Match A) (b d : Bool) (k l : List ℕ) (told mid now : ℕ) (row : Row A) → row ≡ m.1 → b ≡ false → d ≡ true → WalkFinds h s p old (walk list before) (if_found b k) told mid → IsSame old next → WalkFinds h s p next ((m.0.id.0, row_atom row) ∷ []) (if_found d l) mid now
-        → WalkFinds h s p old (walk list span) (Some l) told now
-    found_there old next b d k l told mid now row is none found v same w =
-        let one : List semantics.Row = (m.0.id.0, row_atom m.1) ∷ [] in
-        let there : WalkFinds h s p next one (if_found d l) mid now = subst (λ (r : Row A). WalkFinds h s p next ((m.0.id.0, row_atom r) ∷ []) (if_found d l) mid now) is w in
-        finds_second old next (walk list span) (walk list before) (one ++ walk list after) b k (Some l) told mid now (span_equal list span before m after spans equal) none v same
-        (finds_first next (one ++ walk list after) one (walk list after) d l mid now refl found there)
-
-    -- after it, or not at all
-    pub found_after : (old next last : Match A) (b d : Bool) (k l : List ℕ) (result : Option (List ℕ)) (told mid late now : ℕ) (row : Row A) → row ≡ m.1 → b ≡ false → d ≡ false → WalkFinds h s p old (walk list before) (if_found b k) told mid → IsSame old next
-        → WalkFinds h s p next ((m.0.id.0, row_atom row) ∷ []) (if_found d l) mid late → IsSame next last → WalkFinds h s p last (walk list after) result late now → WalkFinds h s p old (walk list span) result told now
-    found_after old next last b d k l result told mid late now row is none neither v same w still u =
-        let one : List semantics.Row = (m.0.id.0, row_atom m.1) ∷ [] in
-        let there : WalkFinds h s p next one (if_found d l) mid late = subst (λ (r : Row A). WalkFinds h s p next ((m.0.id.0, row_atom r) ∷ []) (if_found d l) mid late) is w in
-        finds_second old next (walk list span) (walk list before) (one ++ walk list after) b k result told mid now (span_equal list span before m after spans equal) none v same
-        (finds_second next last (one ++ walk list after) one (walk list after) d l result mid late now refl neither there still u)
-
     -- after it, where all rows up to it may be passed over
     pub found_past : (old : Match A) (least : ℕ) (result : Option (List ℕ)) (told now : ℕ) → Ascends index_cmp span → m.0.id.0 < least → told < 2 ^ 64 → least ≤ threshold_bound s.from (threshold_at h s p) → (0 < least → s.quiet < (length p.partners) + 2) → WalkFinds h s p old (walk list after) result told now
         → WalkFinds h s p old (walk list span) result told now

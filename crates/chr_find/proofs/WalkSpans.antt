@@ -42,6 +42,19 @@ reversed_less o p e h = e ∙ rw h refl
 in_list : (a l : Bucket) → same_bucket a l ≡ is_eq (ordering_reverse (ghosts.cmp l a))
 in_list a l = matches_eq-law a l ∙ ap is_eq (total-law.antisymm a l)
 
+-- a place in the list compares so
+pub equal_here : (a l : Bucket) → same_bucket a l ≡ true → ghosts.cmp l a ≡ Equal
+equal_here a l e = reversed_equal (ghosts.cmp l a) (sym (in_list a l) ∙ e)
+  where
+    reversed_equal : (o : Ordering) → is_eq (ordering_reverse o) ≡ true → o ≡ Equal
+    reversed_equal Less h = cc
+    reversed_equal Equal h = refl
+    reversed_equal Greater h = cc
+
+-- and a place that compares so is in it
+pub here_equal : (a l : Bucket) → ghosts.cmp l a ≡ Equal → same_bucket a l ≡ true
+here_equal a l e = in_list a l ∙ equal_reversed (ghosts.cmp l a) e
+
 -- a place before one in a lesser list is in another list
 out_before : (a l m : Bucket) (x : Ordering) → ghosts.cmp l m ≡ Greater → ordering_then (ghosts.cmp a m) x ≡ Less → same_bucket a l ≡ false
 out_before a l m x greater less = by_same (same_bucket a l) refl
@@ -125,6 +138,16 @@ module _ {A : Type 0} where
 
   pub span_equal : (l : Bucket) (span xs : List (IndexKey × Row A)) (m : IndexKey × Row A) (ys : List (IndexKey × Row A)) → span ≡ xs ++ m ∷ ys → ghosts.cmp l m.0.bucket ≡ Equal → walk l span ≡ walk l xs ++ ((m.0.id.0, row_atom m.1) ∷ [] ++ walk l ys)
   span_equal l span xs m ys is equal = ap (walk l) is ∙ walk_equal l xs m ys equal
+
+  -- before the middle, and from it on
+  pub span_first : (l : Bucket) (span xs : List (IndexKey × Row A)) (m : IndexKey × Row A) (ys : List (IndexKey × Row A)) → span ≡ xs ++ m ∷ ys → walk l span ≡ walk l xs ++ walk l (m ∷ ys)
+  span_first l span xs m ys is = ap (walk l) is ∙ walk_append l xs (m ∷ ys)
+
+  -- a middle of a lesser list is none of them
+  pub span_skipped : (l : Bucket) (span xs : List (IndexKey × Row A)) (m : IndexKey × Row A) (ys : List (IndexKey × Row A)) → span ≡ xs ++ m ∷ ys → ghosts.cmp l m.0.bucket ≡ Greater → walk l span ≡ walk l xs ++ walk l ys
+  span_skipped l span xs m ys is greater =
+      span_first l span xs m ys is ∙ ap (λ (rest : List semantics.Row). walk l xs ++ rest)
+      (ap (λ (b : Bool). cond b ((m.0.id.0, row_atom m.1) ∷ walk l ys) (walk l ys)) (in_list m.0.bucket l ∙ not_equal_greater (ghosts.cmp l m.0.bucket) greater))
 
   pub span_under : (l : Bucket) (span xs : List (IndexKey × Row A)) (m : IndexKey × Row A) (ys : List (IndexKey × Row A)) (n : ℕ) → span ≡ xs ++ m ∷ ys → Ascends index_cmp span → ghosts.cmp l m.0.bucket ≡ Equal → m.0.id.0 < n → AllUnder n (walk l xs ++ (m.0.id.0, row_atom m.1) ∷ [])
   span_under l span xs m ys n is up equal lt = one_more (walk l xs) (walk_under l xs m ys n (subst (Ascends index_cmp) is up) equal lt)

@@ -1,6 +1,6 @@
 -- Which rows a list has for a head, and which of them are taken.
 use Rattle.std.specs.List.{list_any}
-use Rattle.std.specs.Prelude.{◌≡◌, ◌==◌, ◌⊎◌, ℕ, Bool, true, false, List, Some, None, MatchBool}
+use Rattle.std.specs.Prelude.{◌≡◌, ◌⊎◌, ℕ, Bool, true, false, List, Some, None, MatchBool}
 use Rattle.chr_bind.specs.Matching.{AgreesWith}
 use Rattle.chr_bind.specs.declared.matching.Match.{Match}
 use Rattle.chr_semantics.specs.Match.{Row, fit_atom}

@@ -10,7 +10,7 @@ pub(crate) fn count<A: Allocator + Copy>(
     span: Span<'_, IndexKey, Row<A>, A>,
     bucket: &Bucket,
 ) -> u64 {
-    match narrowed(span, bucket).middle() {
+    match narrowed(span, bucket) {
         None => 0,
         Some(middle) => count_edge(middle.before, bucket, true)
             .saturating_add(count_edge(middle.after, bucket, false))

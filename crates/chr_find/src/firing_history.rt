@@ -2,16 +2,16 @@
 ghost use Rattle.std.specs.Prelude.{◌≡◌};
 ghost use Rattle.chr_semantics.specs.Search.{History, fired_before};
 
-use chr_store::{Fired, History as Entered};
+use chr_store::{Fired, HeadIds, History as Entered};
 use std::alloc::Allocator;
 
 /// The propagation history, or as much of it as a search needs.
 pub trait FiringHistory {
     ghost history: { Self → History };
 
-    /// Whether it has the firing.
-    fn was_fired(&self, fired: &Fired) -> bool
-        ensures { result ≡ fired_before (history self.now) fired.now.rule fired.now.ids };
+    /// Whether it has the firing of a rule, by its number from 0, with the constraints of these identities at its heads.
+    fn was_fired(&self, rule: usize, ids: &HeadIds) -> bool
+        ensures { result ≡ fired_before (history self.now) rule ids.now };
 }
 
 impl<A: Allocator> FiringHistory for Entered<A> {
@@ -19,7 +19,8 @@ impl<A: Allocator> FiringHistory for Entered<A> {
 
     ghost history = { λ history. (entries_view history).list };
 
-    fn was_fired(&self, fired: &Fired) -> bool {
-        self.has(fired)
+    // Where nothing has fired, no firing is hashed.
+    fn was_fired(&self, rule: usize, ids: &HeadIds) -> bool {
+        !self.list().is_empty() && self.has(&Fired { rule, ids: *ids })
     }
 }

@@ -5,7 +5,7 @@ ghost use Rattle.chr_semantics.specs.Search.{same_ids};
 use crate::Memory;
 use crate::firing_history::FiringHistory;
 use chr_map::{Map, Share};
-use chr_store::Fired;
+use chr_store::{Fired, HeadIds};
 use std::alloc::Allocator;
 
 /// Firings. One whose constraint has died stays: no search asks for it any more, and its identity never comes again.
@@ -50,7 +50,7 @@ impl<A: Allocator + Copy> FiringHistory for Firings<A> {
 
     ghost history = { λ firings. history_of firings.all };
 
-    fn was_fired(&self, fired: &Fired) -> bool {
-        self.all.get(fired).is_some()
+    fn was_fired(&self, rule: usize, ids: &HeadIds) -> bool {
+        self.all.get(&Fired { rule, ids: *ids }).is_some()
     }
 }

@@ -15,7 +15,7 @@ use crate::narrowed::narrowed;
 use crate::search::{Prefix, Reached, Search};
 use chr_bind::{Match, guard_holds};
 use chr_map::Span;
-use chr_store::{Fired, HeadIds, Id, Row};
+use chr_store::{Id, Row};
 use std::alloc::Allocator;
 use std::cmp::Ordering;
 
@@ -74,15 +74,21 @@ impl<'a, P: FiringHistory, A: Allocator + Copy> Search<'a, P, A> {
         let (sym, args) = &self.rule.heads[level];
         let bucket = bucket_for(self.plan, self.rows, *sym, args.as_slice(), matching);
         let least = self.least(prefix);
-        let span = narrowed(self.rows.entries(), &bucket);
-        self.visit(&span, &bucket, least, prefix, matching, reached)
+        self.visit(
+            self.rows.entries(),
+            &bucket,
+            least,
+            prefix,
+            matching,
+            reached,
+        )
     }
 
     /// As `join`, where the next partner is a row of a span that is in a bucket, and its identity is not below `least`.
     #[cycle(join)]
     fn visit(
         &self,
-        span: &Span<'a, IndexKey, Row<A>, A>,
+        span: Span<'a, IndexKey, Row<A>, A>,
         bucket: &Bucket,
         least: u64,
         prefix: &Prefix,
@@ -94,39 +100,112 @@ impl<'a, P: FiringHistory, A: Allocator + Copy> Search<'a, P, A> {
             (threshold_at (P.history self.now.past.now) self.now prefix.now) }
         requires quiet { 0 < least → self.now.quiet < length prefix.now.partners + 2 }
         ensures { IfOk result (WalkLeads (P.history self.now.past.now) self.now prefix.now
-            (walk bucket.now span.now) matching.old matching.new reached.old reached.new) }
+            (walk bucket.now span.entry) matching.old matching.new reached.old reached.new) }
     {
         // For the proof: that the counts have 64 bits is known once they are read.
         let _lists = reached.tried.lists;
         let _partial = reached.tried.partial;
-        let middle = match span.middle() {
+        let middle = match narrowed(span, bucket) {
             None => return Ok(false),
             Some(middle) => middle,
         };
         let id = middle.key.id;
-        match bucket.cmp(&middle.key.bucket) {
-            Ordering::Less => self.visit(&middle.before, bucket, least, prefix, matching, reached),
-            Ordering::Greater => self.visit(
-                &middle.after,
-                bucket,
-                least,
-                prefix,
-                matching,
-                reached,
-            ),
-            Ordering::Equal => {
-                if id.0 < least {
-                    return self.visit(&middle.after, bucket, least, prefix, matching, reached);
-                }
-                if self.visit(&middle.before, bucket, least, prefix, matching, reached)? {
-                    return Ok(true);
-                }
-                if self.try_row(id, middle.value, prefix, matching, reached)? {
-                    return Ok(true);
-                }
-                self.visit(&middle.after, bucket, least, prefix, matching, reached)
-            }
+        if id.0 < least {
+            return self.visit(middle.after, bucket, least, prefix, matching, reached);
         }
+        if self.visit_some(middle.before, bucket, least, prefix, matching, reached)? {
+            return Ok(true);
+        }
+        if self.try_row(id, middle.value, prefix, matching, reached)? {
+            return Ok(true);
+        }
+        self.walk(middle.after, bucket, prefix, matching, reached)
+    }
+
+    /// As `visit`, of which an empty span is spared.
+    #[cycle(join)]
+    fn visit_some(
+        &self,
+        span: Span<'a, IndexKey, Row<A>, A>,
+        bucket: &Bucket,
+        least: u64,
+        prefix: &Prefix,
+        matching: &mut Match<'a, A>,
+        reached: &mut Reached,
+    ) -> Result<bool, Memory>
+        requires inside { length prefix.now.partners < vec_len self.now.rule.now.heads }
+        requires bound { least ≤ threshold_bound self.now.from
+            (threshold_at (P.history self.now.past.now) self.now prefix.now) }
+        requires quiet { 0 < least → self.now.quiet < length prefix.now.partners + 2 }
+        ensures { IfOk result (WalkLeads (P.history self.now.past.now) self.now prefix.now
+            (walk bucket.now span.entry) matching.old matching.new reached.old reached.new) }
+    {
+        // For the proof: that the counts have 64 bits is known once they are read.
+        let _lists = reached.tried.lists;
+        let _partial = reached.tried.partial;
+        if span.is_empty() {
+            return Ok(false);
+        }
+        self.visit(span, bucket, least, prefix, matching, reached)
+    }
+
+    /// As `join`, where the next partner is a row of a span that is in a bucket: one row after another, up to the end of the bucket.
+    #[cycle(join)]
+    fn walk(
+        &self,
+        span: Span<'a, IndexKey, Row<A>, A>,
+        bucket: &Bucket,
+        prefix: &Prefix,
+        matching: &mut Match<'a, A>,
+        reached: &mut Reached,
+    ) -> Result<bool, Memory>
+        requires { length prefix.now.partners < vec_len self.now.rule.now.heads }
+        ensures { IfOk result (WalkLeads (P.history self.now.past.now) self.now prefix.now
+            (walk bucket.now span.entry) matching.old matching.new reached.old reached.new) }
+    {
+        // For the proof: that the counts have 64 bits is known once they are read.
+        let _lists = reached.tried.lists;
+        let _partial = reached.tried.partial;
+        let mut left = span;
+        while let Some(middle) = left.leading() {
+            if self.walk_some(middle.before, bucket, prefix, matching, reached)? {
+                return Ok(true);
+            }
+            match bucket.cmp(&middle.key.bucket) {
+                Ordering::Less => return Ok(false),
+                Ordering::Equal => {
+                    if self.try_row(middle.key.id, middle.value, prefix, matching, reached)? {
+                        return Ok(true);
+                    }
+                }
+                Ordering::Greater => {}
+            }
+            left = middle.after;
+        }
+        Ok(false)
+    }
+
+    /// As `walk`, of which an empty span is spared.
+    #[cycle(join)]
+    fn walk_some(
+        &self,
+        span: Span<'a, IndexKey, Row<A>, A>,
+        bucket: &Bucket,
+        prefix: &Prefix,
+        matching: &mut Match<'a, A>,
+        reached: &mut Reached,
+    ) -> Result<bool, Memory>
+        requires { length prefix.now.partners < vec_len self.now.rule.now.heads }
+        ensures { IfOk result (WalkLeads (P.history self.now.past.now) self.now prefix.now
+            (walk bucket.now span.entry) matching.old matching.new reached.old reached.new) }
+    {
+        // For the proof: that the counts have 64 bits is known once they are read.
+        let _lists = reached.tried.lists;
+        let _partial = reached.tried.partial;
+        if span.is_empty() {
+            return Ok(false);
+        }
+        self.walk(span, bucket, prefix, matching, reached)
     }
 
     /// As `join`, where the next partner is this row.
@@ -194,11 +273,7 @@ impl<'a, P: FiringHistory, A: Allocator + Copy> Search<'a, P, A> {
             return Ok(false);
         }
         reached.tried.lists = reached.tried.lists.saturating_add(1);
-        let fired = Fired {
-            rule: self.number,
-            ids: prefix.partners,
-        };
-        if self.past.was_fired(&fired) {
+        if self.past.was_fired(self.number, &prefix.partners) {
             return Ok(false);
         }
         if guard_holds(self.alloc, self.rule.guard.as_slice(), matching)? {

@@ -1,5 +1,5 @@
 //! What searches look at.
-ghost use Rattle.std.specs.Prelude.{◌≡◌, ◌≤◌, IfOk, None, ℕ, option_map};
+ghost use Rattle.std.specs.Prelude.{◌≡◌, ◌==◌, ◌≤◌, IfOk, None, OnOk, Some, ℕ, cond, option_map};
 ghost use Rattle.chr_semantics.specs.Keys.{rows_keyed};
 ghost use Rattle.chr_semantics.specs.Snapshot as semantics;
 ghost use Rattle.chr_semantics.specs.Snapshot.{found_in, tries_in};
@@ -8,7 +8,7 @@ ghost use Rattle.chr_store.specs.KeyView.{keys_view};
 ghost use Rattle.chr_store.specs.Numbers.{numbers};
 ghost use Rattle.chr_store.specs.Rows.{row_atom};
 ghost use Rattle.chr_find.specs.AtomCode.{atoms};
-ghost use Rattle.chr_find.specs.TableView.{IsKeyed, IsWhole, atom_at};
+ghost use Rattle.chr_find.specs.TableView.{IsFor, IsKeyed, IsSettled as IsTableSettled, IsWhole, atom_at};
 
 use crate::Memory;
 use crate::answer::Found;
@@ -116,6 +116,39 @@ impl<A: Allocator + Copy> Snapshot<A> {
         self.table.keyed.of(sym, key)
     }
 
+    /// The table with the guest as the constraint of the next identity, ready to be searched for it.
+    fn with_guest(&self, guest: &Row<A>) -> Result<Table<A>, Memory>
+        ensures atoms { IfOk result (λ table. (i : ℕ) → atom_at table i
+            ≡ cond (i == self.now.next.0) (Some (row_atom guest.now)) (atom_at self.now.table i)) }
+        ensures settled { IfOk result IsTableSettled }
+        ensures own { IfOk result (IsFor self.now.next.0) }
+    {
+        let mut table = self.table.share()?;
+        add_for_search(&mut table, self.next, guest)?;
+        Ok(table)
+    }
+
+    /// What the snapshot has for a task of the guest, which gets the next identity.
+    fn find_for_guest(
+        &self,
+        program: &Program<A>,
+        guest: &Row<A>,
+        occurrence: u32,
+    ) -> Result<Found<HeadIds>, Memory>
+        ensures { IfOk result (λ found. (q : semantics.Snapshot) → IsSnapshot self.now q →
+            q.guest ≡ Some (row_atom guest.now) →
+            IsAnswer (found_in (rules_of program.now) q (self.now.next.0, occurrence))
+            (tries_in (rules_of program.now) q (self.now.next.0, occurrence))
+            found.ids found.tries) }
+    {
+        let table = self.with_guest(guest)?;
+        let task = Task {
+            goal: self.next,
+            occurrence,
+        };
+        search(program, &table, &self.firings, task)
+    }
+
     /// What the snapshot has for a task: the identities of the first firing, or that there is none. For the next identity the guest is added
     /// to the constraints.
     pub fn find(&self, program: &Program<A>, task: Task) -> Result<Found<HeadIds>, Memory>
@@ -127,14 +160,26 @@ impl<A: Allocator + Copy> Snapshot<A> {
         if task.goal != self.next {
             return search(program, &self.table, &self.firings, task);
         }
-        let guest = match &self.guest {
-            None => return Ok(Found::nothing()),
-            Some(guest) => guest,
-        };
-        let mut table = self.table.share()?;
-        table.room(1)?;
-        table.add(task.goal, guest.share()?);
-        table.settle_for(task.goal)?;
-        search(program, &table, &self.firings, task)
+        match &self.guest {
+            None => Ok(Found::nothing()),
+            Some(guest) => self.find_for_guest(program, guest, task.occurrence),
+        }
     }
+}
+
+/// Adds a constraint, where there is none, and makes the table ready to be searched for it.
+fn add_for_search<A: Allocator + Copy>(
+    table: &mut Table<A>,
+    id: Id,
+    row: &Row<A>,
+) -> Result<(), Memory>
+    requires { atom_at table.old id.0 ≡ None }
+    ensures atoms { OnOk result ((i : ℕ) → atom_at table.new i
+        ≡ cond (i == id.0) (Some (row_atom row.now)) (atom_at table.old i)) }
+    ensures settled { OnOk result (IsTableSettled table.new) }
+    ensures own { OnOk result (IsFor id.0 table.new) }
+{
+    table.room(1)?;
+    table.add(id, row.share()?);
+    table.settle_for(id)
 }

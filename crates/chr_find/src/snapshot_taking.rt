@@ -140,6 +140,29 @@ pub(crate) fn firings_taken<A: Allocator + Copy>(
     Ok(firings)
 }
 
+/// A table with no constraint.
+fn empty_table<A: Allocator + Copy>(alloc: A) -> Result<Table<A>, Memory>
+    ensures { IfOk result (λ table. (i : ℕ) → atom_at table i ≡ None) }
+{
+    let plan = Pointer::new(alloc, Plan::first(alloc)?)?;
+    Ok(Table::new(alloc, plan))
+}
+
+/// Fills a table that has no constraint with those of a store that are in the scope, with bindings applied, and makes it ready to be shared.
+fn fill<A: Allocator + Copy>(
+    table: &mut Table<A>,
+    store: &Store<A>,
+    bindings: &Bindings<A>,
+    scope: Scope<'_, A>,
+) -> Result<(), Memory>
+    requires { (i : ℕ) → atom_at table.old i ≡ None }
+    ensures { OnOk result (IsTakenOf scope.entry bindings.now.subst (store_view store.now).rows table.new) }
+{
+    add_rows(table, store, bindings, scope)?;
+    table.settle_all()?;
+    table.keep_keys()
+}
+
 /// A table with the constraints of a store that are in the scope, with bindings applied.
 fn taken<A: Allocator + Copy>(
     alloc: A,
@@ -149,12 +172,25 @@ fn taken<A: Allocator + Copy>(
 ) -> Result<Table<A>, Memory>
     ensures { IfOk result (IsTakenOf scope.entry bindings.now.subst (store_view store.now).rows) }
 {
-    let plan = Pointer::new(alloc, Plan::first(alloc)?)?;
-    let mut table = Table::new(alloc, plan);
-    add_rows(&mut table, store, bindings, scope)?;
-    table.settle_all()?;
-    table.keep_keys()?;
+    let mut table = empty_table(alloc)?;
+    fill(&mut table, store, bindings, scope)?;
     Ok(table)
+}
+
+/// That table, and the firings in the scope whose constraints all live.
+fn all_taken<A: Allocator + Copy>(
+    alloc: A,
+    store: &Store<A>,
+    bindings: &Bindings<A>,
+    history: &History<A>,
+    scope: Scope<'_, A>,
+) -> Result<(Table<A>, Firings<A>), Memory>
+    ensures table { IfOk result (λ both. IsTakenOf scope.entry bindings.now.subst (store_view store.now).rows both.0) }
+    ensures firings { IfOk result (λ both. AreTakenOf scope.entry (store_view store.now).rows (entries_view history.now).list both.1) }
+{
+    let table = taken(alloc, store, bindings, scope)?;
+    let firings = firings_taken(alloc, store, history, scope)?;
+    Ok((table, firings))
 }
 
 /// A guest with bindings applied.
@@ -206,8 +242,7 @@ impl<A: Allocator + Copy> Snapshot<A> {
             IsCopy taken (snapshot_for s (tasks_view tasks.items) (guest_view guest.entry))) }
     {
         let scope = Scope::whole(store);
-        let table = taken(alloc, store, bindings, scope)?;
-        let firings = firings_taken(alloc, store, history, scope)?;
+        let (table, firings) = all_taken(alloc, store, bindings, history, scope)?;
         let guest = resolved_guest(alloc, bindings, guest)?;
         Ok(Snapshot {
             table,
@@ -233,8 +268,7 @@ impl<A: Allocator + Copy> Snapshot<A> {
         let mut tasks = Vec::new(alloc);
         tasks.push(task)?;
         let scope = scope_of(program, store, task);
-        let table = taken(alloc, store, bindings, scope)?;
-        let firings = firings_taken(alloc, store, history, scope)?;
+        let (table, firings) = all_taken(alloc, store, bindings, history, scope)?;
         Ok(Snapshot {
             table,
             firings,

@@ -1,4 +1,15 @@
 //! The machine: the transitions of the refined operational semantics on one thread, and their trace.
+//!
+//! A program of one's own has rules by the crate `embedding`, which reads a program once and starts a machine for each query:
+//!
+//! ```text
+//! let mut session = Session::new(alloc, PROGRAM)?;
+//! let outcome = session.ask(b"gcd(4), gcd(6).", 100_000)?;
+//! for (id, row) in outcome.store.rows() {
+//!     let args = outcome.bindings.resolve_args(&row.args)?;
+//!     show(id, row.sym, args.as_slice());
+//! }
+//! ```
 #![tactic(auto)]
 
 mod course;

@@ -7,6 +7,8 @@ use Rattle.std.specs.Vec.{with_item}
 use Rattle.chr_map.specs.Entries.{subtree_entries, subtree_seen, node_entries, run}
 use Rattle.std.specs.Cmp.{IsTotalOrder}
 use Rattle.std.specs.declared.cmp.Ordering.{Ordering}
+use Rattle.std.specs.Arc.{arc_value}
+use Rattle.std.specs.declared.sync.Arc.{Arc}
 use Rattle.chr_map.specs.Order.{Ascends, IsAbove, IsAtFirst, IsBelow, on_first, value_of}
 use Rattle.chr_map.proofs.Between.{ascends_between, value_between, value_first}
 use Rattle.chr_map.specs.Places.{Swaps, at_place, before_place, behind_place, entries_at, entries_before, entries_behind, with_tree}
@@ -151,6 +153,11 @@ module _ {K V A : Type 0} where
   -- a node without branches
   pub no_branches : (n : Node K V A) → length (spans n).branches.items ≡ 0 → node_entries n ≡ subtree_entries (spans n).first
   no_branches n none = node_is n ∙ run_none (spans n).first (spans n).branches.items none
+
+  -- and a tree with none behind it has those of its node's parts
+  pub opened_is : (l : Tree K V A) (ss bs : List (One K V A)) (a : Arc (Node K V A) A) (n : Node K V A) → length ss ≡ 0 → l ≡ Some a → n ≡ arc_value a → bs ≡ (spans n).branches.items → run l ss ≡ run (spans n).first bs
+  opened_is l ss bs a n none some is same =
+      run_none l ss none ∙ (ap subtree_entries some ∙ (ap node_entries (sym is) ∙ (node_is n ∙ ap (λ (rest : List (One K V A)). run (spans n).first rest) (sym same))))
 
   -- the last branch was taken out
   pub popped : (n : Node K V A) (size i : ℕ) (v : Vec (One K V A) A) (x : One K V A) → (spans n).branches.items ≡ v.items ++ x ∷ [] → i ≡ length (spans n).branches.items → entries_at n i ≡ []

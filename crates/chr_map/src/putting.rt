@@ -30,8 +30,7 @@ pub(crate) fn put<K: Ord + Copy, V: Share, A: Allocator + Copy>(
 {
     match subtree {
         None => {
-            let node = single(alloc, *key, value)?;
-            *subtree = Some(Arc::new(alloc, node)?);
+            *subtree = Some(single(alloc, *key, value)?);
             Ok(())
         }
         Some(node) => {
@@ -47,8 +46,8 @@ fn single<K: Copy, V: Share, A: Allocator + Copy>(
     alloc: A,
     key: K,
     value: V,
-) -> Result<Node<K, V, A>, Memory>
-    ensures { IfOk result (λ node. node_entries node ≡ (key, value) ∷ []) }
+) -> Result<Arc<Node<K, V, A>, A>, Memory>
+    ensures { IfOk result (λ node. subtree_entries (Some node) ≡ (key, value) ∷ []) }
 {
     let mut branches = Vec::new(alloc);
     branches.push(Branch {
@@ -56,11 +55,12 @@ fn single<K: Copy, V: Share, A: Allocator + Copy>(
         value,
         after: None,
     })?;
-    Ok(Node {
+    let node = Node {
         first: None,
         branches,
         size: 1,
-    })
+    };
+    Ok(Arc::new(alloc, node)?)
 }
 
 /// Puts a value at a key in a tree below. A branch that does not fit there is handed up, and belongs behind that tree. A refused call leaves

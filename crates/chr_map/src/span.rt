@@ -1,6 +1,6 @@
 //! The way through a map.
-ghost use Rattle.std.specs.Prelude.{◌≡◌, ◌++◌, ◌∷◌, [], ◌<◌, IfNone, IfSome, length};
-ghost use Rattle.chr_map.specs.Entries.{subtree_entries, node_entries, run};
+ghost use Rattle.std.specs.Prelude.{◌≡◌, ◌++◌, ◌∷◌, [], ◌<◌, IfNone, IfSome, length, true};
+ghost use Rattle.chr_map.specs.Entries.{subtree_entries, run};
 ghost use Rattle.chr_map.specs.Order.{Ascends};
 
 use crate::Share;
@@ -54,6 +54,13 @@ impl<'a, K: Ord + Copy, V: Share, A: Allocator> Span<'a, K, V, A> {
         count(self.first, self.branches)
     }
 
+    /// Whether it is seen at once that there are no entries.
+    pub fn is_empty(&self) -> bool
+        ensures { result ≡ true → self.now ≡ [] }
+    {
+        self.branches.is_empty() && self.first.is_none()
+    }
+
     /// An entry from about the middle, where there is one, and the spans before and after it.
     pub fn middle(&self) -> Option<Middle<'a, K, V, A>>
         ensures some { IfSome result
@@ -61,57 +68,66 @@ impl<'a, K: Ord + Copy, V: Share, A: Allocator> Span<'a, K, V, A> {
         ensures none { IfNone result (self.now ≡ []) }
         ensures ascending { Ascends K.cmp self.now }
     {
-        if self.branches.is_empty() {
-            match self.first {
-                None => None,
-                Some(node) => middle_of(node),
-            }
-        } else {
-            Some(halved(self.first, self.branches))
-        }
-    }
-}
-
-/// An entry from about the middle of a node.
-fn middle_of<'a, K: Ord + Copy, V: Share, A: Allocator>(
-    node: &'a Node<K, V, A>,
-) -> Option<Middle<'a, K, V, A>>
-    requires { Ascends K.cmp (node_entries node.now) }
-    ensures some { IfSome result
-        (λ m. node_entries node.now ≡ m.before ++ (m.key.now, m.value.now) ∷ m.after) }
-    ensures none { IfNone result (node_entries node.now ≡ []) }
-{
-    if node.branches.is_empty() {
-        match &node.first {
+        match opened(self.first, self.branches) {
             None => None,
-            Some(below) => middle_of(below),
+            Some((first, branches)) => Some(parted(first, branches, branches.len() / 2)),
         }
-    } else {
-        Some(halved(&node.first, &node.branches))
+    }
+
+    /// As `middle`, but with few entries before the one that is given: those of a tree, of which a leaf has none.
+    pub fn leading(&self) -> Option<Middle<'a, K, V, A>>
+        ensures some { IfSome result
+            (λ m. self.now ≡ m.before ++ (m.key.now, m.value.now) ∷ m.after) }
+        ensures none { IfNone result (self.now ≡ []) }
+        ensures ascending { Ascends K.cmp self.now }
+    {
+        match opened(self.first, self.branches) {
+            None => None,
+            Some((first, branches)) => Some(parted(first, branches, 0)),
+        }
     }
 }
 
-/// The entry of the middle one of some branches.
-fn halved<'a, K: Ord + Copy, V: Share, A: Allocator>(
+/// A tree and branches behind it, of which there are some, with these entries; where there are no entries, nothing.
+fn opened<'a, K: Ord + Copy, V: Share, A: Allocator>(
     first: &'a Subtree<K, V, A>,
     branches: &'a [Branch<K, V, Subtree<K, V, A>>],
+) -> Option<(&'a Subtree<K, V, A>, &'a [Branch<K, V, Subtree<K, V, A>>])>
+    ensures some { IfSome result (λ parts. 0 < length parts.1.now) }
+    ensures same { IfSome result (λ parts. run first.now branches.now ≡ run parts.0.now parts.1.now) }
+    ensures none { IfNone result (run first.now branches.now ≡ []) }
+{
+    if !branches.is_empty() {
+        return Some((first, branches));
+    }
+    let node: &'a Node<K, V, A> = match first {
+        None => return None,
+        Some(node) => node,
+    };
+    opened(&node.first, node.branches.as_slice())
+}
+
+/// The entry of one of some branches, with those before and after it.
+fn parted<'a, K: Ord + Copy, V: Share, A: Allocator>(
+    first: &'a Subtree<K, V, A>,
+    branches: &'a [Branch<K, V, Subtree<K, V, A>>],
+    place: usize,
 ) -> Middle<'a, K, V, A>
-    requires some { 0 < length branches.now }
+    requires inside { place < length branches.now }
     requires ascending { Ascends K.cmp (run first.now branches.now) }
     ensures { run first.now branches.now ≡ result.before ++ (result.key.now, result.value.now) ∷ result.after }
 {
-    let half = branches.len() / 2;
-    let branch = &branches[half];
+    let branch = &branches[place];
     Middle {
         before: Span {
             first,
-            branches: &branches[..half],
+            branches: &branches[..place],
         },
         key: &branch.key,
         value: &branch.value,
         after: Span {
             first: &branch.after,
-            branches: &branches[half + 1..],
+            branches: &branches[place + 1..],
         },
     }
 }

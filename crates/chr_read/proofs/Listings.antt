@@ -1,11 +1,11 @@
 -- Steps of the limited automaton in a directive, that the reader takes at once.
-use Rattle.std.proofs.Common.{◌≡◌, ℕ, List, [], ◌∷◌, true, false, refl, length, ◌<◌, arith}
+use Rattle.std.proofs.Common.{◌≡◌, ℕ, List, [], ◌∷◌, ◌++◌, true, false, bytes_eq, codes, refl, length, ◌<◌, arith}
 use Rattle.chr_semantics.specs.Tokens.{Place, closes_list, comma, name, over, sign, stop, Placed, at}
 use Rattle.chr_semantics.specs.Tokens as token
-use Rattle.chr_semantics.specs.Syntax.{Declaration, Item, Program, Query}
+use Rattle.chr_semantics.specs.Syntax.{Declaration, Item, Program, Query, ignored}
 use Rattle.chr_semantics.specs.Grammar.{line_of}
-use Rattle.chr_read.specs.Automaton.{SyntaxTree, accept, answered, asked, asking, declared, done, expected, exporting, limited_room, run, symbol, state_before_item}
-use Rattle.chr_read.specs.Reads.{Lacks, items_verdict}
+use Rattle.chr_read.specs.Automaton.{SyntaxTree, accept, answered, asked, asking, between, declared, directive, done, expected, exporting, fixed, library_words, limited_room, module_words, run, symbol, state_before_item}
+use Rattle.chr_read.specs.Reads.{BeginsWith, Lacks, NoName, items_verdict}
 use Rattle.chr_read.specs.Parts.{BeginsRule, NoOver, listing}
 
 -- a first token that symbols do not go on with
@@ -39,6 +39,24 @@ begins_rule [] h i = tt
 begins_rule (at p over ∷ ts) h i = absurd h
 begins_rule (at p (sign token.declares) ∷ ts) h i = absurd (i refl)
 begins_rule (at p t ∷ ts) h i = tt
+
+-- a directive goes on by its word
+pub declares_symbols : (l : ℕ) (ps : Program) (w : List ℕ) (ts rest : List Placed) → BeginsWith ts (name w) rest → bytes_eq w (codes "chr_constraint") ≡ true → run limited_room (directive l ps) ts ≡ run limited_room (symbol (listing false l ps [])) rest
+declares_symbols l ps w ts rest first is = rw (first.are, is) refl
+
+pub uses_module : (l : ℕ) (ps : Program) (w : List ℕ) (ts rest : List Placed) → BeginsWith ts (name w) rest → bytes_eq w (codes "chr_constraint") ≡ false → bytes_eq w (codes "use_module") ≡ true → run limited_room (directive l ps) ts ≡ run limited_room (fixed library_words (between (ps ++ ignored l ∷ []))) rest
+uses_module l ps w ts rest first is_no_first is = rw (first.are, is_no_first, is) refl
+
+pub begins_module : (l : ℕ) (ps : Program) (w : List ℕ) (ts rest : List Placed) → BeginsWith ts (name w) rest → bytes_eq w (codes "chr_constraint") ≡ false → bytes_eq w (codes "use_module") ≡ false → bytes_eq w (codes "module") ≡ true → run limited_room (directive l ps) ts ≡ run limited_room (fixed module_words (exporting l ps)) rest
+begins_module l ps w ts rest first is_no_first is_no_second is = rw (first.are, is_no_first, is_no_second, is) refl
+
+pub directive_refuses : (l : ℕ) (ps : Program) (ts : List Placed) → NoName ts → run limited_room (directive l ps) ts ≡ expected ts
+directive_refuses l ps [] h = refl
+directive_refuses l ps (at p (name w) ∷ ts) h = absurd h
+directive_refuses l ps (at p t ∷ ts) h = refl
+
+pub word_refuses : (l : ℕ) (ps : Program) (w : List ℕ) (ts rest : List Placed) → BeginsWith ts (name w) rest → bytes_eq w (codes "chr_constraint") ≡ false → bytes_eq w (codes "use_module") ≡ false → bytes_eq w (codes "module") ≡ false → run limited_room (directive l ps) ts ≡ expected ts
+word_refuses l ps w ts rest first is_no_first is_no_second is_no_third = rw (first.are, is_no_first, is_no_second, is_no_third) refl
 
 -- what does not end a query
 pub asked_refuses : (l : ℕ) (is : List Item) (ps : Program) (ts : List Placed) → Lacks comma ts → Lacks stop ts → items_verdict (asked l is) ps ts ≡ expected ts

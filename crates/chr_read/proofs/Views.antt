@@ -2,8 +2,10 @@
 use Rattle.std.proofs.Common.{◌≡◌, ℕ, zero, suc, ◌==◌, true, false, List, [], ◌∷◌, ◌++◌, rules, Vec, Box, box_value, String, string_bytes, refl, ap, sym, ◌∙◌, map, length, ◌<◌, arith}
 use Rattle.std.proofs.lemmas.Bool.Decides.{Decides-eqb}
 use Rattle.chr_semantics.specs.Syntax as s
-use Rattle.chr_tokens.specs.TokenView.{placed_views}
+use Rattle.chr_semantics.specs.Tokens as semantics
+use Rattle.chr_tokens.specs.TokenView.{place_view, placed_view, placed_views, token_view}
 use Rattle.chr_tokens.specs.declared.token.Placed.{Placed}
+use Rattle.chr_tokens.specs.declared.token.Token.{Token}
 use Rattle.chr_read.specs.SyntaxView.{chain, operand_views, operator_view, view, views}
 use Rattle.chr_read.specs.declared.syntax.Expr.{Expr, the_lemmas}
 use Rattle.chr_read.specs.declared.syntax.Operator.{Operator}
@@ -48,3 +50,7 @@ eqb_true n m e = (Decides-eqb n m).0 e
 pub not_empty : (n : ℕ) → (n == 0) ≡ false → 0 < n
 not_empty zero e = cc
 not_empty (suc n) e = omega arith
+
+-- the first of some tokens, by what its token is
+pub begins_so : (ts : List semantics.Placed) (first : Placed) (rest : List semantics.Placed) (token : Token) → ts ≡ placed_view first ∷ rest → first.token ≡ token → ts ≡ semantics.at (place_view first.place) (token_view token) ∷ rest
+begins_so ts first rest token are is = are ∙ ap (λ t. semantics.at (place_view first.place) (token_view t) ∷ rest) is

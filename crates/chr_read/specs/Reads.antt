@@ -158,8 +158,8 @@ abbrev pub ReadsItems : {A V : Type 0} → (V → List (Item A)) → Slot → Li
 ReadsItems items f ts r = (ps : syntax.Program) → Goes (run limited_room (state_before_item (slot_section f []) ps) ts) r (λ x. items_verdict (slot_section f (item_views (items x.0))) ps (placed_views x.1.now))
 
 -- after the `#` of a head
-abbrev pub ReadsMark : List Placed → Rest → Type 0
-ReadsMark ts r = (q : Section) (i : syntax.Item) (ps : syntax.Program) → Goes (run limited_room (hashed q i ps) ts) r (λ after. run limited_room (marked (section_with_head q true i) ps) (placed_views after.now))
+abbrev pub ReadsMark : {T : Type 0} → List Placed → Reading T → Type 0
+ReadsMark ts r = (q : Section) (i : syntax.Item) (ps : syntax.Program) → Goes (run limited_room (hashed q i ps) ts) r (λ x. run limited_room (marked (section_with_head q true i) ps) (placed_views x.1.now))
 
 abbrev pub ReadsHead : {A : Type 0} → List Placed → Reading (Head A) → Type 0
 ReadsHead ts r = (f : Side) (hs : List syntax.Head) (ps : syntax.Program) → Goes (run limited_room (state_before_item (side_section f hs) ps) ts) r (λ x. items_verdict (side_section f (hs ++ head_view x.0 ∷ [])) ps (placed_views x.1.now))

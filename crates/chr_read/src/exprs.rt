@@ -1,19 +1,21 @@
 //! Expressions, by recursive descent. The depth is that of the brackets, of which at most `MAX_OPEN_BRACKETS` are open at once.
-ghost use Rattle.std.specs.Prelude.{◌≡◌, ◌<◌, ◌≤◌, IfOk, length, map};
+ghost use Rattle.std.specs.Prelude.{◌≡◌, ◌<◌, ◌≤◌, IfOk, MatchResult, length, map};
 ghost use Rattle.std.specs.Str.{encode_utf8_all};
-ghost use Rattle.chr_semantics.specs.Syntax.{call, exprs_of, list as syntax_list, nil};
+ghost use Rattle.chr_semantics.specs.Syntax.{call, exprs_of, list as syntax_list, nil, variable as syntax_variable};
 ghost use Rattle.chr_semantics.specs.Tokens.{comma};
 ghost use Rattle.chr_tokens.specs.TokenView.{placed_views};
 ghost use Rattle.chr_read.specs.Reads.{Lacks, NoAdditive, NoMultiplicative, ReadsElements, ReadsInParens, ReadsList, ReadsListEnd, ReadsNamed, ReadsPrimaries, ReadsPrimary, ReadsProduct, ReadsProducts, ReadsSigned, ReadsSum, end_view};
 ghost use Rattle.chr_read.specs.SyntaxView.{chain, operand_views, view, views};
+ghost use Rattle.chr_read.specs.declared.halt.Halt.TheVariants.{Memory as OutOfMemory};
 
 use crate::halt::Halt;
 use crate::syntax::{Expr, Operator};
 use crate::words::{
-    additive, after_sign, before_sign, multiplicative, negative, number, split_first, string_of,
+    additive, after_sign, before_sign, both, multiplicative, negative, number, split_first,
+    string_of,
 };
 use chr_semantics::limits::MAX_OPEN_BRACKETS;
-use chr_tokens::{Additive, Memory, Placed, Sign, Token};
+use chr_tokens::{Additive, Placed, Sign, Token};
 use std::alloc::Allocator;
 
 /// Products with `+` or `-` between them.
@@ -31,8 +33,8 @@ pub(crate) fn sum<'a, A: Allocator + Copy>(
     ensures no_product { IfOk result (λ x. NoMultiplicative (placed_views x.1.now)) }
 {
     let (first, end) = product(alloc, text, room)?;
-    let (operands, rest) = further_products(alloc, end, room)?;
-    Ok((chain_of(alloc, first, operands)?, rest))
+    let ((first, operands), rest) = both(first, further_products(alloc, end, room))?;
+    chain_of(alloc, first, operands, rest)
 }
 
 /// The products after the first one, each with its `+` or `-`.
@@ -74,8 +76,8 @@ fn product<'a, A: Allocator + Copy>(
     ensures no_product { IfOk result (λ x. NoMultiplicative (placed_views x.1.now)) }
 {
     let (first, end) = primary(alloc, text, room)?;
-    let (operands, rest) = further_primaries(alloc, end, room)?;
-    Ok((chain_of(alloc, first, operands)?, rest))
+    let ((first, operands), rest) = both(first, further_primaries(alloc, end, room))?;
+    chain_of(alloc, first, operands, rest)
 }
 
 /// The primaries after the first one, each with its `*`, `//` or `mod`.
@@ -101,19 +103,23 @@ fn further_primaries<'a, A: Allocator + Copy>(
     Ok((operands, rest))
 }
 
-/// A chain of operators, or its only operand.
-fn chain_of<A: Allocator + Copy>(
+/// A chain of operators, or its only operand, and what stands after it.
+fn chain_of<'a, A: Allocator + Copy>(
     alloc: A,
     first: Expr<A>,
     operands: Vec<(Operator, Expr<A>), A>,
-) -> Result<Expr<A>, Memory>
-    ensures { IfOk result (λ e. view e ≡ chain (view first) (operand_views operands.items)) }
+    rest: &'a [Placed<'a>],
+) -> Result<(Expr<A>, &'a [Placed<'a>]), Halt<'a>>
+    ensures { MatchResult result
+        (λ x. (view x.0 ≡ chain (view first) (operand_views operands.items))
+        × (x.1 ≡ rest.entry))
+        (λ e. e ≡ OutOfMemory) }
 {
     if operands.is_empty() {
-        Ok(first)
-    } else {
-        Ok(Expr::Chain(Box::new(alloc, first)?, operands))
+        return Ok((first, rest));
     }
+    let first = Box::new(alloc, first)?;
+    Ok((Expr::Chain(first, operands), rest))
 }
 
 /// A variable, a number, a name with or without arguments, a list, or an expression in parentheses.
@@ -132,7 +138,7 @@ fn primary<'a, A: Allocator + Copy>(
         return Err(Halt::Expected(text));
     };
     match first.token {
-        Token::Variable(word) => Ok((Expr::Variable(string_of(alloc, word)?), after)),
+        Token::Variable(word) => variable(alloc, word, after),
         Token::Number { signed: _, value } => match number(value) {
             Some(number) => Ok((Expr::Number(number), after)),
             None => Err(Halt::Expected(text)),
@@ -153,6 +159,20 @@ fn primary<'a, A: Allocator + Copy>(
         }
         _ => Err(Halt::Expected(text)),
     }
+}
+
+/// A variable, and what stands after it.
+fn variable<'a, A: Allocator + Copy>(
+    alloc: A,
+    word: &[char],
+    rest: &'a [Placed<'a>],
+) -> Result<(Expr<A>, &'a [Placed<'a>]), Halt<'a>>
+    ensures { MatchResult result
+        (λ x. (view x.0 ≡ syntax_variable (encode_utf8_all word.now)) × (x.1 ≡ rest.entry))
+        (λ e. e ≡ OutOfMemory) }
+{
+    let name = string_of(alloc, word)?;
+    Ok((Expr::Variable(name), rest))
 }
 
 /// The digits of a number after its `-`.
@@ -191,26 +211,30 @@ fn name_or_call<'a, A: Allocator + Copy>(
     ensures shorter { IfOk result (λ x. length x.1.now ≤ length text.now) }
 {
     let Some(inside) = after_sign(text, Sign::Open) else {
-        return Ok((call_of(alloc, word, Vec::new(alloc))?, text));
+        return call_of(alloc, word, Vec::new(alloc), text);
     };
     if room == 0 {
         return Err(Halt::TooDeep(text));
     }
     let (args, end) = elements(alloc, inside, room - 1)?;
     let (args, after) = before_sign(args, end, Sign::Close)?;
-    Ok((call_of(alloc, word, args)?, after))
+    call_of(alloc, word, args, after)
 }
 
-/// A name with its arguments.
-fn call_of<A: Allocator + Copy>(
+/// A name with its arguments, and what stands after it.
+fn call_of<'a, A: Allocator + Copy>(
     alloc: A,
     word: &[char],
     args: Vec<Expr<A>, A>,
-) -> Result<Expr<A>, Memory>
-    ensures { IfOk result
-        (λ e. view e ≡ call (encode_utf8_all word.now) (exprs_of (views args.items))) }
+    rest: &'a [Placed<'a>],
+) -> Result<(Expr<A>, &'a [Placed<'a>]), Halt<'a>>
+    ensures { MatchResult result
+        (λ x. (view x.0 ≡ call (encode_utf8_all word.now) (exprs_of (views args.items)))
+        × (x.1 ≡ rest.entry))
+        (λ e. e ≡ OutOfMemory) }
 {
-    Ok(Expr::Call(string_of(alloc, word)?, args))
+    let name = string_of(alloc, word)?;
+    Ok((Expr::Call(name, args), rest))
 }
 
 /// An expression and its closing parenthesis.
@@ -246,7 +270,7 @@ fn list<'a, A: Allocator + Copy>(
     }
     let (items, rest) = elements(alloc, text, room)?;
     let (last, after) = list_end(alloc, rest, room)?;
-    Ok((list_that_ends(alloc, items, last)?, after))
+    list_that_ends(alloc, items, last, after)
 }
 
 /// The end of a list, where it has one of its own, and its closing bracket.
@@ -272,17 +296,20 @@ fn list_end<'a, A: Allocator + Copy>(
     before_sign(Some(last), end, Sign::CloseList)
 }
 
-/// A list of these elements that ends so.
-fn list_that_ends<A: Allocator + Copy>(
+/// A list of these elements that ends so, and what stands after it.
+fn list_that_ends<'a, A: Allocator + Copy>(
     alloc: A,
     items: Vec<Expr<A>, A>,
     last: Option<Expr<A>>,
-) -> Result<Expr<A>, Memory>
-    ensures { IfOk result (λ e. view e ≡ syntax_list (views items.items) (end_view last)) }
+    rest: &'a [Placed<'a>],
+) -> Result<(Expr<A>, &'a [Placed<'a>]), Halt<'a>>
+    ensures { MatchResult result
+        (λ x. (view x.0 ≡ syntax_list (views items.items) (end_view last)) × (x.1 ≡ rest.entry))
+        (λ e. e ≡ OutOfMemory) }
 {
     match last {
-        None => Ok(list_of(items)),
-        Some(last) => list_with_end(alloc, items, last),
+        None => Ok((list_of(items), rest)),
+        Some(last) => list_with_end(alloc, items, last, rest),
     }
 }
 
@@ -293,15 +320,19 @@ fn list_of<A: Allocator>(items: Vec<Expr<A>, A>) -> Expr<A>
     Expr::List(items)
 }
 
-/// A list of these elements that ends with this.
-fn list_with_end<A: Allocator + Copy>(
+/// A list of these elements that ends with this, and what stands after it.
+fn list_with_end<'a, A: Allocator + Copy>(
     alloc: A,
     items: Vec<Expr<A>, A>,
     last: Expr<A>,
-) -> Result<Expr<A>, Memory>
-    ensures { IfOk result (λ e. view e ≡ syntax_list (views items.items) (view last)) }
+    rest: &'a [Placed<'a>],
+) -> Result<(Expr<A>, &'a [Placed<'a>]), Halt<'a>>
+    ensures { MatchResult result
+        (λ x. (view x.0 ≡ syntax_list (views items.items) (view last)) × (x.1 ≡ rest.entry))
+        (λ e. e ≡ OutOfMemory) }
 {
-    Ok(Expr::ListWithEnd(items, Box::new(alloc, last)?))
+    let last = Box::new(alloc, last)?;
+    Ok((Expr::ListWithEnd(items, last), rest))
 }
 
 /// One or more expressions with commas between them.

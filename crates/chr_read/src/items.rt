@@ -10,7 +10,7 @@ ghost use Rattle.chr_read.specs.SyntaxView.{item_view};
 use crate::exprs::sum;
 use crate::halt::Halt;
 use crate::syntax::{Head, Item};
-use crate::words::{after_sign, is_word, name, relation};
+use crate::words::{after_sign, both, is_word, name, relation};
 use chr_semantics::limits::MAX_OPEN_BRACKETS;
 use chr_tokens::{Placed, Sign};
 use std::alloc::Allocator;
@@ -28,7 +28,7 @@ fn item<'a, A: Allocator + Copy>(
     match relation(end) {
         None => Ok((Item::Plain(left), end)),
         Some((relation, after)) => {
-            let (right, end) = sum(alloc, after, MAX_OPEN_BRACKETS)?;
+            let ((left, right), end) = both(left, sum(alloc, after, MAX_OPEN_BRACKETS))?;
             Ok((Item::Related(relation, left, right), end))
         }
     }
@@ -88,22 +88,26 @@ fn head<'a, A: Allocator + Copy>(
             Ok((Head { item, passive }, end))
         }
         Some(mark) => {
-            let after = after_passive(mark)?;
+            let (item, after) = before_passive(item, mark)?;
             let passive = true;
             Ok((Head { item, passive }, after))
         }
     }
 }
 
-/// What stands after `passive`.
-fn after_passive<'a>(text: &'a [Placed<'a>]) -> Result<&'a [Placed<'a>], Halt<'a>>
+/// What was read before `passive`, with what stands after it. The word has to come.
+fn before_passive<'a, T: Drop>(
+    found: T,
+    text: &'a [Placed<'a>],
+) -> Result<(T, &'a [Placed<'a>]), Halt<'a>>
     ensures reads { ReadsMark (placed_views text.now) result }
-    ensures shorter { IfOk result (λ after. length after.now < length text.now) }
+    ensures found { IfOk result (λ x. x.0 ≡ found) }
+    ensures shorter { IfOk result (λ x. length x.1.now < length text.now) }
 {
     match name(text) {
         Some((word, after)) => {
             if is_word(word, b"passive") {
-                Ok(after)
+                Ok((found, after))
             } else {
                 Err(Halt::Expected(text))
             }

@@ -1,5 +1,5 @@
 //! Words, digits and the tokens that come first.
-ghost use Rattle.std.specs.Prelude.{◌≡◌, ◌≢◌, ◌∷◌, [], IfOk, IfSome, MatchOption, MatchResult, length, ◌+◌, ◌<◌, bytes_eq, neg_ℤ, pos, string_bytes, true};
+ghost use Rattle.std.specs.Prelude.{◌≡◌, ◌≢◌, ◌∷◌, [], Err, IfOk, IfSome, MatchOption, MatchResult, Ok, length, ◌+◌, ◌<◌, bytes_eq, neg_ℤ, pos, string_bytes, true};
 ghost use Rattle.std.specs.Str.{encode_utf8_all};
 ghost use Rattle.chr_semantics.specs.Grammar.{is_magnitude, is_number};
 ghost use Rattle.chr_semantics.specs.Grammar.{arrow_sign};
@@ -105,6 +105,21 @@ pub(crate) fn before_sign<'a, T: Drop>(
     match after_sign(text, wanted) {
         Some(after) => Ok((found, after)),
         None => Err(Halt::Expected(text)),
+    }
+}
+
+/// What was read first, and what was read after it.
+pub(crate) fn both<'a, S: Drop, T>(
+    first: S,
+    second: Result<(T, &'a [Placed<'a>]), Halt<'a>>,
+) -> Result<((S, T), &'a [Placed<'a>]), Halt<'a>>
+    ensures { MatchResult result
+        (λ x. (x.0.0 ≡ first) × (second.entry ≡ Ok (x.0.1, x.1)))
+        (λ e. second.entry ≡ Err e) }
+{
+    match second {
+        Ok((second, rest)) => Ok(((first, second), rest)),
+        Err(halt) => Err(halt),
     }
 }
 

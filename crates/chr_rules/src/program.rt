@@ -1,5 +1,5 @@
 //! Programs: their checks, their rules, and the occurrences of each symbol.
-ghost use Rattle.std.specs.Prelude.{◌≡◌, ◌≢◌, ◌<◌, ◌^◌, IfErr, IfOk, IfSome, Ok, OnSome, Some, length, option_map, slice_get};
+ghost use Rattle.std.specs.Prelude.{◌≡◌, ◌≢◌, ◌<◌, ◌^◌, IfErr, IfOk, IfSome, Ok, OnSome, Some, length, option_map, slice_get, take};
 ghost use Rattle.chr_semantics.specs.Checked.{checked, checked_query};
 ghost use Rattle.chr_semantics.specs.Names.{first_names};
 ghost use Rattle.chr_semantics.specs.Program.{occurrence, occurrences};
@@ -124,6 +124,16 @@ impl<A: Allocator> Program<A> {
         ensures { result.now ≡ (checked_view self.now).names }
     {
         &self.names
+    }
+
+    /// Forgets all names but the first, of which there are `len`. With as many as there were before a query, it forgets those that came with
+    /// that query, whose numbers the next one gets.
+    pub fn forget_names(&mut self, len: usize)
+        ensures names { (checked_view self.new).names ≡ take len (checked_view self.old).names }
+        ensures declared { (checked_view self.new).declared ≡ (checked_view self.old).declared }
+        ensures rules { (checked_view self.new).rules ≡ (checked_view self.old).rules }
+    {
+        self.names.truncate(len);
     }
 
     /// The number of its rules.

@@ -1,7 +1,8 @@
--- The entries of a list by number, after one was written.
-use Rattle.std.proofs.Common.{◌≡◌, ◌∙◌, ℕ, zero, suc, ◌<◌, ◌==◌, ◌≢◌, Bool, true, false, true≢false, List, [], ◌∷◌, Option, Some, None, ◌≤◌, length, get_or, slice_set, refl, ap, sym, arith}
+-- The entries of a list by number, after one was written or the list was filled up.
+use Rattle.std.proofs.Common.{◌≡◌, ◌∙◌, ℕ, zero, suc, ◌<◌, ◌==◌, ◌≢◌, ◌++◌, Bool, true, false, true≢false, if◌then◌else◌, List, [], ◌∷◌, Option, Some, None, Result, Ok, Err, is_ok, ◌≤◌, length, get_or, replicate, slice_set, take, refl, ap, sym, arith}
 use Rattle.std.specs.Prelude.{slice_get}
 use Rattle.std.proofs.lemmas.Bool.Decides.{Decides-eqb}
+use Rattle.std.proofs.lemmas.List.{take_all}
 use Rattle.std.proofs.lemmas.Option.{slice_get_past, slice_get_read}
 
 module _ {X : Type 0} where
@@ -10,7 +11,7 @@ module _ {X : Type 0} where
   read xs n m x inside is e = ap (slice_get xs) (sym e) ∙ slice_get_read xs (length xs) n x refl inside is
 
   -- the entry that was written
-  slice_get-set_same : (xs : List X) (n m : ℕ) (y : X) → n < length xs → n ≡ m → slice_get (slice_set xs n y) m ≡ Some y
+  pub slice_get-set_same : (xs : List X) (n m : ℕ) (y : X) → n < length xs → n ≡ m → slice_get (slice_set xs n y) m ≡ Some y
   slice_get-set_same [] n m y inside e = absurd (omega (arith, inside))
   slice_get-set_same (x ∷ xs) zero zero y inside e = refl
   slice_get-set_same (x ∷ xs) zero (suc m) y inside e = absurd (omega (arith, e))
@@ -44,3 +45,17 @@ module _ {X : Type 0} where
       by_test : (b : Bool) → (n == m) ≡ b → P b (slice_get xs m) (slice_get xs m)
       by_test true e = let same : n ≡ m = (Decides-eqb n m).0 e in rw (slice_get_past xs m (omega (arith, same, past))) missing
       by_test false e = stays (slice_get xs m)
+
+  -- what holds of the entries that stay, and of one in place of none, holds of each where a list is filled up
+  pub at_filled : (P : Option X → Option X → Type 0) (xs : List X) (k m : ℕ) (x : X) → ((o : Option X) → P o o) → P None (Some x) → P (slice_get xs m) (slice_get (xs ++ replicate k x) m)
+  at_filled P [] zero m x stays filled = stays None
+  at_filled P [] (suc k) zero x stays filled = filled
+  at_filled P [] (suc k) (suc m) x stays filled = at_filled P [] k m x stays filled
+  at_filled P (y ∷ ys) k zero x stays filled = stays (Some y)
+  at_filled P (y ∷ ys) k (suc m) x stays filled = at_filled P ys k m x stays filled
+
+  -- the same where that may be refused
+  pub at_resized : {T E : Type 0} (P : Option X → Option X → Type 0) (r : Result T E) (old new : List X) (n k m : ℕ) (x : X) → length old ≤ n → new ≡ (if is_ok r then take n old ++ replicate k x else old)
+      → ((o : Option X) → P o o) → P None (Some x) → P (slice_get old m) (slice_get new m)
+  at_resized P (Ok t) old new n k m x longer is stays filled = rw (is, take_all n old longer) (at_filled P old k m x stays filled)
+  at_resized P (Err e) old new n k m x longer is stays filled = rw is (stays (slice_get old m))

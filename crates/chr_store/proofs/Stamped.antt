@@ -1,15 +1,16 @@
 -- Stamps that are raised once for a call.
-use Rattle.std.proofs.Common.{◌≡◌, ◌∙◌, ℕ, ◌+◌, ◌<◌, ◌≤◌, ◌==◌, Bool, true, false, cond, not, ◌&&◌, ◌||◌, List, [], ◌∷◌, ◌++◌, Option, Some, None, take, length, get_or, refl, arith, nat_lt}
+use Rattle.std.proofs.Common.{◌≡◌, ◌∙◌, ℕ, zero, suc, ◌+◌, ◌<◌, ◌≤◌, ◌==◌, Bool, true, false, true≢false, cond, not, ◌&&◌, ◌||◌, List, [], ◌∷◌, ◌++◌, Some, is_some, take, length, get_or, slice_set, refl, ap, sym, add-zero, arith, nat_lt}
 use Rattle.std.proofs.lemmas.List.Elements.{All-filter, All-head, All-push, All-tail}
 use Rattle.std.proofs.lemmas.List.Folds.{list_any_more}
 use Rattle.chr_semantics.specs.Match.{Row}
 use Rattle.chr_semantics.specs.Program.{Atom}
 use Rattle.chr_semantics.specs.Search.{atom_of}
-use Rattle.chr_store.specs.Counts.{AreStamped, has_stamp}
+use Rattle.chr_store.specs.Counts.{AreCounted, AreStamped, count_at, count_in, has_stamp, last_at, last_in}
 use Rattle.chr_store.specs.Rows.{rows_without}
 use Rattle.chr_store.specs.Waking.{has_symbol, has_symbol_among}
 use Rattle.chr_store.specs.declared.id.Id.{Id}
 use Rattle.chr_store.specs.declared.stamps.Stamp.{Stamp}
+use Rattle.chr_store.proofs.Places.{at_each, read}
 use Rattle.std.proofs.lemmas.Option.{none-some}
 use Rattle.std.proofs.lemmas.Bool.{lt-ltb}
 
@@ -72,3 +73,36 @@ count_raised f n count mid last call new same less e = e ∙ rw (same, lt-ltb la
 pub last_raised : (b : Bool) (last call new : ℕ) → last < call → new ≡ cond b call last → new ≤ call
 last_raised true last call new less e = omega (arith, e)
 last_raised false last call new less e = omega (arith, e)
+
+-- a number has a stamp just where one stands in its place
+pub stamp_within : (stamps : List Stamp) (n : ℕ) → has_stamp stamps n ≡ true → n < length stamps
+stamp_within [] n has = absurd (true≢false (sym has))
+stamp_within (s ∷ ss) zero has = omega arith
+stamp_within (s ∷ ss) (suc n) has = omega (arith, stamp_within ss n has)
+
+pub within_stamp : (stamps : List Stamp) (n : ℕ) → n < length stamps → has_stamp stamps n ≡ true
+within_stamp [] n inside = absurd (omega arith)
+within_stamp (s ∷ ss) zero inside = refl
+within_stamp (s ∷ ss) (suc n) inside = within_stamp ss n (omega arith)
+
+-- a stamp that was read was raised by no more calls than there were up to the last that raised it
+pub counted_read : (stamps : List Stamp) (f : ℕ) (s : Stamp) → f < length stamps → s ≡ get_or stamps f s → AreCounted stamps → s.count ≤ s.last
+counted_read stamps f s inside is counted = let at = read stamps f f s inside is refl in omega (arith, counted f, ap count_in at, ap last_in at)
+
+-- the stamps after that of the number f was written
+module _ (stamps : List Stamp) (f : ℕ) (old new : Stamp) (inside : f < length stamps) (is : old ≡ get_or stamps f old) where
+  -- its count is one more where no earlier question of the call raised it
+  pub count_written : (call : ℕ) → new.count ≡ old.count + cond (nat_lt old.last call) 1 0 → (n : ℕ) → count_at (slice_set stamps f new) n ≡ count_at stamps n + cond (f == n && nat_lt (last_at stamps n) call) 1 0
+  count_written call e n = at_each (λ b x y. count_in y ≡ count_in x + cond (b && nat_lt (last_in x) call) 1 0) stamps f n old new inside is e (λ o. rw add-zero)
+
+  -- and the call is the last that raised it
+  pub last_written : (call : ℕ) → new.last ≡ cond (nat_lt old.last call) call old.last → (n : ℕ) → last_at (slice_set stamps f new) n ≡ cond (f == n && nat_lt (last_at stamps n) call) call (last_at stamps n)
+  last_written call e n = at_each (λ b x y. last_in y ≡ cond (b && nat_lt (last_in x) call) call (last_in x)) stamps f n old new inside is e (λ o. refl)
+
+  -- the same numbers have stamps
+  pub stamp_written : (n : ℕ) → has_stamp (slice_set stamps f new) n ≡ has_stamp stamps n
+  stamp_written n = at_each (λ b x y. is_some y ≡ is_some x) stamps f n old new inside is refl (λ o. refl)
+
+  -- and they are counted as before
+  pub counted_written : new.count ≤ new.last → AreCounted stamps → AreCounted (slice_set stamps f new)
+  counted_written less counted n = at_each (λ b x y. count_in x ≤ last_in x → count_in y ≤ last_in y) stamps f n old new inside is (λ _. less) (λ o h. h) (counted n)

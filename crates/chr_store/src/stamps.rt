@@ -68,11 +68,10 @@ impl<A: Allocator> Stamps<A> {
             ≡ cond (number == n && nat_lt (last_at self.old.stamps.items n) call) call (last_at self.old.stamps.items n) }
         ensures kept { (n : ℕ) → has_stamp self.new.stamps.items n ≡ has_stamp self.old.stamps.items n }
     {
-        if let Some(stamp) = self.stamps.get_mut(number as usize) {
-            if stamp.last < call {
-                stamp.count += 1;
-                stamp.last = call;
-            }
+        let stamp = &mut self.stamps[number as usize];
+        if stamp.last < call {
+            stamp.count += 1;
+            stamp.last = call;
         }
     }
 }

@@ -1,7 +1,11 @@
 -- Texts that are written on.
-use Rattle.std.proofs.Common.{◌≡◌, ℕ, List, ◌++◌, length, take, ap, ◌∙◌, append_assoc}
+use Rattle.std.proofs.Common.{◌≡◌, ℕ, List, [], ◌++◌, length, take, ap, sym, ◌∙◌, append_assoc, append-nil}
 use Rattle.std.proofs.Math.Seq.{take-append_seam}
 use Rattle.chr_term.specs.Extension.{IsExtension}
+
+-- a text begins with itself
+pub extended_none : (a : List ℕ) → IsExtension a a
+extended_none a = record { more = []; whole = sym (append-nil a) }
 
 -- an extension of an extension is one
 pub extended_on : (a b c : List ℕ) → IsExtension a b → IsExtension b c → IsExtension a c

@@ -1,7 +1,7 @@
 -- Text that is written in parts.
-use Rattle.std.proofs.Common.{◌≡◌, ℕ, ◌+◌, ◌<◌, List, [], ◌∷◌, ◌++◌, map, drop, get_or, length, ap, sym, ◌∙◌, append_assoc, append-nil, Result, Ok, Err, OnOk}
+use Rattle.std.proofs.Common.{◌≡◌, ℕ, ◌+◌, ◌<◌, ◌≤◌, List, [], ◌∷◌, ◌++◌, map, drop, get_or, length, ap, sym, ◌∙◌, append_assoc, append-nil, Result, Ok, Err, OnOk}
 use Rattle.std.specs.Fmt.{decimal}
-use Rattle.std.proofs.lemmas.List.{at_drop_more}
+use Rattle.std.proofs.lemmas.List.{at_drop_more, drop_all}
 use Rattle.chr_semantics.specs.Text.{more_ids_text}
 
 joined : (out first second third a b c new : List ℕ) → first ≡ out ++ a → second ≡ first ++ b → third ≡ c → new ≡ second ++ third → new ≡ out ++ (a ++ (b ++ c))
@@ -39,3 +39,7 @@ pub numbered_on : {X : Type 0} (f : X → ℕ) (old out new : List ℕ) (xs : Li
 numbered_on f old out new xs i x lt at h e =
     h ∙ at_drop_more (λ ys. out ++ more_ids_text (map f ys)) xs i x lt ∙ ap (λ y. out ++ more_ids_text (map f (y ∷ drop (i + 1) xs))) (sym at)
     ∙ sym (append_assoc out (44 ∷ decimal (f x)) (more_ids_text (map f (drop (i + 1) xs)))) ∙ ap (λ t. t ++ more_ids_text (map f (drop (i + 1) xs))) (sym e)
+
+-- the last number was written
+pub all_numbered : {X : Type 0} (f : X → ℕ) (old out : List ℕ) (xs : List X) (i : ℕ) → length xs ≤ i → old ++ more_ids_text (map f xs) ≡ out ++ more_ids_text (map f (drop i xs)) → out ≡ old ++ more_ids_text (map f xs)
+all_numbered f old out xs i past h = sym (h ∙ (ap (λ ys. out ++ more_ids_text (map f ys)) (drop_all i xs past) ∙ append-nil out))

@@ -1,10 +1,11 @@
 -- Names that are stored as texts and entries.
-use Rattle.std.proofs.Common.{◌≡◌, ℕ, suc, ◌<◌, Bool, true, false, cond, ◌&&◌, ◌==◌, List, [], ◌∷◌, ◌++◌, length, get_or, map, refl, sym, ap, ◌∙◌, arith, Option, Some, None, is_some, bytes_eq, slice_get, position, option_map, inl, inr, subst, if◌then◌else◌}
-use Rattle.std.specs.List.{IsDistinct, list_any}
+use Rattle.std.proofs.Common.{◌≡◌, ℕ, zero, suc, ◌<◌, ◌≤◌, Bool, true, false, cond, ◌&&◌, ◌==◌, List, [], ◌∷◌, ◌++◌, length, get_or, take, map, refl, sym, ap, ◌∙◌, arith, Option, Some, None, is_some, bytes_eq, slice_get, position, option_map, inl, inr, subst, if◌then◌else◌}
+use Rattle.std.specs.List.{AllByRecursion, IsDistinct, list_any}
+use Rattle.std.specs.Prelude.{All}
 use Rattle.std.specs.Cmp.{both_ways}
 use Rattle.std.proofs.lemmas.Cmp.{nat_list_eq_equiv}
 use Rattle.std.proofs.lemmas.Bool.{cases_order, and_parts, and_from, false_from_ne_true, true≢false, eq-eqb, eqb-true}
-use Rattle.std.proofs.lemmas.List.{map-append, length-append, length-map, get_or_append_left}
+use Rattle.std.proofs.lemmas.List.{map-append, length-append, length-map, length-take, length-take-le, get_or_append_left, get_or-take, take-map}
 use Rattle.std.proofs.lemmas.List.Elements.{All-push}
 use Rattle.std.proofs.lemmas.List.Quantifiers.{position-Some}
 use Rattle.std.proofs.lemmas.Map.Keys.{apart_from_distinct, IsDistinct-push}
@@ -162,3 +163,30 @@ module _ (texts : List (List ℕ)) (entries : List StoredSymbol) (is : IsTable t
   pub symbol_of-interned : (x : StoredSymbol) (k : ℕ) → slice_get entries' k ≡ Some x → entry_eq e x ≡ true → IsTable texts' entries' → symbol_of (entry_names texts' entries') name e.arity ≡ Some k
   symbol_of-interned x k stands same table =
       symbol_of_at texts' entries' table k name e.arity (slice_get-entry_names texts' entries' e x k stands same ∙ ap (λ t. Some (t, e.arity)) (get_or_from_slice_get texts' e.text name [] at))
+
+-- the first of a list differ as the whole list does
+distinct_first : {X : Type 0} (eq : X → X → Bool) (n : ℕ) (xs : List X) → IsDistinct eq xs → IsDistinct eq (take n xs)
+unfolding IsDistinct
+distinct_first eq zero xs d = tt
+distinct_first eq (suc n) [] d = tt
+distinct_first eq (suc n) (x ∷ xs) d = (all_first (λ y. eq x y ≡ false) n xs d.0, distinct_first eq n xs d.1)
+  where
+    all_first : {X : Type 0} (P : X → Type 0) (n : ℕ) (xs : List X) → AllByRecursion P xs → AllByRecursion P (take n xs)
+    all_first P zero xs h = tt
+    all_first P (suc n) [] h = tt
+    all_first P (suc n) (x ∷ xs) h = (h.0, all_first P n xs h.1)
+
+-- the first symbols of a table, with no more texts than these have
+module _ (texts : List (List ℕ)) (entries : List StoredSymbol) (is : IsTable texts entries) (len used : ℕ) (few : used ≤ length texts) (used_all : All (λ (e : StoredSymbol). e.text < used) (take len entries)) where
+  pub IsTable-first : IsTable (take used texts) (take len entries)
+  IsTable-first = record {
+    within = λ k d lt. omega (arith, used_all k d lt, length-take-le used texts few);
+    few = omega (arith, is.few, length-take len entries);
+    texts_once = distinct_first bytes_eq used texts is.texts_once;
+    entries_once = distinct_first entry_eq len entries is.entries_once;
+  }
+
+  pub entry_names-first : entry_names (take used texts) (take len entries) ≡ take len (entry_names texts entries)
+  entry_names-first =
+      map_agrees (entry_name (take used texts)) (entry_name texts) (take len entries) (λ k d lt. ap (λ t. (t, (get_or (take len entries) k d).arity)) (get_or-take used texts _ [] (used_all k d lt)))
+      ∙ sym (take-map (entry_name texts) len entries)

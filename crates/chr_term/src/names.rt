@@ -1,4 +1,4 @@
-ghost use Rattle.std.specs.Prelude.{◌≡◌, ◌<◌, ◌↔◌, ◌+◌, ℕ, [], length, IfOk, IsTrue, OnErr, OnOk, Some, slice_get, option_map};
+ghost use Rattle.std.specs.Prelude.{◌≡◌, ◌<◌, ◌≤◌, ◌↔◌, ◌+◌, ℕ, [], All, length, take, IfOk, IsTrue, OnErr, OnOk, Some, slice_get, option_map};
 ghost use Rattle.chr_semantics.specs.Names.{arity_at, first_names, name_at, symbol_of, with_symbol};
 ghost use Rattle.chr_term.specs.Texts.{texts_of, with_text};
 
@@ -105,6 +105,15 @@ impl<A: Allocator> Names<A> {
         self.len() == 0
     }
 
+    /// Forgets all symbols but the first, of which there are `len`, and the texts that only others have.
+    pub fn truncate(&mut self, len: usize)
+        ensures { self.new ≡ take len self.old }
+    {
+        self.entries.truncate(len);
+        let used = texts_used(self.entries.as_slice(), self.texts.len());
+        self.texts.truncate(used);
+    }
+
     /// The name of a symbol.
     pub fn name(&self, sym: Sym) -> &str
         requires { sym.0 < length self.now }
@@ -132,6 +141,21 @@ impl<A: Allocator> Names<A> {
         let place = self.entries.get_index_of(&StoredSymbol { text, arity })?;
         Some(Sym(place as u32))
     }
+}
+
+/// How many of the texts there are up to the last that an entry has.
+fn texts_used(entries: &[StoredSymbol], texts: usize) -> usize
+    requires { All (λ e. e.text < texts) entries.now }
+    ensures used { All (λ e. e.text < result) entries.now }
+    ensures few { result ≤ texts }
+{
+    let mut used = 0;
+    for entry in entries {
+        if entry.text >= used {
+            used = entry.text + 1;
+        }
+    }
+    used
 }
 
 /// The place of a text, which goes last where it is new.

@@ -1,5 +1,5 @@
 //! Terms that are replaced in lists. Where nothing replaces a term, it stays, and is shared.
-ghost use Rattle.std.specs.Prelude.{◌≡◌, ◌<◌, ◌≤◌, ◌+◌, ◌++◌, IfOk, OnOk, length, map, take};
+ghost use Rattle.std.specs.Prelude.{◌≡◌, ◌<◌, ◌≤◌, ◌+◌, ◌++◌, ◌∷◌, [], IfOk, OnOk, length, map, take};
 ghost use Rattle.chr_term.specs.Replaced.{args_by, list_by, tree_at, tree_by, trees_by};
 ghost use Rattle.chr_term.specs.TermView.{trees_view, view};
 
@@ -64,6 +64,21 @@ fn first_copies<A: Allocator + Copy>(
     Ok(copies)
 }
 
+/// A list that is begun with a term: copies of those before its place, and the term, with room for all.
+fn begun_with<A: Allocator + Copy>(
+    alloc: A,
+    terms: &[Term<A>],
+    place: usize,
+    term: Term<A>,
+) -> Result<Vec<Term<A>, A>, Memory>
+    requires { place ≤ length terms.now }
+    ensures { IfOk result (λ items. map view items.items ≡ map view (take place terms.now) ++ view term ∷ []) }
+{
+    let mut items = first_copies(alloc, terms, place)?;
+    items.push(term)?;
+    Ok(items)
+}
+
 /// Puts what stands in the place of a term, or the term itself, behind what stands in the places of those before it. A list is begun
 /// where the first term is replaced: no list means that each stays.
 pub fn push_replaced<A: Allocator + Copy>(
@@ -84,9 +99,7 @@ pub fn push_replaced<A: Allocator + Copy>(
         },
         Some(term) => match made {
             None => {
-                let mut items = first_copies(alloc, terms, place)?;
-                items.push(term)?;
-                *made = Some(items);
+                *made = Some(begun_with(alloc, terms, place, term)?);
                 Ok(())
             }
             Some(items) => Ok(items.push(term)?),

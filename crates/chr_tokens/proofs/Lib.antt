@@ -2,4 +2,5 @@
 pub mod Capped
 pub mod Comments
 pub mod Cuts
+mod Firsts
 mod Lasts

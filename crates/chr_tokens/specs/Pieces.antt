@@ -1,6 +1,6 @@
 -- What the code finds first in a text.
-use Rattle.std.specs.Prelude.{ℕ, ◌≤◌, ◌<◌, List, length}
-use Rattle.chr_semantics.specs.Tokens.{Piece, ended, blank, token, broken}
+use Rattle.std.specs.Prelude.{ℕ, ◌≤◌, ◌<◌, List, drop, length}
+use Rattle.chr_semantics.specs.Tokens.{Piece, Token, ended, blank, token, broken, signs}
 use Rattle.chr_tokens.specs.TokenView.{fault_view, token_view}
 use Rattle.chr_tokens.specs.declared.pieces.First as written
 use Rattle.chr_tokens.specs.declared.pieces.First.TheVariants as Written
@@ -22,3 +22,10 @@ IsIn cs ended = Unit {0}
 IsIn cs (blank n) = IsLen cs n
 IsIn cs (token t n) = IsLen cs n
 IsIn cs (broken f) = Unit {0}
+
+-- the signs of one or two characters, and those of one: a longer sign stands before a shorter one
+abbrev pub signs_up_to_two : List (List ℕ × Token)
+signs_up_to_two = drop 4 signs
+
+abbrev pub signs_of_one : List (List ℕ × Token)
+signs_of_one = drop 9 signs

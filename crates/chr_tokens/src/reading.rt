@@ -1,5 +1,5 @@
 //! The tokens of characters.
-ghost use Rattle.std.specs.Prelude.{◌≡◌, ◌≤◌, ◌+◌, IfOk, length};
+ghost use Rattle.std.specs.Prelude.{◌≡◌, ◌≤◌, ◌+◌, ◌++◌, ◌∷◌, [], IfOk, length};
 ghost use Rattle.chr_semantics.specs.Tokens as semantics;
 ghost use Rattle.chr_semantics.specs.Tokens.{is_minus};
 ghost use Rattle.chr_tokens.specs.TokenView.{IsEnded, placed_views, token_view};
@@ -29,11 +29,8 @@ pub fn tokens<'a, A: Allocator + Copy>(
     loop {
         match first_piece(signed, rest) {
             First::Ended => {
-                found.push(Placed {
-                    place,
-                    token: Token::Over,
-                })?;
-                return Ok(found);
+                let token = Token::Over;
+                return with_last(found, Placed { place, token });
             }
             First::Blank(n) => {
                 (rest, place) = past(rest, place, n);
@@ -45,14 +42,22 @@ pub fn tokens<'a, A: Allocator + Copy>(
                 signed = is_minus(token);
             }
             First::Broken(fault) => {
-                found.push(Placed {
-                    place,
-                    token: Token::Fault(fault),
-                })?;
-                return Ok(found);
+                let token = Token::Fault(fault);
+                return with_last(found, Placed { place, token });
             }
         }
     }
+}
+
+/// The tokens that are found, with the last one.
+fn with_last<'a, A: Allocator>(
+    mut found: Vec<Placed<'a>, A>,
+    last: Placed<'a>,
+) -> Result<Vec<Placed<'a>, A>, Memory>
+    ensures { IfOk result (λ all. all.items ≡ found.entry.items ++ last.entry ∷ []) }
+{
+    found.push(last)?;
+    Ok(found)
 }
 
 /// Whether a token is `-`.

@@ -3,7 +3,7 @@ ghost use Rattle.std.specs.Prelude.{◌≡◌, IfOk};
 ghost use Rattle.chr_semantics.specs.Subst.{Subst, apply};
 ghost use Rattle.chr_semantics.specs.Verdict.{applied as applied_by};
 ghost use Rattle.chr_term.specs.TermView.{view};
-ghost use Rattle.chr_bind.specs.Guards.{test_view};
+ghost use Rattle.chr_bind.specs.Guards.{over, test_view};
 ghost use Rattle.chr_bind.specs.Matching.{AgreesWith};
 
 use super::{Test, made_instance};
@@ -26,6 +26,24 @@ fn both_applied<A: Allocator + Copy>(
     Ok((left, made_instance(alloc, matching, right)?))
 }
 
+/// The test over other terms, of which one of a single term takes the first.
+fn over<A: Allocator>(test: &Test<A>, left: Term<A>, right: Term<A>) -> Test<A>
+    ensures { test_view result ≡ over (test_view test.now) (view left) (view right) }
+{
+    match test {
+        Test::Identical(_, _) => Test::Identical(left, right),
+        Test::NotUnifiable(_, _) => Test::NotUnifiable(left, right),
+        Test::Less(_, _) => Test::Less(left, right),
+        Test::Greater(_, _) => Test::Greater(left, right),
+        Test::AtMost(_, _) => Test::AtMost(left, right),
+        Test::AtLeast(_, _) => Test::AtLeast(left, right),
+        Test::Equals(_, _) => Test::Equals(left, right),
+        Test::Differs(_, _) => Test::Differs(left, right),
+        Test::Integer(_) => Test::Integer(left),
+        Test::Ground(_) => Test::Ground(left),
+    }
+}
+
 /// The test with what its variables are matched to put in.
 pub fn applied<A: Allocator + Copy>(
     alloc: A,
@@ -44,16 +62,5 @@ pub fn applied<A: Allocator + Copy>(
         Test::Ground(term) => return Ok(Test::Ground(made_instance(alloc, matching, term)?)),
     };
     let (left, right) = both_applied(alloc, matching, left, right)?;
-    Ok(match test {
-        Test::Identical(_, _) => Test::Identical(left, right),
-        Test::NotUnifiable(_, _) => Test::NotUnifiable(left, right),
-        Test::Less(_, _) => Test::Less(left, right),
-        Test::Greater(_, _) => Test::Greater(left, right),
-        Test::AtMost(_, _) => Test::AtMost(left, right),
-        Test::AtLeast(_, _) => Test::AtLeast(left, right),
-        Test::Equals(_, _) => Test::Equals(left, right),
-        Test::Differs(_, _) => Test::Differs(left, right),
-        Test::Integer(_) => Test::Integer(left),
-        Test::Ground(_) => Test::Ground(left),
-    })
+    Ok(over(test, left, right))
 }

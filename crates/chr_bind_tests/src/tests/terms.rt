@@ -2,6 +2,17 @@
 use super::*;
 use chr_term::{Names, VarNames, copy, is_ground, print, same};
 
+/// The last symbol is forgotten with its text, and its number is given again.
+fn forget_last(rt: &impl Abort, names: &mut Names) {
+    names.truncate(9);
+    holds(rt, names.len() == 9);
+    equal(rt, names.find("f", 1), None);
+    equal(rt, names.find("f", 2), Some(Sym(7)));
+    equal(rt, got(rt, names.intern("b", 3)), Sym(9));
+    holds(rt, names.len() == 10);
+    equal(rt, names.name(Sym(9)), "b");
+}
+
 /// Symbols that are new, and known ones.
 fn follow_names(rt: &impl Abort, names: &mut Names) {
     for (name, arity, number) in [("f", 2, 7), ("a", 0, 8), ("f", 2, 7), ("f", 1, 9)] {
@@ -18,6 +29,7 @@ fn follow_names(rt: &impl Abort, names: &mut Names) {
 fn names_calls(rt: HostRuntime) {
     let mut names = got(&rt, Names::new(rt.alloc()));
     follow_names(&rt, &mut names);
+    forget_last(&rt, &mut names);
 }
 
 /// So many different names that their numbers have more than 16 bits.

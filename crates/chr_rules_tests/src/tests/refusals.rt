@@ -62,6 +62,15 @@ fn is_asked<M: Allocator + Copy>(
     answer.is_ok()
 }
 
+/// The names of the query are forgotten, and nothing else. The program has `own` names.
+fn are_forgotten<M: Allocator>(rt: &impl Abort, program: &mut Program<M>, own: usize) {
+    equal(rt, program.names().find("new", 0).is_some(), true);
+    program.forget_names(own);
+    equal(rt, program.names().find("new", 0), None);
+    equal(rt, program.names().len(), own);
+    assert_program(rt, program);
+}
+
 /// As `is_asked`, over a program of its own. It can be called again.
 fn is_asked_anew<M: Allocator + Copy>(
     rt: &impl Abort,
@@ -71,8 +80,10 @@ fn is_asked_anew<M: Allocator + Copy>(
 ) -> bool {
     meter.allow(AMPLE);
     let mut program = got(rt, program_of(alloc, PROGRAM));
+    let own = program.names().len();
     let is_done = is_asked(rt, alloc, meter, &mut program, left);
     holds(rt, is_asked(rt, alloc, meter, &mut program, AMPLE));
+    are_forgotten(rt, &mut program, own);
     is_done
 }
 

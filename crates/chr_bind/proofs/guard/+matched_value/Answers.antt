@@ -2,7 +2,7 @@ use Rattle.std.proofs.Common.{◌≡◌, ◌∙◌, ap, sym}
 use Rattle.chr_semantics.specs.Subst.{apply, instances, value_at}
 use Rattle.chr_semantics.specs.Tree.{var}
 use Rattle.chr_semantics.specs.Value.{node_value, value, values}
-use Rattle.chr_term.specs.TermView.{trees_view, view}
+use Rattle.chr_term.specs.TermView.{view}
 use Rattle.chr_bind.proofs.Instances.{instance_free, instance_matched}
 use Rattle.chr_bind.proofs.Values.{instances_value-other}
 use Rattle.chr_bind.proofs.guard.+matched_value.Goals as goal

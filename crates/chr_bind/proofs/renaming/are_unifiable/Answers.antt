@@ -1,6 +1,5 @@
 use Rattle.std.proofs.Common.{Bool, arith, subst, ◌≡◌}
 use Rattle.std.specs.Prelude.{IfOk}
-use Rattle.chr_term.specs.TermView.{view}
 use Rattle.chr_semantics.proofs.Below.{below_more}
 use Rattle.chr_bind.proofs.Renamed.{extended_term, same_unifiable}
 use Rattle.chr_bind.proofs.renaming.are_unifiable.Goals as goal

@@ -1,9 +1,8 @@
 use Rattle.std.proofs.Common.{◌≡◌, ◌∙◌, ◌+◌, Option, Some, ap, subst, sym, ℕ}
-use Rattle.std.specs.Prelude.{option_map, slice_get}
-use Rattle.chr_rules.specs.Index.{pair_of}
+use Rattle.std.specs.Prelude.{slice_get}
 use Rattle.chr_rules.specs.ProgramView.{rules_of}
 use Rattle.chr_rules.specs.RuleView.{rule_view}
-use Rattle.chr_semantics.specs.Program.{Atom, Rule, occurrence}
+use Rattle.chr_semantics.specs.Program.{Atom, Rule}
 use Rattle.chr_semantics.specs.Search.{atom_of}
 use Rattle.chr_semantics.specs.Tries.{capped, tried_tuples}
 use Rattle.chr_store.specs.Rows.{row_atom}

@@ -1,4 +1,5 @@
-use Rattle.std.proofs.Common.{◌∙◌, ap, refl}
+use Rattle.std.proofs.lemmas.Result.{IfOk-from_err, IfOk-weaker}
+use Rattle.std.proofs.Common.{◌∙◌, ap, refl, arith}
 use Rattle.chr_read.specs.Automaton.{heads}
 use Rattle.chr_read.specs.Reads.{items_verdict}
 use Rattle.chr_read.specs.SyntaxView.{head_views}
@@ -27,3 +28,15 @@ returns-in_ok-second-in-Some-clause-reads g c l w ps =
     let hs = head_views c.in_ok-first.first.items in
     goes_on _ _ _ _ (c.in_ok-first.ensures.in_heads l w ps ∙ ap (items_verdict (heads l w hs) ps) c.in-Some.ensures.first.are ∙ c.in_ok-second-in-Some.ensures.in_behind l w hs ps)
     (front_with_behind l w ps c.in_ok-second-in-Some.end c.in_ok-first.first c.in_ok-second-in-Some.second c.before_arrow-in-Some.result c.in_ok-second-in-Some.ensures.no_comma c.before_arrow-in-Some.ensures.heads c.before_arrow-in-Some.ensures.arrow)
+
+pub returns-in_err-first-clause-shorter : goal.returns-in_err-first-clause-shorter
+returns-in_err-first-clause-shorter g c = IfOk-from_err c.from_residual.result _ c.from_residual.ensures.0
+
+pub returns-in-None-clause-shorter : goal.returns-in-None-clause-shorter
+returns-in-None-clause-shorter g c = IfOk-weaker c.before_arrow.result _ _ (λ x s. omega (arith, s, c.in_ok-first.ensures.shorter)) c.before_arrow.ensures.shorter
+
+pub returns-in_err-second-in-Some-clause-shorter : goal.returns-in_err-second-in-Some-clause-shorter
+returns-in_err-second-in-Some-clause-shorter g c = IfOk-from_err c.from_residual-in_err-second-in-Some.result _ c.from_residual-in_err-second-in-Some.ensures.0
+
+pub returns-in_ok-second-in-Some-clause-shorter : goal.returns-in_ok-second-in-Some-clause-shorter
+returns-in_ok-second-in-Some-clause-shorter g c = IfOk-weaker c.before_arrow-in-Some.result _ _ (λ x s. omega (arith, s, c.in_ok-second-in-Some.ensures.shorter, c.in-Some.ensures.shorter, c.in_ok-first.ensures.shorter)) c.before_arrow-in-Some.ensures.shorter

@@ -1,4 +1,5 @@
-use Rattle.std.proofs.Common.{◌∙◌, ◌∷◌, ◌++◌, [], ap, refl, sym}
+use Rattle.std.proofs.lemmas.Result.{IfOk-from_err, IfOk-weaker}
+use Rattle.std.proofs.Common.{◌∙◌, ◌∷◌, ◌++◌, [], ap, refl, sym, arith}
 use Rattle.chr_semantics.specs.Tokens.{stop}
 use Rattle.chr_tokens.specs.TokenView.{placed_views}
 use Rattle.chr_read.specs.Automaton.{between, body, guarded, limited_room, rule_of, run}
@@ -38,3 +39,18 @@ returns-clause-reads g c s ps =
     goes_on _ _ _ _ (c.in_ok-first.ensures.in_body s ps ∙ ap (items_verdict (body s gs) ps) c.in-Some-after_sign.ensures.first.are ∙ c.in_ok-second.ensures.in_guarded s gs ps)
     (goes_before stop c.in_ok-second.end (record { guard = c.in_ok-first.first; body = c.in_ok-second.second }) c.before_sign.result (items_verdict (guarded s gs is) ps) _ c.before_sign.ensures.first (λ p rest. refl)
     (guarded_refuses s gs is ps (placed_views c.in_ok-second.end.now) c.in_ok-second.ensures.no_comma))
+
+pub returns-in_err-first-clause-shorter : goal.returns-in_err-first-clause-shorter
+returns-in_err-first-clause-shorter g c = IfOk-from_err c.from_residual.result _ c.from_residual.ensures.0
+
+pub returns-in-Some-clause-shorter : goal.returns-in-Some-clause-shorter
+returns-in-Some-clause-shorter g c = omega (arith, c.in-Some.ensures.shorter, c.in_ok-first.ensures.shorter)
+
+pub returns-in_default-after_sign-clause-shorter : goal.returns-in_default-after_sign-clause-shorter
+returns-in_default-after_sign-clause-shorter g c = tt
+
+pub returns-in_err-second-clause-shorter : goal.returns-in_err-second-clause-shorter
+returns-in_err-second-clause-shorter g c = IfOk-from_err c.from_residual-in_err-second.result _ c.from_residual-in_err-second.ensures.0
+
+pub returns-clause-shorter : goal.returns-clause-shorter
+returns-clause-shorter g c = IfOk-weaker c.before_sign.result _ _ (λ x s. omega (arith, s, c.in_ok-second.ensures.shorter, c.in-Some-after_sign.ensures.shorter, c.in_ok-first.ensures.shorter)) c.before_sign.ensures.shorter

@@ -1,6 +1,4 @@
-use Rattle.std.proofs.Common.{◌≡◌, ◌∙◌, ◌++◌, ◌∷◌, [], Option, Some, ap, map, subst, sym, take}
-use Rattle.chr_term.specs.TermView.{view}
-use Rattle.chr_term.specs.declared.term.Term.{Term}
+use Rattle.std.proofs.Common.{◌∙◌, ◌++◌, ◌∷◌, [], ap, sym, take}
 use Rattle.chr_term.specs.Replaced.{list_by, tree_at}
 use Rattle.chr_term.proofs.Replaced.{at_kept, at_replaced, next_kept, pushed}
 use Rattle.chr_term.proofs.replacing.push_replaced.Goals as goal
@@ -15,11 +13,11 @@ returns-in_ok-push-in-Some-made g c =
     (ap (list_by (take c.args.place c.args.terms.now)) c.in-Some-made.is) c.in_ok-push-in-Some-made.ensures.items
     (ap (tree_at c.args.terms.now c.args.place) c.in-None.is ∙ at ∙ ap (λ t. t ∷ []) (sym c.in_ok-copy-in-Some-made.ensures))
 
-pub returns-in_ok-push-in-None-made-2 : goal.returns-in_ok-push-in-None-made-2
-returns-in_ok-push-in-None-made-2 g c =
-    pushed c.args.terms.now c.args.place c.args.made.now c.in_ok-items-in-None-made-2.items.items _ c.in-Some.term c.args.replaced
-    (ap (list_by (take c.args.place c.args.terms.now)) c.in-None-made-2.is ∙ sym c.in_ok-items-in-None-made-2.ensures) c.in_ok-push-in-None-made-2.ensures.items
-    (ap (tree_at c.args.terms.now c.args.place) c.in-Some.is ∙ at_replaced c.args.terms.now c.args.place c.in-Some.term c.requires)
+pub returns-in_ok-begun_with-in-None-made-2 : goal.returns-in_ok-begun_with-in-None-made-2
+returns-in_ok-begun_with-in-None-made-2 g c =
+    let old = ap (list_by (take c.args.place c.args.terms.now)) c.in-None-made-2.is in
+    let at = ap (tree_at c.args.terms.now c.args.place) c.in-Some.is ∙ at_replaced c.args.terms.now c.args.place c.in-Some.term c.requires in
+    c.in_ok-begun_with-in-None-made-2.ensures ∙ (λ k. sym old k ++ sym at k)
 
 pub returns-in_ok-push-in-Some-made-2 : goal.returns-in_ok-push-in-Some-made-2
 returns-in_ok-push-in-Some-made-2 g c =

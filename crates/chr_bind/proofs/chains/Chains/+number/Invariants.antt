@@ -5,8 +5,8 @@ use Rattle.chr_bind.specs.Chains.{subst_of}
 use Rattle.chr_term.specs.Size.{size, size_all}
 use Rattle.chr_bind.proofs.chains.Chains.+number.Given as goal
 
-abbrev pub decreases-number : goal.decreases-number
-decreases-number g l = size (apply (subst_of l.self.now) (view l.term.now))
+abbrev pub decreases-full_number : goal.decreases-full_number
+decreases-full_number g l = size (apply (subst_of l.self.now) (view l.term.now))
 
 abbrev pub decreases-node_number : goal.decreases-node_number
 decreases-node_number g l = size_all (instances (value_at (subst_of l.self.now)) (trees_view l.args.now)) + 1

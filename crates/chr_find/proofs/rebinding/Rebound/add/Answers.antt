@@ -1,10 +1,8 @@
-use Rattle.std.proofs.Common.{◌≡◌, ◌∙◌, ◌∷◌, ◌++◌, [], Bool, List, Option, None, Some, ap, cond, refl, subst, sym}
+use Rattle.std.proofs.Common.{◌≡◌, ◌∙◌, ◌∷◌, ◌++◌, [], Bool, List, Option, ap, cond, refl, subst, sym}
 use Rattle.chr_semantics.specs.Tree.{is_ground_trees}
 use Rattle.chr_store.specs.Rows.{row_atom}
 use Rattle.chr_store.specs.declared.id.Id.{Id}
 use Rattle.chr_store.specs.declared.row.Row.{Row}
-use Rattle.chr_term.specs.TermView.{trees_view}
-use Rattle.chr_term.specs.declared.term.Term.{Term}
 use Rattle.chr_find.specs.Rebinding.{IsResolved}
 use Rattle.chr_find.specs.declared.rebinding.Rebound.{Rebound}
 use Rattle.chr_find.specs.declared.rebinding.Replaced.{Replaced}

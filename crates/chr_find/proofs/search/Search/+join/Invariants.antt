@@ -1,14 +1,36 @@
-use Rattle.std.proofs.Common.{◌+◌, ◌*◌, ◌-◌, length, vec_len}
+use Rattle.std.proofs.Common.{◌≡◌, ◌≤◌, ◌+◌, ◌*◌, ◌-◌, ◌++◌, List, false, length, vec_len}
+use Rattle.chr_semantics.specs.Match as semantics
+use Rattle.chr_find.specs.SearchIs.{WalkLeads}
+use Rattle.chr_find.specs.Shown.{walk}
 use Rattle.chr_find.proofs.search.Search.+join.Given as goal
 
 abbrev pub decreases-join : goal.decreases-join
-decreases-join g l = (vec_len l.self.now.rule.now.heads - length l.prefix.now.partners) * (length l.self.now.rows.now + 4)
+decreases-join g l = (vec_len l.self.now.rule.now.heads - length l.prefix.now.partners) * (2 * length l.self.now.rows.now + 5)
 
 abbrev pub decreases-visit : goal.decreases-visit
-decreases-visit g l = (vec_len l.self.now.rule.now.heads - length l.prefix.now.partners - 1) * (length l.self.now.rows.now + 4) + length l.span.now + 3
+decreases-visit g l = (vec_len l.self.now.rule.now.heads - length l.prefix.now.partners - 1) * (2 * length l.self.now.rows.now + 5) + 2 * length l.span + 3
+
+abbrev pub decreases-visit_some : goal.decreases-visit_some
+decreases-visit_some g l = (vec_len l.self.now.rule.now.heads - length l.prefix.now.partners - 1) * (2 * length l.self.now.rows.now + 5) + 2 * length l.span + 4
+
+abbrev pub decreases-walk : goal.decreases-walk
+decreases-walk g l = (vec_len l.self.now.rule.now.heads - length l.prefix.now.partners - 1) * (2 * length l.self.now.rows.now + 5) + 2 * length l.span + 3
+
+abbrev pub decreases-walk_some : goal.decreases-walk_some
+decreases-walk_some g l = (vec_len l.self.now.rule.now.heads - length l.prefix.now.partners - 1) * (2 * length l.self.now.rows.now + 5) + 2 * length l.span + 4
+
+-- some rows are walked, nothing is found among them, and these are left
+abbrev pub invariant-walk-loop-middle : goal.invariant-walk-loop-middle
+invariant-walk-loop-middle g l = (done : List semantics.Row)
+    × (walk l.bucket l.fn.span ≡ done ++ walk l.bucket l.left)
+    × (length l.left ≤ length l.fn.span)
+    × WalkLeads (g.P.FiringHistory.history l.self.past.now) l.self l.prefix done l.fn.matching l.matching l.fn.reached l.reached false
+
+abbrev pub decreases-walk-loop-middle : goal.decreases-walk-loop-middle
+decreases-walk-loop-middle g l = length l.left
 
 abbrev pub decreases-try_row : goal.decreases-try_row
-decreases-try_row g l = (vec_len l.self.now.rule.now.heads - length l.prefix.now.partners - 1) * (length l.self.now.rows.now + 4) + 2
+decreases-try_row g l = (vec_len l.self.now.rule.now.heads - length l.prefix.now.partners - 1) * (2 * length l.self.now.rows.now + 5) + 2
 
 abbrev pub decreases-join_row : goal.decreases-join_row
-decreases-join_row g l = (vec_len l.self.now.rule.now.heads - length l.prefix.now.partners - 1) * (length l.self.now.rows.now + 4) + 1
+decreases-join_row g l = (vec_len l.self.now.rule.now.heads - length l.prefix.now.partners - 1) * (2 * length l.self.now.rows.now + 5) + 1

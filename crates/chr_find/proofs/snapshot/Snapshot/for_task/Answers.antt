@@ -13,7 +13,7 @@ use Rattle.chr_find.proofs.snapshot.Snapshot.for_task.Goals as goal
 
 pub invariant_of-result : goal.invariant_of-result
 invariant_of-result g c =
-    let t = c.in_ok-table.ensures in
+    let t = c.in_ok-table.ensures.table in
     record {
       whole = t.whole;
       keyed = t.keyed;
@@ -32,7 +32,7 @@ returns g c = λ s of.
     let t = c.in_ok-table.table in
     let entries = entries_of_scope st m h s of o c.scope_of-scope.result scope in
     record {
-      shown = taken_is st m h c.scope_of-scope.result t c.in_ok-table.ensures c.in_ok-firings.firings c.in_ok-firings.ensures c.next.result.0 _ _ _ (rows_of_scope st m h s of o c.scope_of-scope.result scope) entries (of.next ∙ sym c.next.ensures)
+      shown = taken_is st m h c.scope_of-scope.result t c.in_ok-table.ensures.table c.in_ok-table.firings c.in_ok-table.ensures.firings c.next.result.0 _ _ _ (rows_of_scope st m h s of o c.scope_of-scope.result scope) entries (of.next ∙ sym c.next.ensures)
           (sym (ap tasks_view (c.in_ok-push.ensures.items ∙ ap (λ (l : List Task). l ++ c.args.task ∷ []) c.new-tasks.ensures.items))) refl;
-      firings = taken_firings st m h c.scope_of-scope.result t c.in_ok-table.ensures c.in_ok-firings.firings c.in_ok-firings.ensures _ entries;
+      firings = taken_firings st m h c.scope_of-scope.result t c.in_ok-table.ensures.table c.in_ok-table.firings c.in_ok-table.ensures.firings _ entries;
     }

@@ -8,7 +8,7 @@ use Rattle.chr_find.proofs.snapshot.Snapshot.take.Goals as goal
 
 pub invariant_of-result : goal.invariant_of-result
 invariant_of-result g c =
-    let t = c.in_ok-table.ensures in
+    let t = c.in_ok-table.ensures.table in
     record {
       whole = t.whole;
       keyed = t.keyed;
@@ -23,7 +23,7 @@ returns g c = λ s of.
     let t = c.in_ok-table.table in
     let entries = whole_entries st m h s of c.whole-scope.result c.whole-scope.ensures.rules in
     record {
-      shown = taken_is st m h c.whole-scope.result t c.in_ok-table.ensures c.in_ok-firings.firings c.in_ok-firings.ensures c.next.result.0 _ _ _ (whole_rows st m h s of c.whole-scope.result c.whole-scope.ensures.rows) entries (of.next ∙ sym c.next.ensures) refl
+      shown = taken_is st m h c.whole-scope.result t c.in_ok-table.ensures.table c.in_ok-table.firings c.in_ok-table.ensures.firings c.next.result.0 _ _ _ (whole_rows st m h s of c.whole-scope.result c.whole-scope.ensures.rows) entries (of.next ∙ sym c.next.ensures) refl
           (ap (λ (u : Subst). option_map (resolved_atom u) (guest_view c.args.guest)) of.subst ∙ sym c.in_ok-guest.ensures);
-      firings = taken_firings st m h c.whole-scope.result t c.in_ok-table.ensures c.in_ok-firings.firings c.in_ok-firings.ensures _ entries;
+      firings = taken_firings st m h c.whole-scope.result t c.in_ok-table.ensures.table c.in_ok-table.firings c.in_ok-table.ensures.firings _ entries;
     }

@@ -1,4 +1,4 @@
-use Rattle.std.proofs.Common.{◌≡◌, ◌∙◌, [], List, Some, ap, subst, sym}
+use Rattle.std.proofs.Common.{◌≡◌, [], List, Some, subst, sym}
 use Rattle.std.specs.Prelude.{is_some}
 use Rattle.chr_semantics.specs.Match as semantics
 use Rattle.chr_semantics.specs.Trail.{own_trail}

@@ -1,5 +1,4 @@
-use Rattle.std.proofs.Common.{◌∙◌, None, Some, ap, arith, refl, sym}
-use Rattle.chr_store.specs.Rows.{row_atom}
+use Rattle.std.proofs.Common.{None, arith, refl}
 use Rattle.chr_find.specs.Newest.{IsNot, with_newest}
 use Rattle.chr_find.specs.PendingIndexView.{indexed_atom}
 use Rattle.chr_find.specs.TableView.{atom_at, atoms_with}

@@ -1,4 +1,4 @@
-use Rattle.std.proofs.Common.{◌∙◌, Some, ap, sym}
+use Rattle.std.proofs.Common.{Some}
 use Rattle.chr_store.specs.Rows.{row_atom}
 use Rattle.chr_find.specs.Newest.{with_newest}
 use Rattle.chr_find.specs.PendingIndexView.{indexed_atom}

@@ -1,4 +1,4 @@
-use Rattle.std.proofs.Common.{◌∙◌, ◌+◌, ◌≤◌, arith, length}
+use Rattle.std.proofs.Common.{◌+◌, ◌≤◌, arith, length}
 use Rattle.chr_find.specs.TableView.{HasRoom, atom_at}
 use Rattle.std.specs.Prelude.{vec_len}
 use Rattle.chr_find.proofs.KeyedTables.{room_within}

@@ -1,4 +1,3 @@
-use Rattle.std.proofs.Common.{◌∙◌}
 use Rattle.chr_map.proofs.Clauses.{ok_leads}
 use Rattle.chr_find.proofs.table.Table.settle_all.Goals as goal
 

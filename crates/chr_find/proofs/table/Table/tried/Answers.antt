@@ -1,4 +1,4 @@
-use Rattle.std.proofs.Common.{◌≡◌, ◌∙◌, ◌+◌, List, Some, [], ap, arith, length, refl, subst, ℕ}
+use Rattle.std.proofs.Common.{◌≡◌, ◌∙◌, ◌+◌, List, [], ap, arith, length, refl, subst, ℕ}
 use Rattle.std.specs.Prelude.{is_some}
 use Rattle.chr_semantics.specs.Join.{Joined}
 use Rattle.chr_semantics.specs.Trail.{Trail, partial_lists}
