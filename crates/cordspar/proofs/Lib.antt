@@ -1,0 +1,4 @@
+pub mod Freed
+pub mod Handles
+pub mod Lines
+pub mod Values
