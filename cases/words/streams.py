@@ -63,6 +63,7 @@ CANNOT_WRITE = "chr: cannot write\n"
 refuse("input_that_fails", "", "cannot read", fails="stdin", alone=OWN_FILES)
 make("full_output", GROUND_RULE, ["{}", GROUND_QUERY], stderr=CANNOT_WRITE, status=REFUSED, fails="stdout", alone=OWN_FILES)
 make("full_output_of_help", "", ["--help"], stderr=CANNOT_WRITE, status=REFUSED, fails="stdout", alone=OWN_FILES)
+make("full_output_of_version", "", ["--version"], stderr=CANNOT_WRITE, status=REFUSED, fails="stdout", alone=OWN_FILES)
 make("full_error_output", "", ["nowhere", GROUND_QUERY], status=REFUSED, fails="stderr", alone=OWN_FILES)
 make("full_error_output_of_totals", GCD_INPUT, ["--totals"], stdout=text_of("runs/gcd"), fails="stderr", alone=OWN_FILES)
 make(

@@ -61,6 +61,7 @@ for k, (line, words) in enumerate(
         ("QUERY is missing", ["else/where"]),
         ("QUERY is missing", ["help"]),
         ("QUERY is missing", ["--", "--totals"]),
+        ("QUERY is missing", ["--", "--version"]),
         ("cannot read else/where", ["else/where", "true."]),
         ("cannot read ", ["", ""]),
         ("query 1:2: Expected", ["{}", "-"]),
@@ -101,6 +102,9 @@ for k, words in enumerate(
     ]
 ):
     make(f"help_{k + 1}", "", words, stdout=HELP)
+
+VERSION = "chr 0.1.0\nrattle-kit-13f logic dac8208d650f15bf\n"
+make("version", "", ["--version"], stdout=VERSION)
 
 MORE = "\n\nFor more information, try '--help'.\n"
 USAGE = "\n\nUsage: chr [OPTIONS] [PROGRAM] [QUERY]" + MORE
@@ -180,6 +184,7 @@ words_refused(
     (["P", "Q", "R"], "unexpected argument 'R' found", USAGE),
     (["P", "Q", "R", "--help"], "unexpected argument 'R' found", USAGE),
     (["--bogus"], not_found("--bogus"), USAGE),
+    (["--version", "P"], not_found("--version"), USAGE),
     (["P", "-q."], not_found("-q"), USAGE),
     (["--budget", "-5"], not_found("-5"), USAGE),
     (

@@ -6,7 +6,7 @@ use Rattle.std.specs.declared.alloc.Global.{Global}
 use Rattle.chr_trace.specs.declared.state.Status.{Status}
 use Rattle.chr_core.specs.CoreView.{counts_view}
 use Rattle.chr_core.specs.declared.run_core.Counts.{Counts}
-use Rattle.chr_words.specs.Words.{Asks, Values, run, help, refused, asks_of, number_of}
+use Rattle.chr_words.specs.Words.{Asks, Values, run, help, version, refused, asks_of, number_of}
 use Rattle.chr_run.specs.Output.{AppendsLess, AppendsPart}
 use Rattle.chr_run.specs.Replays.{IsTextReplay}
 use Rattle.chr_run.specs.Reports.{Follows, Options, budget_of, counts_text, is_silent, refusal_text, status_code, unread_text, workers_of}
@@ -133,10 +133,15 @@ DoesWords written program query a (Some schedule) files input e = ReplaysWords p
 abbrev pub options_in : Values → Options
 options_in v = record { budget = option_map number_of v.budget; workers = option_map number_of v.workers; recorded = v.recorded; totals = v.totals }
 
+-- the version, and the kit that proved it
+abbrev pub version_text : List ℕ
+version_text = codes "chr 0.1.0\nrattle-kit-13f logic dac8208d650f15bf\n"
+
 -- what is done where this is asked for; the texts of help and of what is wrong with words are those of `clap`
 abbrev pub DoesAsked : (List ℕ → List ℕ → Type 0) → Asks → (List ℕ → Option (List ℕ)) → Option (List ℕ) → Effect → Type 0
 DoesAsked written (run words) files input e = DoesWords written words.program words.query (options_in words.values) words.values.replay files input e
 DoesAsked written help files input e = (text : List ℕ) × Shows text e
+DoesAsked written version files input e = Shows version_text e
 DoesAsked written refused files input e = (text : List ℕ) × Refuses text e
 
 -- what the program does for its words, or memory is refused to the reading of these

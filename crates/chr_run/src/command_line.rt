@@ -30,6 +30,9 @@ use std::thread::Threads;
 /// The budget of a run where the words give none.
 const BUDGET: u64 = 100_000;
 
+/// What `--version` answers: the version, and the kit that proved it.
+const VERSION: &str = "chr 0.1.0\nrattle-kit-13f logic dac8208d650f15bf\n";
+
 /// The exit status where there is no run.
 const REFUSED: u8 = 2;
 
@@ -130,7 +133,8 @@ fn show<W: Write, E: Write>(text: &str, output: &mut W, error: &mut E) -> u8
 /// `--replay FILE`, or `--budget N`, `--workers W`, `--record FILE` and `--totals`. With neither PROGRAM nor QUERY the first line of the input
 /// is the query, and the rest is the program. The text of the run goes out, many lines by one write, of 100,000 transitions where there is no N
 /// and with no worker where there is no W; then its schedule is written to the file of `--record`, and with `--totals` its counts and totals
-/// are said on `error`. Or the text goes out of the replay of the schedule in a file, whose counts are said on `error`, or that of `--help`.
+/// are said on `error`. Or the text goes out of the replay of the schedule in a file, whose counts are said on `error`, or that of `--help`,
+/// or of `--version` where it stands alone.
 /// The answer is the exit status: 0 done, 2 refused, 3 failed, 4 a fault, 5 the budget used up. Where it is 2, a line on `error` says why.
 pub fn command<R: Threads + Wait + Sync, O: Opens + Creates, I: Read, W: Write, E: Write>(
     rt: &R,
@@ -178,6 +182,7 @@ pub fn command<R: Threads + Wait + Sync, O: Opens + Creates, I: Read, W: Write, 
             }
         }
         Ok(Request::Help(text)) => show(text.as_str(), output, error),
+        Ok(Request::Version) => show(VERSION, output, error),
         Ok(Request::Refused(text)) => {
             say(error, &[text.as_str()]);
             REFUSED

@@ -1,6 +1,6 @@
 -- The answer is what the words ask for.
-use Rattle.std.proofs.Common.{◌≡◌, ◌∙◌, ℕ, Bool, true, false, refl, sym, ap, subst, List, [], ◌∷◌, Option, Some, None, codes, true≢false, inl, inr}
-use Rattle.std.specs.Prelude.{◌^◌, ◌⊎◌, is_some, option_map}
+use Rattle.std.proofs.Common.{◌≡◌, ◌∙◌, ℕ, Bool, true, false, sym, ap, subst, List, [], ◌∷◌, Option, Some, None, codes, true≢false, inl, inr}
+use Rattle.std.specs.Prelude.{◌^◌, ◌⊎◌, if◌then◌else◌, is_some, option_map}
 use Rattle.clap.specs.Kinds.{IsAmong, Kinds}
 use Rattle.clap.specs.Faults.{fault_of}
 use Rattle.clap.specs.Matches.{first_value, one_text}
@@ -11,10 +11,10 @@ use Rattle.clap.specs.declared.error.kind.ErrorKind.{ErrorKind}
 use Rattle.clap.specs.declared.error.kind.ErrorKind.TheVariants as kind
 use Rattle.clap.specs.declared.parser.matches.Found.{Found}
 use Rattle.chr_words.specs.declared.words.Request.{Request}
-use Rattle.chr_words.specs.declared.words.Request.TheVariants.{Run, Help, Refused}
+use Rattle.chr_words.specs.declared.words.Request.TheVariants.{Run, Help, Version, Refused}
 use Rattle.chr_words.specs.App.{chr_app}
 use Rattle.chr_words.specs.Answer.{IsAnswer, IsRead, IsRefusal, ReadsBelow}
-use Rattle.chr_words.specs.Words.{Asks, RunWords, asks_of, budget, help, is_below, number_of, refused, run, workers}
+use Rattle.chr_words.specs.Words.{Asks, RunWords, asks_of, asks_read, budget, help, is_below, is_version, number_of, refused, run, version, workers}
 use Rattle.chr_words.proofs.Turns.{Shows, are_wrong, is_wrong}
 use Rattle.chr_words.proofs.Walked.{IsParsedAs, all_parsed}
 
@@ -46,19 +46,26 @@ shown words f run_words (Run program query b w c p t) asks rows shows read = (
     one : (id : Text) → one_text f id ≡ one_of id (matches_of chr_app words)
     one id = one_text-rows f id ∙ ap (one_of id) rows
 shown words f run_words (Help text) asks rows shows read = absurd read
+shown words f run_words Version asks rows shows read = absurd read
 shown words f run_words (Refused text) asks rows shows read = absurd read
 
 abbrev some_kind : Kinds → Bool
 some_kind [] = false
 some_kind (k ∷ ks) = true
 
+-- where `--version` does not stand alone, all words are read
+all_read : (words : List Text) → is_version words ≡ false → asks_of words ≡ asks_read words
+all_read words other = ap (λ is. if is then version else asks_read words) other
+
 -- words that clap takes
-pub answered_run : (words : List Text) (f : Found) (r : Request) → fault_of chr_app words ≡ [] → rows_of f ≡ matches_of chr_app words → IsRead f r → IsAnswer words r
-answered_run words f r fine rows read = go (asks_of words) refl (all_parsed words)
+pub answered_run : (words : List Text) (f : Found) (r : Request) → is_version words ≡ false → fault_of chr_app words ≡ [] → rows_of f ≡ matches_of chr_app words → IsRead f r
+    → IsAnswer words r
+answered_run words f r other fine rows read = go (asks_read words) (all_read words other) (all_parsed words)
   where
     go : (a : Asks) → asks_of words ≡ a → IsParsedAs a words → IsAnswer words r
     go (run run_words) asks parsed = shown words f run_words r asks rows parsed.1 read
     go help asks parsed = absurd (true≢false (ap some_kind (sym parsed ∙ fine)))
+    go version asks parsed = absurd parsed
     go refused asks parsed = absurd (true≢false (sym parsed ∙ ap are_wrong fine))
 
 abbrev is_memory : ErrorKind → Bool
@@ -85,9 +92,11 @@ among_at : (k : ErrorKind) (a b : Kinds) → a ≡ b → IsAmong k a → IsAmong
 among_at k a b e among = subst (λ (kinds : Kinds). IsAmong k kinds) e among
 
 -- words at which clap gives an error
-pub answered_refusal : (words : List Text) (k : ErrorKind) (r : Request) → (k ≡ kind.OutOfMemory) ⊎ IsAmong k (fault_of chr_app words) → IsRefusal k r → IsAnswer words r
-answered_refusal words k (Run program query b w c p t) has says = absurd says
-answered_refusal words k (Help text) has says = go (asks_of words) refl (all_parsed words)
+pub answered_refusal : (words : List Text) (k : ErrorKind) (r : Request) → is_version words ≡ false → (k ≡ kind.OutOfMemory) ⊎ IsAmong k (fault_of chr_app words) → IsRefusal k r
+    → IsAnswer words r
+answered_refusal words k (Run program query b w c p t) other has says = absurd says
+answered_refusal words k Version other has says = absurd says
+answered_refusal words k (Help text) other has says = go (asks_read words) (all_read words other) (all_parsed words)
   where
     among : IsAmong k (fault_of chr_app words)
     among = kind_among (fault_of chr_app words) k has (ap is_memory says)
@@ -95,8 +104,9 @@ answered_refusal words k (Help text) has says = go (asks_of words) refl (all_par
     go : (a : Asks) → asks_of words ≡ a → IsParsedAs a words → asks_of words ≡ help
     go (run run_words) asks parsed = absurd (among_at k _ [] parsed.0 among)
     go help asks parsed = asks
+    go version asks parsed = absurd parsed
     go refused asks parsed = absurd (true≢false (sym (not_wrong (fault_of chr_app words) k among parsed) ∙ ap is_wrong says))
-answered_refusal words k (Refused text) has says = go (asks_of words) refl (all_parsed words) has
+answered_refusal words k (Refused text) other has says = go (asks_read words) (all_read words other) (all_parsed words) has
   where
     only_help : IsAmong k (kind.DisplayHelp ∷ []) → ⊥
     only_help (inl e) = says.0 e
@@ -106,4 +116,5 @@ answered_refusal words k (Refused text) has says = go (asks_of words) refl (all_
     go a asks parsed (inl e) = absurd (says.1 e)
     go (run run_words) asks parsed (inr among) = absurd (among_at k _ [] parsed.0 among)
     go help asks parsed (inr among) = absurd (only_help (among_at k _ (kind.DisplayHelp ∷ []) parsed among))
+    go version asks parsed (inr among) = absurd parsed
     go refused asks parsed (inr among) = asks

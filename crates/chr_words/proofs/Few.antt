@@ -1,10 +1,10 @@
 -- What no words and two words ask for.
 use Rattle.std.proofs.Common.{◌≡◌, ◌∙◌, ◌&&◌, ◌==◌, ℕ, Bool, true, false, cond, refl, sym, ap, List, [], ◌∷◌, Some, None, true≢false}
-use Rattle.std.specs.Prelude.{not, option_and_then, option_map}
+use Rattle.std.specs.Prelude.{option_and_then, option_map}
 use Rattle.std.specs.Str.{bytes_eq}
 use Rattle.clap.specs.Lexer.{long_of_rest, short_of_rest, strip_byte}
 use Rattle.chr_words.specs.declared.words.Request.{Request}
-use Rattle.chr_words.specs.declared.words.Request.TheVariants.{Run, Help, Refused}
+use Rattle.chr_words.specs.declared.words.Request.TheVariants.{Run, Help, Version, Refused}
 use Rattle.chr_words.specs.Answer.{IsAnswer, IsRun}
 use Rattle.chr_words.specs.Words.{Asks, Reading, RunWords, Values, asks_from, asks_of, asks_after, is_plain, no_values, no_words, number_of, operand_step, run, step, parts_step}
 use Rattle.std.proofs.lemmas.Bool.{not-true}
@@ -53,6 +53,7 @@ run_only words run_words (Run program query budget workers recorded replay total
     said : {found : RunWords} → found ≡ run_words → found.values ≡ no_values
     said same = ap (λ (s : RunWords). s.values) same ∙ none
 run_only words run_words (Help text) e none is = absurd (true≢false (ap is_run (sym e ∙ is)))
+run_only words run_words Version e none is = absurd (true≢false (ap is_run (sym e ∙ is)))
 run_only words run_words (Refused text) e none is = absurd (true≢false (ap is_run (sym e ∙ is)))
 
 module _ (words : List (List ℕ)) (r : Request) (h : IsAnswer words r) where

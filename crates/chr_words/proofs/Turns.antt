@@ -9,7 +9,7 @@ use Rattle.clap.specs.Simple.{Shape, built, entered}
 use Rattle.clap.specs.Values.{bool_text}
 use Rattle.clap.specs.declared.error.kind.ErrorKind.{ErrorKind}
 use Rattle.clap.specs.declared.error.kind.ErrorKind.TheVariants as kind
-use Rattle.chr_words.specs.Words.{Asks, RunWords, help, refused, run}
+use Rattle.chr_words.specs.Words.{Asks, RunWords, help, refused, run, version}
 use Rattle.chr_words.specs.App.{chr_app}
 use Rattle.chr_words.proofs.Numbers.{both}
 use Rattle.chr_words.proofs.Rows.{AreFit, budget_built, help_built, program_built, query_built, record_built, replay_built, totals_built, workers_built}
@@ -68,11 +68,13 @@ pub record Shows (run_words : RunWords) (rows : List Row) : Type 0 where
 abbrev pub Agrees : Asks → Walk → List Text → Type 0
 Agrees (run run_words) w words = (fault_at w words ≡ []) × Shows run_words (finished rules (end_of w words).held)
 Agrees help w words = fault_at w words ≡ kind.DisplayHelp ∷ []
+Agrees version w words = ⊥
 Agrees refused w words = are_wrong (fault_at w words) ≡ true
 
 agrees_along : (a : Asks) (w v : Walk) (words more : List Text) → fault_at w words ≡ fault_at v more → end_of w words ≡ end_of v more → Agrees a v more → Agrees a w words
 agrees_along (run run_words) w v words more e f h = (e ∙ h.0, subst (λ (x : Walk). Shows run_words (finished rules x.held)) (sym f) h.1)
 agrees_along help w v words more e f h = e ∙ h
+agrees_along version w v words more e f h = h
 agrees_along refused w v words more e f h = ap are_wrong e ∙ h
 
 -- a word that fails not, and takes the walk further

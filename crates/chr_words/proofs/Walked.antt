@@ -9,7 +9,7 @@ use Rattle.clap.specs.Faults.{fault_of, is_simple_and_free, settle_fault, step_f
 use Rattle.clap.specs.Walk.{Row, Text, Walk, after_step, has_row, idle, settled_rows, used, value, walked, with_default}
 use Rattle.clap.specs.declared.error.kind.ErrorKind.TheVariants as kind
 use Rattle.chr_words.specs.App.{chr_app}
-use Rattle.chr_words.specs.Words.{Asks, Flag, Reading, RunWords, Taker, Values, asks_from, asks_of, asks_after, budget, fits, flag_named, goes, help, help_flag, long_step, name_of, named, no_values, operand_step, parts_step, recorded, refused, replay, run, short_step, stops, taken_step, totals_flag, value_of, with_totals, with_value, workers}
+use Rattle.chr_words.specs.Words.{Asks, Flag, Reading, RunWords, Taker, Values, asks_from, asks_read, asks_after, budget, fits, flag_named, goes, help, help_flag, long_step, name_of, named, no_values, operand_step, parts_step, recorded, refused, replay, run, short_step, stops, taken_step, totals_flag, value_of, version, with_totals, with_value, workers}
 use Rattle.chr_words.proofs.Rows.{HasFirst, Holds, built_of, default_other, default_totals, no_option_is_totals, program_built, program_used, query_built, query_used, said_totals, totals_built, totals_used, value_used}
 use Rattle.chr_words.proofs.Numbers.{accepts_is}
 use Rattle.chr_words.proofs.Turns.{Agrees, Shows, are_wrong, ends, ends_wrong, fails_at, finished_is, goes_on, rules, top}
@@ -375,15 +375,17 @@ nothing_holds = record {
 abbrev pub IsParsedAs : Asks → List Text → Type 0
 IsParsedAs (run run_words) words = (fault_of chr_app words ≡ []) × Shows run_words (matches_of chr_app words)
 IsParsedAs help words = fault_of chr_app words ≡ kind.DisplayHelp ∷ []
+IsParsedAs version words = ⊥
 IsParsedAs refused words = are_wrong (fault_of chr_app words) ≡ true
 
 parsed_as : (a : Asks) (words : List Text) → Agrees a (at false idle 1 [] None) words → IsParsedAs a words
 parsed_as (run run_words) words h = h
 parsed_as help words h = h
+parsed_as version words h = h
 parsed_as refused words h = h
 
-pub all_parsed : (words : List Text) → IsParsedAs (asks_of words) words
-all_parsed words = parsed_as (asks_of words) words ((all_words words).0 false None None no_values [] None refl nothing_holds)
+pub all_parsed : (words : List Text) → IsParsedAs (asks_read words) words
+all_parsed words = parsed_as (asks_read words) words ((all_words words).0 false None None no_values [] None refl nothing_holds)
 
 pub chr_is_simple : is_simple chr_app ≡ true
 chr_is_simple = refl

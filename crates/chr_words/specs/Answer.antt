@@ -5,9 +5,9 @@ use Rattle.clap.specs.Values.{bool_text}
 use Rattle.clap.specs.declared.error.kind.ErrorKind.{ErrorKind}
 use Rattle.clap.specs.declared.error.kind.ErrorKind.TheVariants as kind
 use Rattle.clap.specs.declared.parser.matches.Found.{Found}
-use Rattle.chr_words.specs.Words.{RunWords, asks_of, help, is_below, number_of, refused, run}
+use Rattle.chr_words.specs.Words.{RunWords, asks_of, help, is_below, number_of, refused, run, version}
 use Rattle.chr_words.specs.declared.words.Request.{Request}
-use Rattle.chr_words.specs.declared.words.Request.TheVariants.{Run, Help, Refused}
+use Rattle.chr_words.specs.declared.words.Request.TheVariants.{Run, Help, Version, Refused}
 
 -- the answer is what the words ask for
 abbrev pub IsAnswer : List (List ℕ) → Request → Type 0
@@ -16,6 +16,7 @@ IsAnswer words (Run program query budget workers recorded replay totals) = (run_
     × (budget ≡ option_map number_of run_words.values.budget) × (workers ≡ option_map number_of run_words.values.workers)
     × (option_map (λ t. t.now) recorded ≡ run_words.values.recorded) × (option_map (λ t. t.now) replay ≡ run_words.values.replay) × (totals ≡ run_words.values.totals)
 IsAnswer words (Help text) = asks_of words ≡ help
+IsAnswer words Version = asks_of words ≡ version
 IsAnswer words (Refused text) = asks_of words ≡ refused
 
 -- the number of an option, read from its text where that is a number below this bound
@@ -39,6 +40,7 @@ IsRead found _ = ⊥
 abbrev pub IsRefusal : ErrorKind → Request → Type 0
 IsRefusal k (Run program query budget workers recorded replay totals) = ⊥
 IsRefusal k (Help text) = k ≡ kind.DisplayHelp
+IsRefusal k Version = ⊥
 IsRefusal k (Refused text) = (k ≢ kind.DisplayHelp) × (k ≢ kind.OutOfMemory)
 
 -- the answer is the run of this program and this query, and no option is said

@@ -70,6 +70,7 @@ no_words = record { program = None; query = None; values = no_values }
 pub data Asks : Type 0 where
   run : RunWords → Asks
   help : Asks
+  version : Asks
   refused : Asks
 
 -- where the reading stands between two words: `awaits` where an option still wants its value, `plain` after the word `--`
@@ -172,9 +173,19 @@ unfoldable pub asks_from : Reading → List (List ℕ) → Asks
 asks_from r [] = if is_some r.awaits then refused else run r.run_words
 asks_from r (word ∷ words) = asks_after (step r word) (λ next. asks_from next words)
 
+-- what the words ask for, read from the first one on
+abbrev pub asks_read : List (List ℕ) → Asks
+asks_read words = asks_from (record { run_words = no_words; awaits = None; plain = false }) words
+
+-- the word `--version` stands alone
+abbrev pub is_version : List (List ℕ) → Bool
+is_version [] = false
+is_version (word ∷ []) = bytes_eq word (codes "--version")
+is_version (word ∷ next ∷ words) = false
+
 -- what the words ask for
 abbrev pub asks_of : List (List ℕ) → Asks
-asks_of words = asks_from (record { run_words = no_words; awaits = None; plain = false }) words
+asks_of words = if is_version words then version else asks_read words
 
 -- the word does not begin with a hyphen
 abbrev pub is_plain : List ℕ → Bool

@@ -5,4 +5,4 @@ pub mod files;
 pub mod words;
 
 pub use files::{Creates, Disk, Opens, read_file, write_file};
-pub use words::{Request, asked};
+pub use words::{Request, asked, asks_version};

@@ -4,7 +4,7 @@ ghost use Rattle.std.specs.String.{string_bytes};
 ghost use Rattle.clap.specs.Words.{app_of, found_of, kind_of, rule_of, with_rule};
 ghost use Rattle.chr_words.specs.App.{bare_app, chr_app, text_rules, number_rules, file_rules, program_rule, query_rule, budget_rule, workers_rule, record_rule, replay_rule, totals_rule};
 ghost use Rattle.chr_words.specs.Answer.{IsAnswer, IsRead, IsRefusal, IsRun};
-ghost use Rattle.chr_words.specs.Words.{is_plain};
+ghost use Rattle.chr_words.specs.Words.{is_plain, is_version};
 
 use clap::builder::ValueParser;
 use clap::error::ErrorKind;
@@ -33,6 +33,8 @@ pub enum Request<'a> {
     },
     /// This text of help.
     Help(String),
+    /// The version.
+    Version,
     /// Nothing that there is, for the reason in this text.
     Refused(String),
 }
@@ -168,13 +170,26 @@ fn refusal_of<'a>(alloc: Global, error: &Error) -> Result<Request<'a>, AllocErro
     }
 }
 
-/// What the words after the program's name ask for, as `clap` reads them.
+/// Whether the words ask for the version: `--version` stands alone.
+pub fn asks_version(words: &[String]) -> bool
+    ensures { result ≡ is_version (map string_bytes words.now) }
+{
+    match words {
+        [word] => word.as_str() == "--version",
+        _ => false,
+    }
+}
+
+/// What the words after the program's name ask for: the version where `--version` stands alone, and else what `clap` reads in them.
 pub fn asked<'a>(alloc: Global, words: &'a [String]) -> Result<Request<'a>, AllocError>
     ensures asks { IfOk result (IsAnswer (map string_bytes words.entry.now)) }
     ensures no_words { words.entry.now ≡ [] → IfOk result (IsRun None None) }
     ensures two_words { (p q : List ℕ) → map string_bytes words.entry.now ≡ p ∷ q ∷ [] → is_plain p
         ≡ true → is_plain q ≡ true → IfOk result (IsRun (Some p) (Some q)) }
 {
+    if asks_version(words) {
+        return Ok(Request::Version);
+    }
     match chr_command(alloc)?.try_get_matches_from(words) {
         Ok(matches) => Ok(run_of(&matches)),
         Err(error) => refusal_of(alloc, &error),

@@ -9,13 +9,16 @@ use crate::showing::Titles;
 use chr_machine::Status;
 use chr_semantics::limits::MAX_TRANSITIONS;
 use chr_words::files::write_all;
-use chr_words::{Opens, read_file};
+use chr_words::{Opens, asks_version, read_file};
 use look_words::{Question, Request, Run, asked};
 use std::alloc::{AllocError, Global};
 use std::io::Write;
 
 /// The budget of a run where the words give none.
 const BUDGET: u64 = 100_000;
+
+/// What `--version` answers: the version, and the kit that proved it.
+const VERSION: &str = "look 0.1.0\nrattle-kit-13f logic dac8208d650f15bf\n";
 
 /// The exit status where there is no answer.
 const REFUSED: u8 = 2;
@@ -55,6 +58,25 @@ fn tell<E: Write>(
     Ok(REFUSED)
 }
 
+/// Answers a question about the run that words name, of n transitions or fewer of the program with this text.
+fn answer_text<W: Write>(
+    alloc: Global,
+    question: &Question<'_>,
+    run: Run<'_>,
+    program: &[u8],
+    n: u64,
+    output: &mut W,
+) -> Result<u8, Refusal> {
+    let texts = read_texts(alloc, program, run.query.as_bytes())?;
+    let titles = Titles {
+        file: run.program,
+        program,
+        query: run.query,
+    };
+    let status = answer(alloc, question, &texts, titles, n, output)?;
+    Ok(status_code(status))
+}
+
 /// Answers a question about the run that words name, or says what is wrong with its texts.
 fn look<O: Opens, W: Write, E: Write>(
     alloc: Global,
@@ -64,29 +86,18 @@ fn look<O: Opens, W: Write, E: Write>(
     output: &mut W,
     error: &mut E,
 ) -> Result<u8, Refusal> {
-    let budget = run.budget.unwrap_or(BUDGET);
-    if budget > MAX_TRANSITIONS {
+    let n = run.budget.unwrap_or(BUDGET);
+    if n > MAX_TRANSITIONS {
         return Err(Refusal::BudgetTooLarge);
     }
     let program = read_file(alloc, files, run.program).ok_or(Refusal::Unreadable)?;
-    match read_texts(alloc, program.as_slice(), run.query.as_bytes()) {
-        Ok(texts) => {
-            let titles = Titles {
-                file: run.program,
-                program: program.as_slice(),
-                query: run.query,
-            };
-            let status = answer(alloc, question, &texts, titles, budget, output)?;
-            Ok(status_code(status))
-        }
-        Err(Refusal::Mistaken) => {
-            let source = Source {
-                name: run.program,
-                text: program.as_slice(),
-            };
-            tell(alloc, source, run.query, error)
-        }
-        Err(refusal) => Err(refusal),
+    let source = Source {
+        name: run.program,
+        text: program.as_slice(),
+    };
+    match answer_text(alloc, question, run, source.text, n, output) {
+        Err(Refusal::Mistaken) => tell(alloc, source, run.query, error),
+        answered => answered,
     }
 }
 
@@ -109,11 +120,42 @@ fn check<O: Opens, W: Write>(
     Ok(if is_wrong { REFUSED } else { 0 })
 }
 
+/// Shows a text.
+fn show<W: Write>(text: &str, output: &mut W) -> Result<u8, Refusal> {
+    match write_all(output, text.as_bytes()) {
+        Some(()) => Ok(0),
+        None => Err(Refusal::Write),
+    }
+}
+
+/// Does what the words ask for.
+fn does<O: Opens, W: Write, E: Write>(
+    alloc: Global,
+    words: &[String],
+    files: &O,
+    output: &mut W,
+    error: &mut E,
+) -> Result<u8, Refusal> {
+    if asks_version(words) {
+        return show(VERSION, output);
+    }
+    match asked(alloc, words) {
+        Ok(Request::Look(question, run)) => look(alloc, &question, run, files, output, error),
+        Ok(Request::Check(program, query)) => check(alloc, program, query, files, output),
+        Ok(Request::Help(text)) => show(text.as_str(), output),
+        Ok(Request::Refused(text)) => {
+            let _ = write_all(error, text.as_bytes());
+            Ok(REFUSED)
+        }
+        Err(_) => Err(Refusal::Memory),
+    }
+}
+
 /// What the program `look` does with the words after its name: `answer`, `firings`, `life`, `profile` or `why`, then PROGRAM, the path of a
 /// file, and QUERY, the text of a query, for `life` the identity of a constraint, for `why` a rule and the identities of its list, and perhaps
-/// `--budget N`; or `check`, then PROGRAM and perhaps QUERY. The answer goes out; it is about a run of 100,000 transitions where there is no
-/// N. The answer of this call is the exit status: 0 done, 2 refused, 3 failed, 4 a fault, 5 the budget used up. Where a text is refused, what
-/// is wrong with it goes out of `check`, and else to `error`; where else it is 2, a line on `error` says why.
+/// `--budget N`; or `check`, then PROGRAM and perhaps QUERY; or `--version` alone. The answer goes out; it is about a run of 100,000
+/// transitions where there is no N. The answer of this call is the exit status: 0 done, 2 refused, 3 failed, 4 a fault, 5 the budget used up.
+/// Where a text is refused, what is wrong with it goes out of `check`, and else to `error`; where else it is 2, a line on `error` says why.
 pub fn command<O: Opens, W: Write, E: Write>(
     alloc: Global,
     words: &[String],
@@ -121,20 +163,7 @@ pub fn command<O: Opens, W: Write, E: Write>(
     output: &mut W,
     error: &mut E,
 ) -> u8 {
-    let answer = match asked(alloc, words) {
-        Ok(Request::Look(question, run)) => look(alloc, &question, run, files, output, error),
-        Ok(Request::Check(program, query)) => check(alloc, program, query, files, output),
-        Ok(Request::Help(text)) => match write_all(output, text.as_bytes()) {
-            Some(()) => Ok(0),
-            None => Err(Refusal::Write),
-        },
-        Ok(Request::Refused(text)) => {
-            let _ = write_all(error, text.as_bytes());
-            Ok(REFUSED)
-        }
-        Err(_) => Err(Refusal::Memory),
-    };
-    match answer {
+    match does(alloc, words, files, output, error) {
         Ok(status) => status,
         Err(refusal) => refuse(alloc, error, refusal),
     }
