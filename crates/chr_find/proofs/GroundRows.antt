@@ -10,7 +10,8 @@ use Rattle.chr_semantics.specs.Search.{atom_of, ids_of}
 use Rattle.chr_semantics.specs.State.{resolved_atom}
 use Rattle.chr_semantics.specs.Subst.{Subst}
 use Rattle.chr_semantics.specs.Tree.{is_ground_trees}
-use Rattle.chr_find.specs.IndexKeys.{index_cmp}
+use Rattle.chr_find.specs.IdRows.{id_cmp}
+use Rattle.chr_find.specs.IndexKeys.{rows_in}
 use Rattle.chr_find.specs.PlanView.{lookups_of}
 use Rattle.chr_find.specs.Rebinding.{Replaces, is_open, open_ids}
 use Rattle.chr_find.specs.Shown.{AllOver, AreGround, Rises, atom_in, walk}
@@ -81,7 +82,7 @@ pub none_replaced : {A : Type 0} (f : ℕ → Option Atom) (rs : List (Replaced 
 none_replaced f rs e = subst (λ (l : List (Replaced _)). Replaces f l) (sym e) (record { rises = tt; there = tt })
 
 -- a table whose list of rows with variables is empty
-module _ {A : Type 0} (t : Table A) (whole : IsWhole t) (up : Ascends index_cmp t.index.rows) where
+module _ {A : Type 0} (t : Table A) (whole : IsWhole t) (up : Ascends id_cmp (rows_in t.index.rows Open)) where
   pub none_open : walk Open t.index.rows ≡ [] → AreGround (atom_at t)
   none_open empty i a e =
       by_test (is_ground_trees a.args) (ap (λ (o : Option Atom). atom_in Open (lookups_of t.index.plan) o) (sym e) ∙ (sym (open_looked t whole up i) ∙ ap (λ (rows : List semantics.Row). atom_of rows i) empty))

@@ -9,7 +9,7 @@ pub mod FoundLists
 pub mod Thresholds
 pub mod GroundRows
 pub mod HeadFits
-pub mod Held
+pub mod IndexRows
 pub mod JoinEnds
 pub mod JoinSteps
 pub mod Kept

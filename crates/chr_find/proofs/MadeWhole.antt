@@ -12,7 +12,8 @@ use Rattle.chr_semantics.specs.Subst.{Subst, value_at}
 use Rattle.chr_semantics.specs.Tree.{is_ground_trees}
 use Rattle.chr_store.specs.Rows.{row_atom}
 use Rattle.chr_store.specs.declared.id.Id.{Id}
-use Rattle.chr_find.specs.IndexKeys.{index_cmp}
+use Rattle.chr_find.specs.IdRows.{id_cmp}
+use Rattle.chr_find.specs.IndexKeys.{rows_in}
 use Rattle.chr_find.specs.PlanView.{lookups_of}
 use Rattle.chr_find.specs.Rebinding.{IsMade, is_open, new_rows, open_ids, over, standing_rows}
 use Rattle.chr_find.specs.Shown.{AllOver, AllUnder, Rises, atom_in, bucket_rows, walk}
@@ -134,37 +135,39 @@ pub open_all : (s : Subst) (ps : ℕ → List Lookup) (rows : List semantics.Row
 open_all s ps rows = ap ids_of (filter_twice (is_open s) (λ (c : semantics.Row). not (is_ground_trees c.1.args)) rows (closed_stays s))
 
 -- the rows of a table, those with variables and all
-module _ {A : Type 0} (t : Table A) (whole : IsWhole t) (up : Ascends index_cmp t.index.rows) where
+module _ {A : Type 0} (t : Table A) (whole : IsWhole t) where
   beside : (i : ℕ) → atom_at t i ≡ indexed_atom t.index i
   beside i = newest_none t.newest (indexed_atom t.index) i (for_all t whole.all)
 
-  pub open_rises : Rises (walk Open t.index.rows)
-  open_rises = rises_walk Open t.index.rows up
+  module _ (up : Ascends id_cmp (rows_in t.index.rows All)) where
+    pub all_rises : Rises (walk All t.index.rows)
+    all_rises = rises_walk All t.index.rows up
 
-  pub open_looked : (i : ℕ) → atom_of (walk Open t.index.rows) i ≡ atom_in Open (lookups_of t.index.plan) (atom_at t i)
-  open_looked i =
-      walk_looked Open t.index.rows i up
-      ∙ (ap (option_map row_atom) (sym (whole.settled.index (record { bucket = Open; id = record { 0 = i } })))
-      ∙ (t.shown (record { bucket = Open; id = record { 0 = i } }) ∙ ap (atom_in Open (lookups_of t.index.plan)) (sym (beside i))))
+    pub all_looked : (i : ℕ) → atom_of (walk All t.index.rows) i ≡ atom_at t i
+    all_looked i = walk_looked All t.index.rows i up ∙ (ap (option_map row_atom) (sym (whole.settled.index (record { bucket = All; id = record { 0 = i } }))) ∙ sym (beside i))
 
-  pub all_rises : Rises (walk All t.index.rows)
-  all_rises = rises_walk All t.index.rows up
+  module _ (up : Ascends id_cmp (rows_in t.index.rows Open)) where
+    pub open_rises : Rises (walk Open t.index.rows)
+    open_rises = rises_walk Open t.index.rows up
 
-  pub all_looked : (i : ℕ) → atom_of (walk All t.index.rows) i ≡ atom_at t i
-  all_looked i = walk_looked All t.index.rows i up ∙ (ap (option_map row_atom) (sym (whole.settled.index (record { bucket = All; id = record { 0 = i } }))) ∙ sym (beside i))
+    pub open_looked : (i : ℕ) → atom_of (walk Open t.index.rows) i ≡ atom_in Open (lookups_of t.index.plan) (atom_at t i)
+    open_looked i =
+        walk_looked Open t.index.rows i up
+        ∙ (ap (option_map row_atom) (sym (whole.settled.index (record { bucket = Open; id = record { 0 = i } })))
+        ∙ (t.shown (record { bucket = Open; id = record { 0 = i } }) ∙ ap (atom_in Open (lookups_of t.index.plan)) (sym (beside i))))
 
-  pub open_rows : (rows : List semantics.Row) → HasRows t rows → walk Open t.index.rows ≡ bucket_rows Open (lookups_of t.index.plan) rows
-  open_rows rows has = let shown = has_shown t rows whole.settled.index has.rises (λ i. has.same i ∙ beside i) in walk_shown (lookups_of t.index.plan) Open t.index.rows rows up shown.rises shown.shows
+    pub open_rows : (rows : List semantics.Row) → HasRows t rows → walk Open t.index.rows ≡ bucket_rows Open (lookups_of t.index.plan) rows
+    open_rows rows has = let shown = has_shown t rows whole.settled.index has.rises (λ i. has.same i ∙ beside i) in walk_shown (lookups_of t.index.plan) Open t.index.rows rows up shown.rises shown.shows
 
-  -- a row amid them
-  module _ (l : List (Constraint A)) (k : ℕ) (c : Constraint A) (all : standing_rows l ≡ walk Open t.index.rows) (lt : k < length l) (at : c ≡ get_or l k c) where
-    split : Rises (standing_rows (take k l) ++ (c.id.0, row_atom c.row) ∷ standing_rows (drop (suc k) l))
-    split = subst Rises (sym all ∙ standing_split l k c lt at) open_rises
+    -- a row amid them
+    module _ (l : List (Constraint A)) (k : ℕ) (c : Constraint A) (all : standing_rows l ≡ walk Open t.index.rows) (lt : k < length l) (at : c ≡ get_or l k c) where
+      split : Rises (standing_rows (take k l) ++ (c.id.0, row_atom c.row) ∷ standing_rows (drop (suc k) l))
+      split = subst Rises (sym all ∙ standing_split l k c lt at) open_rises
 
-    pub before_all : AllUnder c.id.0 (standing_rows (take k l))
-    before_all = under_middle (standing_rows (take k l)) (c.id.0, row_atom c.row) (standing_rows (drop (suc k) l)) split
+      pub before_all : AllUnder c.id.0 (standing_rows (take k l))
+      before_all = under_middle (standing_rows (take k l)) (c.id.0, row_atom c.row) (standing_rows (drop (suc k) l)) split
 
-    pub stands_open : (atom_at t c.id.0 ≡ Some (row_atom c.row)) × (is_ground_trees (row_atom c.row).args ≡ false)
-    stands_open =
-        in_open (lookups_of t.index.plan) (row_atom c.row) (atom_at t c.id.0)
-        (sym (atom_middle (standing_rows (take k l)) (c.id.0, row_atom c.row) (standing_rows (drop (suc k) l)) split) ∙ (ap (λ (rows : List semantics.Row). atom_of rows c.id.0) (sym (standing_split l k c lt at) ∙ all) ∙ open_looked c.id.0))
+      pub stands_open : (atom_at t c.id.0 ≡ Some (row_atom c.row)) × (is_ground_trees (row_atom c.row).args ≡ false)
+      stands_open =
+          in_open (lookups_of t.index.plan) (row_atom c.row) (atom_at t c.id.0)
+          (sym (atom_middle (standing_rows (take k l)) (c.id.0, row_atom c.row) (standing_rows (drop (suc k) l)) split) ∙ (ap (λ (rows : List semantics.Row). atom_of rows c.id.0) (sym (standing_split l k c lt at) ∙ all) ∙ open_looked c.id.0))

@@ -2,7 +2,6 @@
 use Rattle.std.proofs.Common.{◌≡◌, ◌∙◌, ℕ, zero, suc, ◌+◌, ◌-◌, ◌<◌, Bool, true, false, cond, ◌||◌, ◌==◌, List, [], ◌∷◌, ◌++◌, Some, drop, ap, refl, sym, subst, arith}
 use mathlib.Core.Path.{fun_ext}
 use Rattle.std.specs.Prelude.{◌&&◌, filter, slice_get}
-use Rattle.std.specs.declared.cmp.Ordering.TheVariants.{Equal}
 use Rattle.std.proofs.lemmas.List.Folds.{list_any-append}
 use Rattle.chr_map.specs.Order.{Ascends}
 use Rattle.chr_semantics.proofs.Tests.{eqb_sym}
@@ -10,15 +9,13 @@ use Rattle.chr_semantics.specs.Cursor.{is_new}
 use Rattle.chr_semantics.specs.Match as semantics
 use Rattle.chr_semantics.specs.Program.{Head}
 use Rattle.chr_store.specs.Rows.{row_atom}
+use Rattle.chr_store.specs.declared.id.Id.{Id}
 use Rattle.chr_store.specs.declared.row.Row.{Row}
 use Rattle.chr_find.specs.Joins.{AreOld, IsQuiet, IsQuietAt, QuietFrom}
-use Rattle.chr_find.specs.IndexKeys.{index_cmp}
+use Rattle.chr_find.specs.IdRows.{id_cmp, id_rows}
 use Rattle.chr_find.specs.PlanView.{is_lookup}
-use Rattle.chr_find.specs.Shown.{AllUnder, any_new, bucket_rows, walk}
-use Rattle.chr_find.specs.contracts.bucket.BucketOrd.TheImpl.{ghosts}
-use Rattle.chr_find.specs.declared.bucket.Bucket.{Bucket}
+use Rattle.chr_find.specs.Shown.{AllUnder, any_new, bucket_rows}
 use Rattle.chr_find.specs.declared.bucket.Bucket.TheVariants.{Symbol}
-use Rattle.chr_find.specs.declared.bucket.IndexKey.{IndexKey}
 use Rattle.chr_find.specs.declared.plan.Lookup.{Lookup}
 use Rattle.chr_find.specs.declared.plan.Lookup.TheVariants.{Symbol as Alone}
 use Rattle.chr_term.specs.declared.term.Sym.{Sym}
@@ -26,7 +23,7 @@ use Rattle.std.specs.List.{list_any}
 use Rattle.std.proofs.lemmas.Bool.Decides.{Decides-eqb}
 use Rattle.chr_find.proofs.Thresholds.{old_id}
 use Rattle.chr_find.proofs.SearchParts.{drop_at}
-use Rattle.chr_find.proofs.WalkSpans.{span_equal, span_passed, span_under}
+use Rattle.chr_find.proofs.WalkSpans.{span_parts, span_passed, span_under}
 
 none_new : (from : ℕ) (rows : List semantics.Row) → AllUnder from rows → any_new from rows ≡ false
 none_new from [] under = refl
@@ -38,18 +35,18 @@ or_true_at false c = refl
 
 module _ {A : Type 0} where
   -- the middle is new
-  pub span_new : (l : Bucket) (span xs : List (IndexKey × Row A)) (m : IndexKey × Row A) (ys : List (IndexKey × Row A)) (from : ℕ) → span ≡ xs ++ m ∷ ys → ghosts.cmp l m.0.bucket ≡ Equal → is_new from m.0.id.0 ≡ true → true ≡ any_new from (walk l span)
-  span_new l span xs m ys from is equal new =
-      sym (ap (any_new from) (span_equal l span xs m ys is equal)
-      ∙ (list_any-append (λ (c : semantics.Row). is_new from c.0) (walk l xs) ((m.0.id.0, row_atom m.1) ∷ [] ++ walk l ys)
-      ∙ (ap (λ (b : Bool). any_new from (walk l xs) || (b || any_new from (walk l ys))) new ∙ or_true_at (any_new from (walk l xs)) (any_new from (walk l ys)))))
+  pub span_new : (span xs : List (Id × Row A)) (m : Id × Row A) (ys : List (Id × Row A)) (from : ℕ) → span ≡ xs ++ m ∷ ys → is_new from m.0.0 ≡ true → true ≡ any_new from (id_rows span)
+  span_new span xs m ys from is new =
+      sym (ap (any_new from) (span_parts span xs m ys is)
+      ∙ (list_any-append (λ (c : semantics.Row). is_new from c.0) (id_rows xs) ((m.0.0, row_atom m.1) ∷ [] ++ id_rows ys)
+      ∙ (ap (λ (b : Bool). any_new from (id_rows xs) || (b || any_new from (id_rows ys))) new ∙ or_true_at (any_new from (id_rows xs)) (any_new from (id_rows ys)))))
 
   -- it is not, and so are those before it
-  pub span_old : (l : Bucket) (span xs : List (IndexKey × Row A)) (m : IndexKey × Row A) (ys : List (IndexKey × Row A)) (from : ℕ) → span ≡ xs ++ m ∷ ys → Ascends index_cmp span → ghosts.cmp l m.0.bucket ≡ Equal → m.0.id.0 < from → any_new from (walk l ys) ≡ any_new from (walk l span)
-  span_old l span xs m ys from is up equal lt =
-      sym (ap (any_new from) (span_passed l span xs m ys is equal)
-      ∙ (list_any-append (λ (c : semantics.Row). is_new from c.0) (walk l xs ++ (m.0.id.0, row_atom m.1) ∷ []) (walk l ys)
-      ∙ ap (λ (b : Bool). b || any_new from (walk l ys)) (none_new from (walk l xs ++ (m.0.id.0, row_atom m.1) ∷ []) (span_under l span xs m ys from is up equal lt))))
+  pub span_old : (span xs : List (Id × Row A)) (m : Id × Row A) (ys : List (Id × Row A)) (from : ℕ) → span ≡ xs ++ m ∷ ys → Ascends id_cmp span → m.0.0 < from → any_new from (id_rows ys) ≡ any_new from (id_rows span)
+  span_old span xs m ys from is up lt =
+      sym (ap (any_new from) (span_passed span xs m ys is)
+      ∙ (list_any-append (λ (c : semantics.Row). is_new from c.0) (id_rows xs ++ (m.0.0, row_atom m.1) ∷ []) (id_rows ys)
+      ∙ ap (λ (b : Bool). b || any_new from (id_rows ys)) (none_new from (id_rows xs ++ (m.0.0, row_atom m.1) ∷ []) (span_under span xs m ys from is up lt))))
 
 -- no row of the symbol is new
 or_false : (b c : Bool) → (b || c) ≡ false → (b ≡ false) × (c ≡ false)

@@ -52,11 +52,11 @@ join_longer rows h r rule place own level longer_level longer next from quiet mo
 pub longer_length : (partners longer : List ℕ) (c : ℕ) → longer ≡ partners ++ c ∷ [] → length longer ≡ length partners + 1
 longer_length partners longer c is = ap length is ∙ length-append partners (c ∷ [])
 
--- The measure falls where all entries are visited for a level, and where those after a middle are.
-pub level_less : (h l r n : ℕ) → l < h → n ≤ r → (h - l - 1) * (2 * r + 5) + 2 * n + 3 < (h - l) * (2 * r + 5)
+-- The measure falls where all rows of a bucket are visited for a level, and where those after a middle are.
+pub level_less : (h l r n : ℕ) → l < h → n ≤ r → (h - l - 1) * (3 * r + 7) + 3 * n + 6 < (h - l) * (3 * r + 7)
 level_less h l r n lt e =
     let one_more : h - l ≡ (h - l - 1) + 1 = omega (arith, lt) in
-    let whole : (h - l) * (2 * r + 5) ≡ (h - l - 1) * (2 * r + 5) + 1 * (2 * r + 5) = ap (λ (x : ℕ). x * (2 * r + 5)) one_more ∙ add-mul (h - l - 1) 1 (2 * r + 5) in
+    let whole : (h - l) * (3 * r + 7) ≡ (h - l - 1) * (3 * r + 7) + 1 * (3 * r + 7) = ap (λ (x : ℕ). x * (3 * r + 7)) one_more ∙ add-mul (h - l - 1) 1 (3 * r + 7) in
     omega (arith, whole, e)
 
 pub before_shorter : {X : Type 0} (part xs : List X) (m : X) (ys : List X) → part ≡ xs ++ m ∷ ys → length xs < length part

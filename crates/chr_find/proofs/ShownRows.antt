@@ -5,12 +5,11 @@ use Rattle.std.proofs.lemmas.Bool.Decides.{Decides-eqb}
 use Rattle.chr_semantics.specs.Program.{Atom}
 use Rattle.chr_store.specs.Rows.{row_atom}
 use Rattle.chr_store.specs.declared.row.Row.{Row}
-use Rattle.chr_find.specs.IndexKeys.{in_bucket, row_if}
+use Rattle.chr_find.specs.IndexKeys.{IndexKey, in_bucket, row_if}
 use Rattle.chr_find.specs.PlanView.{lookups_of}
 use Rattle.chr_find.specs.Shown.{Shows, atom_in}
 use Rattle.chr_find.specs.IndexChangeView.{changed_at}
 use Rattle.chr_find.specs.declared.bucket.Bucket.{Bucket}
-use Rattle.chr_find.specs.declared.bucket.IndexKey.{IndexKey}
 use Rattle.chr_find.specs.declared.index.Change.{Change}
 use Rattle.chr_find.specs.declared.plan.Plan.{Plan}
 use Rattle.chr_find.specs.declared.plan.Lookup.{Lookup}

@@ -6,14 +6,14 @@ use Rattle.std.specs.Prelude.{Option, Some, None, option_map}
 use Rattle.chr_semantics.specs.Program.{Atom}
 use Rattle.chr_store.specs.Rows.{row_atom}
 use Rattle.chr_store.specs.declared.row.Row.{Row}
+use Rattle.chr_find.specs.declared.index.Index.{Index}
 use Rattle.chr_find.specs.IndexChangeView.{changed_at}
 use Rattle.chr_find.specs.PendingIndexView.{AreShown, IsSettled, indexed_atom, row_at}
-use Rattle.chr_find.specs.IndexKeys.{held}
+use Rattle.chr_find.specs.IndexKeys.{IndexKey, held}
 use Rattle.chr_find.specs.PlanView.{lookups_of}
 use Rattle.chr_find.specs.Shown.{Shows, atom_in}
 use Rattle.chr_find.specs.TableView.{atoms_with}
 use Rattle.chr_find.specs.declared.bucket.Bucket.TheVariants.{All}
-use Rattle.chr_find.specs.declared.bucket.IndexKey.{IndexKey}
 use Rattle.chr_find.specs.declared.index.Change.{Change}
 use Rattle.chr_find.specs.declared.pending_index.PendingIndex.{PendingIndex}
 use Rattle.chr_find.specs.declared.plan.Plan.{Plan}
@@ -81,8 +81,8 @@ module _ {A : Type 0} (n m : PendingIndex A) where
     shown_replaced = shown_is n m.plan (changed_at m.plan (put_at id new) (changed_at m.plan (out_at id old) (row_at m))) _ rows twice
 
   -- the same entries, where all changes are made
-  pub rows_shared : (es : List (IndexKey × Row A)) → ((q : IndexKey) → row_at n q ≡ held es q) → es ≡ m.rows → IsSettled m → (q : IndexKey) → row_at n q ≡ row_at m q
-  rows_shared es rows same settled q = rows q ∙ (ap (λ (fs : List (IndexKey × Row A)). held fs q) same ∙ sym (settled q))
+  pub rows_shared : (es : Index A) → ((q : IndexKey) → row_at n q ≡ held es q) → es ≡ m.rows → IsSettled m → (q : IndexKey) → row_at n q ≡ row_at m q
+  rows_shared es rows same settled q = rows q ∙ (ap (λ (fs : Index A). held fs q) same ∙ sym (settled q))
 
 module _ {A : Type 0} (n : PendingIndex A) (rows : (q : IndexKey) → row_at n q ≡ None) where
   -- no constraint

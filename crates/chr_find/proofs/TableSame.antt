@@ -4,6 +4,7 @@ use Rattle.chr_semantics.specs.Program.{Atom}
 use Rattle.chr_store.specs.Rows.{row_atom}
 use Rattle.chr_store.specs.declared.id.Id.{Id}
 use Rattle.chr_store.specs.declared.row.Row.{Row}
+use Rattle.chr_find.specs.IndexKeys.{IndexKey}
 use Rattle.chr_find.specs.LentKeysView.{AreListed}
 use Rattle.chr_find.specs.PendingIndexView.{AreShown, indexed_atom, row_at}
 use Rattle.chr_find.specs.Shown.{AreGround}
@@ -11,7 +12,6 @@ use Rattle.chr_find.specs.Newest.{IsApart, IsNot, IsThe, with_newest}
 use Rattle.chr_find.specs.IndexChangeView.{changed_at}
 use Rattle.chr_find.specs.TableView.{IsForAll, atom_at, atoms_with}
 use Rattle.chr_find.specs.declared.lent_keys.LentKeys.{LentKeys}
-use Rattle.chr_find.specs.declared.bucket.IndexKey.{IndexKey}
 use Rattle.chr_find.specs.declared.pending_index.PendingIndex.{PendingIndex}
 use Rattle.chr_find.specs.declared.constraint.Constraint.{Constraint}
 use Rattle.chr_find.specs.declared.table.Table.{Table}

@@ -1,9 +1,8 @@
 -- What stands in a table after what is noted.
 use Rattle.std.specs.Prelude.{cond, Option}
 use Rattle.chr_store.specs.declared.row.Row.{Row}
-use Rattle.chr_find.specs.IndexKeys.{is_key_of, row_if}
+use Rattle.chr_find.specs.IndexKeys.{IndexKey, is_key_of, row_if}
 use Rattle.chr_find.specs.PlanView.{lookups_of}
-use Rattle.chr_find.specs.declared.bucket.IndexKey.{IndexKey}
 use Rattle.chr_find.specs.declared.index.Change.{Change}
 use Rattle.chr_find.specs.declared.index_change.IndexChange.{IndexChange}
 use Rattle.chr_find.specs.declared.index_change.IndexChange.TheVariants.{Changed, Replaced}

@@ -17,6 +17,11 @@ pub mod PendingIndexView
 pub mod PendingFiringsView
 pub mod FiringHistory
 pub mod IndexKeys
+pub mod IndexSize
+pub mod IdRows
+pub mod BucketRowsView
+pub mod RowSpans
+pub mod ChangeView
 pub mod PlanView
 pub mod Rebinding
 pub mod Rebound

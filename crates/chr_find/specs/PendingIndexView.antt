@@ -5,11 +5,10 @@ use Rattle.chr_semantics.specs.Program.{Atom}
 use Rattle.chr_store.specs.Rows.{row_atom}
 use Rattle.chr_store.specs.declared.row.Row.{Row}
 use Rattle.chr_find.specs.IndexChangeView.{rows_after}
-use Rattle.chr_find.specs.IndexKeys.{held}
+use Rattle.chr_find.specs.IndexKeys.{IndexKey, held}
 use Rattle.chr_find.specs.PlanView.{lookups_of}
 use Rattle.chr_find.specs.Shown.{Shows}
 use Rattle.chr_find.specs.declared.bucket.Bucket.TheVariants.{All}
-use Rattle.chr_find.specs.declared.bucket.IndexKey.{IndexKey}
 use Rattle.chr_find.specs.declared.pending_index.PendingIndex.{PendingIndex}
 
 module _ {A : Type 0} where

@@ -6,11 +6,12 @@ use Rattle.chr_semantics.specs.Match as semantics
 use Rattle.chr_semantics.specs.Program.{Atom}
 use Rattle.chr_store.specs.Rows.{row_atom}
 use Rattle.chr_store.specs.declared.row.Row.{Row}
+use Rattle.chr_find.specs.IdRows.{id_rows}
 use Rattle.chr_semantics.specs.Search.{atom_of}
 use Rattle.chr_semantics.specs.Tree.{is_ground_trees}
-use Rattle.chr_find.specs.IndexKeys.{in_bucket, held, same_bucket}
+use Rattle.chr_find.specs.IndexKeys.{IndexKey, in_bucket, held, rows_in}
 use Rattle.chr_find.specs.declared.bucket.Bucket.{Bucket}
-use Rattle.chr_find.specs.declared.bucket.IndexKey.{IndexKey}
+use Rattle.chr_find.specs.declared.index.Index.{Index}
 use Rattle.chr_find.specs.declared.plan.Lookup.{Lookup}
 
 -- the atom, if it is in the list
@@ -23,10 +24,9 @@ module _ {A : Type 0} where
   abbrev pub Shows : (ℕ → List Lookup) → (IndexKey → Option (Row A)) → (ℕ → Option Atom) → Type 0
   Shows ps at f = (q : IndexKey) → option_map row_atom (at q) ≡ atom_in q.bucket ps (f q.id.0)
 
-  -- the constraints in a list, in the order of the entries
-  abbrev pub walk : Bucket → List (IndexKey × Row A) → List semantics.Row
-  walk l [] = []
-  walk l (e ∷ es) = cond (same_bucket e.0.bucket l) ((e.0.id.0, row_atom e.1) ∷ walk l es) (walk l es)
+  -- the constraints in a list, ascending
+  abbrev pub walk : Bucket → Index A → List semantics.Row
+  walk l x = id_rows (rows_in x l)
 
 -- no constraint has variables
 abbrev pub AreGround : (ℕ → Option Atom) → Type 0
@@ -55,11 +55,11 @@ Rises (c ∷ rows) = AllOver c.0 rows × Rises rows
 abbrev pub any_new : ℕ → List semantics.Row → Bool
 any_new from rows = list_any (λ (c : semantics.Row). is_new from c.0) rows
 
--- the entries show these rows
-pub record IsShown {A : Type 0} (ps : ℕ → List Lookup) (es : List (IndexKey × Row A)) (rows : List semantics.Row) : Type 0 where
+-- the index shows these rows
+pub record IsShown {A : Type 0} (ps : ℕ → List Lookup) (x : Index A) (rows : List semantics.Row) : Type 0 where
   pub rises : Rises rows
-  pub shows : Shows ps (held es) (atom_of rows)
+  pub shows : Shows ps (held x) (atom_of rows)
 
--- for each list of rows that the entries show
-abbrev pub ForRows : {A : Type 0} → (ℕ → List Lookup) → List (IndexKey × Row A) → (List semantics.Row → Type 0) → Type 0
-ForRows ps es P = (rows : List semantics.Row) → IsShown ps es rows → P rows
+-- for each list of rows that the index shows
+abbrev pub ForRows : {A : Type 0} → (ℕ → List Lookup) → Index A → (List semantics.Row → Type 0) → Type 0
+ForRows ps x P = (rows : List semantics.Row) → IsShown ps x rows → P rows

@@ -1,6 +1,5 @@
-//! The buckets of an index, and the keys of its rows.
+//! The buckets of an index.
 use crate::root::Root;
-use chr_store::Id;
 use chr_term::Sym;
 
 /// Rows of a table that are found together.
@@ -14,11 +13,4 @@ pub(crate) enum Bucket {
     Symbol(Sym),
     /// Those of a symbol with a root at a position, counted from 0.
     At(Sym, u8, Root),
-}
-
-/// The key of a row in a bucket. Rows of a bucket stand next to each other, by ascending identity.
-#[derive(Clone, Copy, PartialEq, Eq, PartialOrd, Ord, Drop)]
-pub(crate) struct IndexKey {
-    pub(crate) bucket: Bucket,
-    pub(crate) id: Id,
 }

@@ -13,7 +13,6 @@ ghost use Rattle.chr_find.specs.PlanView.{lookups_of};
 ghost use Rattle.chr_find.specs.RootView.{roots_view};
 
 use crate::bucket::Bucket;
-use crate::count::count;
 use crate::index::Index;
 use crate::plan::{Lookup, Plan};
 use crate::root::Root;
@@ -80,8 +79,8 @@ fn shorter<A: Allocator + Copy>(rows: &Index<A>, one: Bucket, other: Bucket) -> 
 {
     match (one, other) {
         (Bucket::At(_, _, _), Bucket::At(_, _, _)) => {
-            let length = count(rows.entries(), &one);
-            if length <= 1 || length <= count(rows.entries(), &other) {
+            let length = rows.weight(&one);
+            if length <= 1 || length <= rows.weight(&other) {
                 one
             } else {
                 other

@@ -1,9 +1,8 @@
 //! Changes of an index.
 ghost use Rattle.std.specs.Prelude.{◌≡◌, OnErr, OnOk};
 ghost use Rattle.chr_find.specs.IndexChangeView.{changed_at, rows_after};
-ghost use Rattle.chr_find.specs.IndexKeys.{AreKept, held};
+ghost use Rattle.chr_find.specs.IndexKeys.{AreKept, IndexKey, held};
 ghost use Rattle.chr_find.specs.PlanView.{lookups_of};
-ghost use Rattle.chr_find.specs.declared.bucket.IndexKey.{IndexKey};
 
 use crate::Memory;
 use crate::index::{Change, Index};

@@ -5,19 +5,18 @@ ghost use Rattle.chr_store.specs.Rows.{row_atom};
 ghost use Rattle.chr_find.specs.Threshold.{threshold_bound, next_threshold};
 ghost use Rattle.chr_find.specs.CursorStateView.{threshold_of};
 ghost use Rattle.chr_find.specs.SearchIs.{JoinLeads, RowLeads, WalkLeads, threshold_at};
-ghost use Rattle.chr_find.specs.Shown.{walk};
+ghost use Rattle.chr_find.specs.IdRows.{id_rows};
+ghost use Rattle.chr_find.specs.RowSpans.{span_rows};
 
 use crate::Memory;
-use crate::bucket::{Bucket, IndexKey};
+use crate::bucket_rows::RowSpan;
 use crate::candidates::{bucket_for, takes};
 use crate::firing_history::FiringHistory;
-use crate::narrowed::narrowed;
 use crate::search::{Prefix, Reached, Search};
 use chr_bind::{Match, guard_holds};
 use chr_map::Span;
 use chr_store::{Id, Row};
 use std::alloc::Allocator;
-use std::cmp::Ordering;
 
 impl<'a, P: FiringHistory, A: Allocator + Copy> Search<'a, P, A> {
     /// With one more partner.
@@ -74,22 +73,14 @@ impl<'a, P: FiringHistory, A: Allocator + Copy> Search<'a, P, A> {
         let (sym, args) = &self.rule.heads[level];
         let bucket = bucket_for(self.plan, self.rows, *sym, args.as_slice(), matching);
         let least = self.least(prefix);
-        self.visit(
-            self.rows.entries(),
-            &bucket,
-            least,
-            prefix,
-            matching,
-            reached,
-        )
+        self.visit_bucket(self.rows.rows(&bucket), least, prefix, matching, reached)
     }
 
-    /// As `join`, where the next partner is a row of a span that is in a bucket, and its identity is not below `least`.
+    /// As `join`, where the next partner is one of these rows, and its identity is not below `least`.
     #[cycle(join)]
-    fn visit(
+    fn visit_bucket(
         &self,
-        span: Span<'a, IndexKey, Row<A>, A>,
-        bucket: &Bucket,
+        rows: RowSpan<'a, A>,
         least: u64,
         prefix: &Prefix,
         matching: &mut Match<'a, A>,
@@ -100,34 +91,68 @@ impl<'a, P: FiringHistory, A: Allocator + Copy> Search<'a, P, A> {
             (threshold_at (P.history self.now.past.now) self.now prefix.now) }
         requires quiet { 0 < least → self.now.quiet < length prefix.now.partners + 2 }
         ensures { IfOk result (WalkLeads (P.history self.now.past.now) self.now prefix.now
-            (walk bucket.now span.entry) matching.old matching.new reached.old reached.new) }
+            (span_rows rows.entry) matching.old matching.new reached.old reached.new) }
     {
         // For the proof: that the counts have 64 bits is known once they are read.
         let _lists = reached.tried.lists;
         let _partial = reached.tried.partial;
-        let middle = match narrowed(span, bucket) {
+        match rows {
+            RowSpan::Empty => Ok(false),
+            RowSpan::One(id, row) => {
+                if id.0 < least {
+                    Ok(false)
+                } else {
+                    self.try_row(id, row, prefix, matching, reached)
+                }
+            }
+            RowSpan::Many(span) => self.visit(span, least, prefix, matching, reached),
+        }
+    }
+
+    /// As `join`, where the next partner is a row of a span, and its identity is not below `least`.
+    #[cycle(join)]
+    fn visit(
+        &self,
+        span: Span<'a, Id, Row<A>, A>,
+        least: u64,
+        prefix: &Prefix,
+        matching: &mut Match<'a, A>,
+        reached: &mut Reached,
+    ) -> Result<bool, Memory>
+        requires inside { length prefix.now.partners < vec_len self.now.rule.now.heads }
+        requires bound { least ≤ threshold_bound self.now.from
+            (threshold_at (P.history self.now.past.now) self.now prefix.now) }
+        requires quiet { 0 < least → self.now.quiet < length prefix.now.partners + 2 }
+        ensures { IfOk result (WalkLeads (P.history self.now.past.now) self.now prefix.now
+            (id_rows span.entry) matching.old matching.new reached.old reached.new) }
+    {
+        // For the proof: that the counts have 64 bits is known once they are read.
+        let _lists = reached.tried.lists;
+        let _partial = reached.tried.partial;
+        if least == 0 {
+            return self.walk(span, prefix, matching, reached);
+        }
+        let middle = match span.middle() {
             None => return Ok(false),
             Some(middle) => middle,
         };
-        let id = middle.key.id;
-        if id.0 < least {
-            return self.visit(middle.after, bucket, least, prefix, matching, reached);
+        if middle.key.0 < least {
+            return self.visit(middle.after, least, prefix, matching, reached);
         }
-        if self.visit_some(middle.before, bucket, least, prefix, matching, reached)? {
+        if self.visit_some(middle.before, least, prefix, matching, reached)? {
             return Ok(true);
         }
-        if self.try_row(id, middle.value, prefix, matching, reached)? {
+        if self.try_row(*middle.key, middle.value, prefix, matching, reached)? {
             return Ok(true);
         }
-        self.walk(middle.after, bucket, prefix, matching, reached)
+        self.walk(middle.after, prefix, matching, reached)
     }
 
     /// As `visit`, of which an empty span is spared.
     #[cycle(join)]
     fn visit_some(
         &self,
-        span: Span<'a, IndexKey, Row<A>, A>,
-        bucket: &Bucket,
+        span: Span<'a, Id, Row<A>, A>,
         least: u64,
         prefix: &Prefix,
         matching: &mut Match<'a, A>,
@@ -138,7 +163,7 @@ impl<'a, P: FiringHistory, A: Allocator + Copy> Search<'a, P, A> {
             (threshold_at (P.history self.now.past.now) self.now prefix.now) }
         requires quiet { 0 < least → self.now.quiet < length prefix.now.partners + 2 }
         ensures { IfOk result (WalkLeads (P.history self.now.past.now) self.now prefix.now
-            (walk bucket.now span.entry) matching.old matching.new reached.old reached.new) }
+            (id_rows span.entry) matching.old matching.new reached.old reached.new) }
     {
         // For the proof: that the counts have 64 bits is known once they are read.
         let _lists = reached.tried.lists;
@@ -146,39 +171,32 @@ impl<'a, P: FiringHistory, A: Allocator + Copy> Search<'a, P, A> {
         if span.is_empty() {
             return Ok(false);
         }
-        self.visit(span, bucket, least, prefix, matching, reached)
+        self.visit(span, least, prefix, matching, reached)
     }
 
-    /// As `join`, where the next partner is a row of a span that is in a bucket: one row after another, up to the end of the bucket.
+    /// As `join`, where the next partner is a row of a span: one row after another.
     #[cycle(join)]
     fn walk(
         &self,
-        span: Span<'a, IndexKey, Row<A>, A>,
-        bucket: &Bucket,
+        span: Span<'a, Id, Row<A>, A>,
         prefix: &Prefix,
         matching: &mut Match<'a, A>,
         reached: &mut Reached,
     ) -> Result<bool, Memory>
         requires { length prefix.now.partners < vec_len self.now.rule.now.heads }
         ensures { IfOk result (WalkLeads (P.history self.now.past.now) self.now prefix.now
-            (walk bucket.now span.entry) matching.old matching.new reached.old reached.new) }
+            (id_rows span.entry) matching.old matching.new reached.old reached.new) }
     {
         // For the proof: that the counts have 64 bits is known once they are read.
         let _lists = reached.tried.lists;
         let _partial = reached.tried.partial;
         let mut left = span;
         while let Some(middle) = left.leading() {
-            if self.walk_some(middle.before, bucket, prefix, matching, reached)? {
+            if self.walk_some(middle.before, prefix, matching, reached)? {
                 return Ok(true);
             }
-            match bucket.cmp(&middle.key.bucket) {
-                Ordering::Less => return Ok(false),
-                Ordering::Equal => {
-                    if self.try_row(middle.key.id, middle.value, prefix, matching, reached)? {
-                        return Ok(true);
-                    }
-                }
-                Ordering::Greater => {}
+            if self.try_row(*middle.key, middle.value, prefix, matching, reached)? {
+                return Ok(true);
             }
             left = middle.after;
         }
@@ -189,15 +207,14 @@ impl<'a, P: FiringHistory, A: Allocator + Copy> Search<'a, P, A> {
     #[cycle(join)]
     fn walk_some(
         &self,
-        span: Span<'a, IndexKey, Row<A>, A>,
-        bucket: &Bucket,
+        span: Span<'a, Id, Row<A>, A>,
         prefix: &Prefix,
         matching: &mut Match<'a, A>,
         reached: &mut Reached,
     ) -> Result<bool, Memory>
         requires { length prefix.now.partners < vec_len self.now.rule.now.heads }
         ensures { IfOk result (WalkLeads (P.history self.now.past.now) self.now prefix.now
-            (walk bucket.now span.entry) matching.old matching.new reached.old reached.new) }
+            (id_rows span.entry) matching.old matching.new reached.old reached.new) }
     {
         // For the proof: that the counts have 64 bits is known once they are read.
         let _lists = reached.tried.lists;
@@ -205,7 +222,7 @@ impl<'a, P: FiringHistory, A: Allocator + Copy> Search<'a, P, A> {
         if span.is_empty() {
             return Ok(false);
         }
-        self.walk(span, bucket, prefix, matching, reached)
+        self.walk(span, prefix, matching, reached)
     }
 
     /// As `join`, where the next partner is this row.

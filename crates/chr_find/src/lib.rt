@@ -4,9 +4,9 @@
 mod active;
 mod answer;
 mod bucket;
+mod bucket_rows;
 mod candidates;
 mod constraint;
-mod count;
 mod cursor_state;
 mod firing_history;
 mod firings;
@@ -14,7 +14,6 @@ mod index;
 mod index_change;
 mod join;
 mod lent_keys;
-mod narrowed;
 mod new_partners;
 mod own_head;
 mod pending_firings;

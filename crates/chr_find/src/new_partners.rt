@@ -2,49 +2,44 @@
 ghost use Rattle.std.specs.Prelude.{◌≡◌, ◌<◌, Some, false, slice_get, vec_len};
 ghost use Rattle.chr_rules.specs.RuleView.{rule_view};
 ghost use Rattle.chr_semantics.specs.Program.{Head};
+ghost use Rattle.chr_find.specs.IdRows.{id_rows};
 ghost use Rattle.chr_find.specs.Joins.{IsQuiet, IsQuietAt};
 ghost use Rattle.chr_find.specs.PlanView.{lookups_of};
-ghost use Rattle.chr_find.specs.Shown.{ForRows, any_new, walk};
+ghost use Rattle.chr_find.specs.RowSpans.{span_rows};
+ghost use Rattle.chr_find.specs.Shown.{ForRows, any_new};
 
-use crate::bucket::{Bucket, IndexKey};
+use crate::bucket::Bucket;
+use crate::bucket_rows::RowSpan;
 use crate::index::Index;
 use crate::plan::Plan;
-use chr_map::{Middle, Span};
+use chr_map::Span;
 use chr_rules::Rule;
-use chr_store::Row;
+use chr_store::{Id, Row};
 use std::alloc::Allocator;
-use std::cmp::Ordering;
 
-/// Whether a bucket has a row with an identity that is not below `from`.
-pub(crate) fn has_new<A: Allocator + Copy>(
-    span: Span<'_, IndexKey, Row<A>, A>,
-    bucket: &Bucket,
-    from: u64,
-) -> bool
-    ensures { result ≡ any_new from (walk bucket.now span.entry) }
+/// Whether a row of a map's span has an identity that is not below `from`.
+fn has_new_in<A: Allocator + Copy>(span: Span<'_, Id, Row<A>, A>, from: u64) -> bool
+    ensures { result ≡ any_new from (id_rows span.entry) }
 {
     let mut left = span;
-    while let Some(
-        Middle {
-            before,
-            key,
-            value: _,
-            after,
-        },
-    ) = left.middle()
-    {
-        match bucket.cmp(&key.bucket) {
-            Ordering::Less => left = before,
-            Ordering::Greater => left = after,
-            Ordering::Equal => {
-                if key.id.0 >= from {
-                    return true;
-                }
-                left = after;
-            }
+    while let Some(middle) = left.middle() {
+        if middle.key.0 >= from {
+            return true;
         }
+        left = middle.after;
     }
     false
+}
+
+/// Whether one of some rows has an identity that is not below `from`.
+pub(crate) fn has_new<A: Allocator + Copy>(rows: RowSpan<'_, A>, from: u64) -> bool
+    ensures { result ≡ any_new from (span_rows rows.entry) }
+{
+    match rows {
+        RowSpan::Empty => false,
+        RowSpan::One(id, _) => id.0 >= from,
+        RowSpan::Many(span) => has_new_in(span, from),
+    }
 }
 
 /// Whether a constraint for the head at a level may be new.
@@ -69,7 +64,7 @@ fn is_new_at<A: Allocator + Copy>(
     if !plan.has_by_symbol(sym) {
         return true;
     }
-    has_new(rows.entries(), &Bucket::Symbol(sym), from)
+    has_new(rows.rows(&Bucket::Symbol(sym)), from)
 }
 
 /// A number of heads after which no constraint for a head is new.

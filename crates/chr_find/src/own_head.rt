@@ -28,7 +28,7 @@ impl<'a, P: FiringHistory, A: Allocator + Copy> Search<'a, P, A> {
     {
         let (sym, args) = &self.rule.heads[level];
         let bucket = some_bucket_for(self.plan, *sym, args.as_slice(), matching);
-        !has_new(self.rows.entries(), &bucket, 0)
+        !has_new(self.rows.rows(&bucket), 0)
     }
 
     /// Whether that is so of some head but the own one, which tells at once that nothing is found. The first partner is not asked for: the join

@@ -19,9 +19,8 @@ pub(crate) struct PendingIndex<A: Allocator> {
 }
 
 impl<A: Allocator + Copy> PendingIndex<A> {
-    ghost use Rattle.chr_find.specs.declared.bucket.IndexKey.{IndexKey};
     ghost use Rattle.chr_find.specs.IndexChangeView.{rows_after};
-    ghost use Rattle.chr_find.specs.IndexKeys.{held};
+    ghost use Rattle.chr_find.specs.IndexKeys.{IndexKey, held};
     ghost use Rattle.chr_find.specs.PendingIndexView.{HasRoom, IsSettled, row_at};
 
     /// These rows, and nothing noted.

@@ -90,7 +90,7 @@ impl<A: Allocator + Copy> Table<A> {
         ensures ok { IfOk result (IsRebound bindings.now.subst self.new) }
     {
         let mut rows = Vec::new(self.alloc);
-        collect(&self.index.rows.entries(), Bucket::Open, &mut rows)?;
+        collect(self.index.rows.rows(&Bucket::Open), &mut rows)?;
         self.may_open = !rows.is_empty();
         let mut rebound = Rebound::none(self.alloc);
         for standing in &rows {

@@ -10,14 +10,14 @@ ghost use Rattle.chr_find.specs.PendingIndexView.{AreShown, indexed_atom};
 ghost use Rattle.chr_find.specs.Shown.{AreGround};
 
 use crate::Memory;
-use crate::bucket::{Bucket, IndexKey};
+use crate::bucket::Bucket;
 use crate::constraint::{Constraint, collect};
-use crate::index::Change;
+use crate::index::{Change, Index};
 use crate::index_change::IndexChange;
 use crate::lent_keys::LentKeys;
 use crate::pending_index::PendingIndex;
 use crate::plan::Plan;
-use chr_map::{Map, Pointer, Share};
+use chr_map::{Pointer, Share};
 use chr_store::{Id, Row};
 use std::alloc::{Allocator, Global};
 use std::mem;
@@ -69,7 +69,7 @@ impl<A: Allocator + Copy> Table<A> {
         ensures whole { IsWhole result }
     {
         Table {
-            index: PendingIndex::new(alloc, plan, Map::new(alloc)),
+            index: PendingIndex::new(alloc, plan, Index::new(alloc)),
             newest: None,
             keyed: LentKeys::off(),
             may_open: false,
@@ -204,7 +204,7 @@ impl<A: Allocator + Copy> Table<A> {
             return Ok(());
         }
         let mut rows = Vec::new(self.alloc);
-        collect(&self.index.rows.entries(), Bucket::All, &mut rows)?;
+        collect(self.index.rows.rows(&Bucket::All), &mut rows)?;
         self.keyed = LentKeys::of_rows(self.alloc, rows.as_slice())?;
         Ok(())
     }
@@ -214,11 +214,7 @@ impl<A: Allocator + Copy> Table<A> {
         requires { IsSettled self.now }
         ensures { option_map (λ row. row_atom row.now) result ≡ indexed_atom self.now.index id.0 }
     {
-        let key = IndexKey {
-            bucket: Bucket::All,
-            id,
-        };
-        self.index.rows.get(&key)
+        self.index.rows.row(id)
     }
 
     /// The row of a constraint that lives.

@@ -6,6 +6,7 @@ use denote.Struct.Declared as struct
 use Rattle.std.specs.declared.alloc.Allocator.{Ghosts}
 use Rattle.std.proofs.CrossingOver.{crosses}
 use Rattle.std.specs.contracts.vec.Vec as Vec
+use Rattle.chr_store.specs.contracts.id.Id as Id
 use Rattle.chr_store.specs.contracts.row.Row as Row
 use Rattle.chr_map.specs.contracts.pointer.Pointer as Pointer
 use Rattle.chr_map.proofs.pointer.Pointer.TheSendSync as pointer_laws
@@ -21,12 +22,15 @@ use Rattle.std.specs.declared.cmp.PartialEq as eq
 use Rattle.std.specs.declared.cmp.PartialOrd as partial
 use Rattle.chr_store.specs.contracts.fired.Fired as Fired
 use Rattle.chr_find.specs.contracts.firings.Firings as Firings
-use Rattle.chr_find.specs.contracts.bucket.IndexKey as IndexKey
+use Rattle.chr_find.specs.contracts.bucket.Bucket as Bucket
+use Rattle.chr_find.specs.contracts.bucket_rows.BucketRows as BucketRows
+use Rattle.chr_find.specs.contracts.bucket_rows.Held as Held
+use Rattle.chr_find.specs.contracts.bucket_rows.Rows as Rows
+use Rattle.chr_find.specs.contracts.index.Index as Index
 use Rattle.chr_find.specs.contracts.index_change.IndexChange as IndexChange
 use Rattle.chr_store.proofs.fired.Fired.TheSendSync as fired_laws
-use Rattle.chr_find.proofs.bucket.IndexKey.TheSendSync as index_key_laws
+use Rattle.chr_find.proofs.bucket.Bucket.TheSendSync as bucket_laws
 use Rattle.chr_keys.specs.contracts.key_lists.KeyLists as KeyLists
-use Rattle.chr_keys.specs.contracts.pending.Pending as Pending
 use Rattle.chr_keys.specs.contracts.pending_keys.PendingKeys as PendingKeys
 use Rattle.chr_keys.specs.contracts.id_list.IdList as IdList
 use Rattle.chr_keys.specs.contracts.symbol_key.SymbolKey as SymbolKey
@@ -105,6 +109,21 @@ module _ (A : RattleType) (g : Ghosts A.Denot) (s : IsSend A) (y : IsSync A) (f 
       pub map_field : IsSync (Map.the_field K V A o e l g).row
       map_field = map
 
+  -- the same of maps that move to a thread
+  module _ (K V : RattleType) (ks : IsSend K) (ky : IsSync K) (vs : IsSend V) (vy : IsSync V) where
+    pub arc_send : IsSend (Arc.the_row (Node.the_row K V A g) A g)
+    arc_send = let a = node_row K V ks ky vs vy in let b = node_row_send K V ks ky vs vy in search (crosses, sendable) depth 20
+
+    pub subtree_send : IsSend (Option.the_field (Arc.the_row (Node.the_row K V A g) A g)).row
+    subtree_send = let a : IsSend (Arc.the_field (Node.the_row K V A g) A g).row = arc_send in let b = arc_send in search (sendable) depth 20
+
+    module _ (o : ord.Ghosts K.Denot) (e : eq.Ghosts K.Denot) (l : partial.Ghosts K.Denot) where
+      pub map_send : IsSend (Map.the_row K V A o e l g)
+      map_send = let root = subtree_send in let below = arc_send in search (sendable) depth 20
+
+      pub map_field_send : IsSend (Map.the_field K V A o e l g).row
+      map_field_send = map_send
+
   pub firings : IsSync (Firings.the_field A g).row
   firings =
       let all = map_field Fired.the_row denote.Builtin.unit fired_laws.the_send fired_laws.the_sync (search sendable) (search sendable) in
@@ -113,8 +132,46 @@ module _ (A : RattleType) (g : Ghosts A.Denot) (s : IsSend A) (y : IsSync A) (f 
   pub index_change : IsSync (IndexChange.the_field A g).row
   index_change = let c = change in enum_sync (enum.shape (IndexChange.the_type A g)) (search (c, sendable) depth 20)
 
-  pub rows : (o : ord.Ghosts IndexKey.the_row.Denot) (e : eq.Ghosts IndexKey.the_row.Denot) (l : partial.Ghosts IndexKey.the_row.Denot) → IsSync (Map.the_field IndexKey.the_row (Row.the_row A g) A o e l g).row
-  rows o e l = map_field IndexKey.the_row (Row.the_row A g) index_key_laws.the_send index_key_laws.the_sync row_row_send row_row o e l
+  -- the rows of a bucket, and of all
+  rows : IsSync (Rows.the_row A g)
+  rows =
+      let map = map_field Id.the_row (Row.the_row A g) id_laws.the_send id_laws.the_sync row_row_send row_row in
+      recorded_sync _ _ _ (Rows.the_type A g).to_one (struct_sync (struct.shape (Rows.the_type A g)) (search (map, sendable) depth 20))
+
+  rows_send : IsSend (Rows.the_row A g)
+  rows_send =
+      let map = map_field_send Id.the_row (Row.the_row A g) id_laws.the_send id_laws.the_sync row_row_send row_row in
+      recorded_send _ _ _ (Rows.the_type A g).to_one (struct_send (struct.shape (Rows.the_type A g)) (search (map, sendable) depth 20))
+
+  held : IsSync (Held.the_field A g).row
+  held =
+      let many : IsSync (Arc.the_field (Rows.the_row A g) A g).row = (let a = rows in let b = rows_send in search (crosses, sendable) depth 20) in
+      let one = row in
+      enum_sync (enum.shape (Held.the_type A g)) (search (many, one, id_laws.the_field_sync, sendable) depth 20)
+
+  held_send : IsSend (Held.the_field A g).row
+  held_send =
+      let many : IsSend (Arc.the_field (Rows.the_row A g) A g).row = (let a = rows in let b = rows_send in search (crosses, sendable) depth 20) in
+      let one = row_send in
+      enum_send (enum.shape (Held.the_type A g)) (search (many, one, id_laws.the_field_send, sendable) depth 20)
+
+  bucket_rows : IsSync (BucketRows.the_row A g)
+  bucket_rows = let h = held in search sendable depth 20
+
+  bucket_rows_send : IsSend (BucketRows.the_row A g)
+  bucket_rows_send = let h = held_send in search sendable depth 20
+
+  pub index : IsSync (Index.the_field A g).row
+  index =
+      let all = map_field Id.the_row (Row.the_row A g) id_laws.the_send id_laws.the_sync row_row_send row_row in
+      let buckets = map_field Bucket.the_row (BucketRows.the_row A g) bucket_laws.the_send bucket_laws.the_sync bucket_rows_send bucket_rows in
+      struct_sync (struct.shape (Index.the_type A g)) (search (all, buckets, sendable) depth 20)
+
+  pub index_send : IsSend (Index.the_field A g).row
+  index_send =
+      let all = map_field_send Id.the_row (Row.the_row A g) id_laws.the_send id_laws.the_sync row_row_send row_row in
+      let buckets = map_field_send Bucket.the_row (BucketRows.the_row A g) bucket_laws.the_send bucket_laws.the_sync bucket_rows_send bucket_rows in
+      struct_send (struct.shape (Index.the_type A g)) (search (all, buckets, sendable) depth 20)
 
   pub key_lists : IsSync (KeyLists.the_field A g).row
   key_lists =
@@ -137,7 +194,7 @@ module _ (A : RattleType) (g : Ghosts A.Denot) (s : IsSend A) (y : IsSync A) (f 
   pending_index =
       let shared_plan : IsSync (Pointer.the_field (Plan.the_row A g) A g).row = pointer_laws.the_sync (Plan.the_row A g) A g (plan_laws.the_send A g s f) s plan y f in
       let pending = pending_laws.the_sync (IndexChange.the_row A g) A g (recorded_sync _ _ _ (IndexChange.the_type A g).to_one index_change) y in
-      struct_sync (struct.shape (PendingIndex.the_type A g)) (search (shared_plan, rows, pending, sendable) depth 20)
+      struct_sync (struct.shape (PendingIndex.the_type A g)) (search (shared_plan, index, pending, sendable) depth 20)
 
   pub table : IsSync (Table.the_field A g).row
   table =
@@ -157,21 +214,6 @@ module _ (A : RattleType) (g : Ghosts A.Denot) (s : IsSend A) (y : IsSync A) (f 
   pub snapshot_row : IsSync (Snapshot.the_row A g)
   snapshot_row = recorded_sync _ _ _ (Snapshot.the_type A g).to_one snapshot
 
-  -- the same of what moves to a thread
-  module _ (K V : RattleType) (ks : IsSend K) (ky : IsSync K) (vs : IsSend V) (vy : IsSync V) where
-    pub arc_send : IsSend (Arc.the_row (Node.the_row K V A g) A g)
-    arc_send = let a = node_row K V ks ky vs vy in let b = node_row_send K V ks ky vs vy in search (crosses, sendable) depth 20
-
-    pub subtree_send : IsSend (Option.the_field (Arc.the_row (Node.the_row K V A g) A g)).row
-    subtree_send = let a : IsSend (Arc.the_field (Node.the_row K V A g) A g).row = arc_send in let b = arc_send in search (sendable) depth 20
-
-    module _ (o : ord.Ghosts K.Denot) (e : eq.Ghosts K.Denot) (l : partial.Ghosts K.Denot) where
-      pub map_send : IsSend (Map.the_row K V A o e l g)
-      map_send = let root = subtree_send in let below = arc_send in search (sendable) depth 20
-
-      pub map_field_send : IsSend (Map.the_field K V A o e l g).row
-      map_field_send = map_send
-
   pub change_send : IsSend (Change.the_field A g).row
   change_send = let r : IsSend (Row.the_field A g).row = row_send in struct_send (struct.shape (Change.the_type A g)) (search (r, id_laws.the_field_send, sendable) depth 20)
 
@@ -187,9 +229,6 @@ module _ (A : RattleType) (g : Ghosts A.Denot) (s : IsSend A) (y : IsSync A) (f 
 
   pub index_change_send : IsSend (IndexChange.the_field A g).row
   index_change_send = let c = change_send in enum_send (enum.shape (IndexChange.the_type A g)) (search (c, sendable) depth 20)
-
-  pub rows_send : (o : ord.Ghosts IndexKey.the_row.Denot) (e : eq.Ghosts IndexKey.the_row.Denot) (l : partial.Ghosts IndexKey.the_row.Denot) → IsSend (Map.the_field IndexKey.the_row (Row.the_row A g) A o e l g).row
-  rows_send o e l = map_field_send IndexKey.the_row (Row.the_row A g) index_key_laws.the_send index_key_laws.the_sync row_row_send row_row o e l
 
   pub key_lists_send : IsSend (KeyLists.the_field A g).row
   key_lists_send =
@@ -212,7 +251,7 @@ module _ (A : RattleType) (g : Ghosts A.Denot) (s : IsSend A) (y : IsSync A) (f 
   pending_index_send =
       let shared_plan : IsSend (Pointer.the_field (Plan.the_row A g) A g).row = pointer_laws.the_send (Plan.the_row A g) A g (plan_laws.the_send A g s f) s plan y f in
       let pending = pending_laws.the_send (IndexChange.the_row A g) A g (recorded_send _ _ _ (IndexChange.the_type A g).to_one index_change_send) s f in
-      struct_send (struct.shape (PendingIndex.the_type A g)) (search (shared_plan, rows_send, pending, sendable) depth 20)
+      struct_send (struct.shape (PendingIndex.the_type A g)) (search (shared_plan, index_send, pending, sendable) depth 20)
 
   pub table_send : IsSend (Table.the_field A g).row
   table_send =

@@ -4,7 +4,7 @@ use Rattle.chr_semantics.specs.Match as semantics
 use Rattle.chr_semantics.specs.Program.{Atom}
 use Rattle.chr_term.specs.TermView.{atom_view}
 use Rattle.chr_find.specs.PlanView.{lookups_of}
-use Rattle.chr_find.specs.Shown.{any_new, walk}
+use Rattle.chr_find.specs.Shown.{any_new}
 use Rattle.chr_find.specs.declared.bucket.Bucket.TheVariants.{Symbol}
 use Rattle.chr_find.proofs.NewRows.{old_rows, planned_rows}
 use Rattle.chr_find.proofs.RuleHeads.{head_is}
@@ -19,6 +19,6 @@ returns g c old rows shown x at =
       (λ here. absurd (c.if-level-place.false ((Decides-eqb c.args.level c.args.place).0 here))),
       λ other. old_rows c.args.from x.atom.sym rows
           (ap (λ (a : Atom). any_new c.args.from (filter (λ (d : semantics.Row). a.sym == d.1.sym) rows)) head
-          ∙ (sym (ap (any_new c.args.from) (ap (walk (Symbol f)) c.entries.ensures.value ∙ walk_shown ps (Symbol f) c.args.rows.now rows c.entries.ensures.ascending shown.rises shown.shows ∙ planned_rows ps f rows (sym c.has_by_symbol.ensures ∙ c.if-not-has_by_symbol.false)))
+          ∙ (sym (ap (any_new c.args.from) (c.rows.ensures.rows ∙ walk_shown ps (Symbol f) c.args.rows.now rows c.rows.ensures.ascending shown.rises shown.shows ∙ planned_rows ps f rows (sym c.has_by_symbol.ensures ∙ c.if-not-has_by_symbol.false)))
           ∙ (sym c.has_new.ensures ∙ old))),
     )

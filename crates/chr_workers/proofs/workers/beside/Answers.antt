@@ -1,7 +1,7 @@
 use denote.Builtin.{u32}
 use denote.Exit.{no}
 use denote.Param.{param, copied}
-use denote.Param.Send.{IsSend, IsSync, Frees, sendable, param_send, arg_send, shr_send}
+use denote.Param.Send.{IsSend, IsSync, sendable, param_send, arg_send, shr_send}
 use Rattle.chr_board.specs.contracts.board.Board as Board
 use Rattle.chr_rules.specs.contracts.program.Program as Program
 use Rattle.chr_shelf.specs.contracts.shelf.Shelf as Shelf

@@ -1,8 +1,7 @@
 use Rattle.std.proofs.Common.{◌≡◌, OnErr, refl, subst, sym}
 use Rattle.chr_map.proofs.Clauses.{err_more}
 use Rattle.chr_find.specs.IndexChangeView.{rows_after}
-use Rattle.chr_find.specs.IndexKeys.{held}
-use Rattle.chr_find.specs.declared.bucket.IndexKey.{IndexKey}
+use Rattle.chr_find.specs.IndexKeys.{IndexKey, held}
 use Rattle.chr_find.specs.declared.index_change.IndexChange.{IndexChange}
 use Rattle.chr_find.proofs.NoteSteps.{replaced_again}
 use Rattle.chr_find.proofs.index_change.IndexChange.make.Goals as goal

@@ -1,6 +1,6 @@
 use Rattle.std.proofs.Common.{◌≡◌, length}
+use Rattle.chr_find.specs.IndexKeys.{IndexKey}
 use Rattle.chr_find.specs.PendingIndexView.{row_at}
-use Rattle.chr_find.specs.declared.bucket.IndexKey.{IndexKey}
 use Rattle.chr_find.proofs.pending_index.PendingIndex.settle.Given as goal
 
 abbrev pub decreases-loop-note : goal.decreases-loop-note

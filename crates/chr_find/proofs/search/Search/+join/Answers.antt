@@ -9,21 +9,25 @@ use Rattle.chr_semantics.specs.Program.{Head, Atom}
 use Rattle.chr_semantics.specs.declared.limits.TheConstants.{MAX_RULE_VARIABLES}
 use Rattle.chr_semantics.specs.Match.{fit_atom}
 use Rattle.chr_store.specs.Rows.{row_atom}
+use Rattle.chr_store.specs.declared.id.Id.{Id}
 use Rattle.chr_store.specs.declared.row.Row.{Row}
-use Rattle.chr_find.specs.declared.bucket.Bucket.{Bucket}
-use Rattle.chr_find.specs.declared.bucket.IndexKey.{IndexKey}
 use Rattle.chr_term.specs.TermView.{atom_view}
 use Rattle.chr_find.specs.Enough.{TakesAs}
 use Rattle.chr_find.specs.Joins.{WalkIs}
 use Rattle.chr_find.specs.Partial.{WalkCounts}
 use Rattle.chr_find.specs.PlanView.{lookups_of}
-use Rattle.chr_find.specs.IndexKeys.{in_bucket, same_bucket}
+use Rattle.chr_find.specs.IdRows.{id_rows}
+use Rattle.chr_find.specs.IndexKeys.{in_bucket}
+use Rattle.chr_find.specs.IndexSize.{index_size}
+use Rattle.chr_find.specs.RowSpans.{span_rows}
 use Rattle.chr_find.specs.SearchIs.{WalkFinds, WalkFits, threshold_at, if_found}
 use Rattle.chr_bind.specs.Matching.{AgreesWith}
 use Rattle.chr_semantics.specs.Subst.{Subst}
 use Rattle.chr_bind.proofs.Marked.{marks_covered}
-use Rattle.chr_find.specs.Shown.{IsShown, walk}
+use Rattle.chr_find.specs.Shown.{IsShown}
 use Rattle.chr_find.proofs.HeadFits.{head_takes}
+use Rattle.chr_find.specs.declared.bucket_rows.RowSpan.{RowSpan}
+use Rattle.chr_find.proofs.IndexRows.{rows_length}
 use Rattle.chr_find.proofs.JoinEnds.{at_own, from_walk}
 use Rattle.chr_find.proofs.JoinSteps.{row_out, row_taken}
 use Rattle.chr_find.proofs.RuleHeads.{head_at, heads_length}
@@ -33,9 +37,9 @@ use Rattle.chr_find.proofs.TrailSteps as steps
 use Rattle.chr_find.proofs.TrailSteps.{counts_longer, free_longer}
 use Rattle.chr_find.proofs.Leads.{leads_as, leads_equal, leads_first, leads_nothing, leads_on}
 use Rattle.chr_find.proofs.TrailVisits.{fits_past}
-use Rattle.chr_find.proofs.Visits.{found_past}
+use Rattle.chr_find.proofs.Visits.{finds_nothing, found_past}
 use Rattle.chr_find.proofs.Walk.{walk_shown}
-use Rattle.chr_find.proofs.WalkSpans.{equal_here, span_equal, span_first, span_less, span_passed, span_skipped}
+use Rattle.chr_find.proofs.WalkSpans.{span_parts, span_passed}
 use Rattle.chr_find.proofs.search.Search.+join.Goals as goal
 
 pub join-returns-then-level-self : goal.join-returns-then-level-self
@@ -61,12 +65,11 @@ join-returns-then-level-self g t c =
     })
     c.join.ensures
 
-pub join-visit-requires : goal.join-visit-requires
-join-visit-requires g t c κs within =
+pub join-visit_bucket-requires : goal.join-visit_bucket-requires
+join-visit_bucket-requires g t c κs within =
     let s = c.args.self.now in
     let l : (length c.args.prefix.now.partners) < vec_len s.rule.now.heads = omega (arith, c.if-level-len.false, c.len.ensures, c.len-level.ensures.len) in
-    let entries : length c.entries.result ≡ length s.rows.now = ap length c.entries.ensures.value in
-    let smaller = level_less (vec_len s.rule.now.heads) (length c.args.prefix.now.partners) (length s.rows.now) (length c.entries.result) l (omega (arith, entries)) in
+    let smaller = level_less (vec_len s.rule.now.heads) (length c.args.prefix.now.partners) (index_size s.rows.now) (length (span_rows c.rows.result)) l c.rows.ensures.some in
     (omega (arith, smaller, c.decreases), (within.0, (within.1, ((omega arith), (l, (c.least-least.ensures.bound, c.least-least.ensures.quiet))))))
 
 pub join-returns : goal.join-returns
@@ -76,25 +79,25 @@ join-returns g t c =
     let lt : (length p.partners) < length s.rule.now.heads.items = omega (arith, c.if-level-len.false, c.len.ensures, c.len-level.ensures.len) in
     let x = head_at s.rule.now.heads.items s.rule.now.passive.items (length p.partners) c.index.result.now lt (c.index.ensures ∙ ap (λ (k : ℕ). get_or s.rule.now.heads.items k c.index.result.now) c.len-level.ensures.len) in
     let apart : ((length p.partners) == s.place) ≡ false = ne_eqb (length p.partners) s.place (λ e. c.if-level-self.false (c.len-level.ensures.len ∙ e)) in
-    let shows : (rows : List semantics.Row) → IsShown (lookups_of s.plan.now) s.rows.now rows → walk c.bucket_for-bucket.result c.entries.result ≡ filter (λ row. in_bucket (lookups_of s.plan.now row.1.sym) row.1 c.bucket_for-bucket.result) rows =
-    λ rows shown. ap (walk c.bucket_for-bucket.result) c.entries.ensures.value ∙ walk_shown (lookups_of s.plan.now) c.bucket_for-bucket.result s.rows.now rows c.entries.ensures.ascending shown.rises shown.shows in
+    let shows : (rows : List semantics.Row) → IsShown (lookups_of s.plan.now) s.rows.now rows → span_rows c.rows.result ≡ filter (λ row. in_bucket (lookups_of s.plan.now row.1.sym) row.1 c.bucket_for-bucket.result) rows =
+    λ rows shown. c.rows.ensures.rows ∙ walk_shown (lookups_of s.plan.now) c.bucket_for-bucket.result s.rows.now rows c.rows.ensures.ascending shown.rises shown.shows in
     let enough : (m : Subst) → AgreesWith c.args.matching.now m → (row : semantics.Row) → in_bucket (lookups_of s.plan.now row.1.sym) row.1 c.bucket_for-bucket.result ≡ false → fit_atom x.0.atom row.1 m ≡ None =
     λ m agrees row out. ap (λ (h : Atom). fit_atom h row.1 m) (x.2 ∙ ap (atom_view c.index.result.now.0) (sym c.as_slice.ensures.value)) ∙ c.bucket_for-bucket.ensures m agrees row out in
-    ok_more _ _ c.visit.result
+    ok_more _ _ c.visit_bucket.result
     (λ found w. record {
       finds = λ rows shown.
-          from_walk rows (g.P.FiringHistory.history s.past.now) s.number (rule_view s.rule.now) s.place s.own.0 (length p.partners) p.partners c.args.matching.now s.from s.quiet (threshold_at (g.P.FiringHistory.history s.past.now) s p) x.0 x.1 (λ row. in_bucket (lookups_of s.plan.now row.1.sym) row.1 c.bucket_for-bucket.result) (if_found found c.visit.new.reached.partners) c.args.reached.now.tried.lists c.visit.new.reached.tried.lists
+          from_walk rows (g.P.FiringHistory.history s.past.now) s.number (rule_view s.rule.now) s.place s.own.0 (length p.partners) p.partners c.args.matching.now s.from s.quiet (threshold_at (g.P.FiringHistory.history s.past.now) s p) x.0 x.1 (λ row. in_bucket (lookups_of s.plan.now row.1.sym) row.1 c.bucket_for-bucket.result) (if_found found c.visit_bucket.new.reached.partners) c.args.reached.now.tried.lists c.visit_bucket.new.reached.tried.lists
           apart enough
-          (subst (λ (walked : List semantics.Row). WalkIs rows (g.P.FiringHistory.history s.past.now) s.number (rule_view s.rule.now) s.place s.own.0 (length p.partners) p.partners c.args.matching.now s.from s.quiet (threshold_at (g.P.FiringHistory.history s.past.now) s p) x.0.atom walked (if_found found c.visit.new.reached.partners) c.args.reached.now.tried.lists c.visit.new.reached.tried.lists)
+          (subst (λ (walked : List semantics.Row). WalkIs rows (g.P.FiringHistory.history s.past.now) s.number (rule_view s.rule.now) s.place s.own.0 (length p.partners) p.partners c.args.matching.now s.from s.quiet (threshold_at (g.P.FiringHistory.history s.past.now) s p) x.0.atom walked (if_found found c.visit_bucket.new.reached.partners) c.args.reached.now.tried.lists c.visit_bucket.new.reached.tried.lists)
           (shows rows shown) (w.finds x.0 x.1 rows shown));
       same = w.same;
       fits = λ all rows shown.
-          steps.from_walk rows (g.P.FiringHistory.history s.past.now) s.number (rule_view s.rule.now) s.place s.own.0 (length p.partners) p.partners c.args.matching.now x.0 x.1 (λ row. in_bucket (lookups_of s.plan.now row.1.sym) row.1 c.bucket_for-bucket.result) found c.args.reached.now.tried.partial c.saturating_add-reached.result c.visit.new.reached.tried.partial
+          steps.from_walk rows (g.P.FiringHistory.history s.past.now) s.number (rule_view s.rule.now) s.place s.own.0 (length p.partners) p.partners c.args.matching.now x.0 x.1 (λ row. in_bucket (lookups_of s.plan.now row.1.sym) row.1 c.bucket_for-bucket.result) found c.args.reached.now.tried.partial c.saturating_add-reached.result c.visit_bucket.new.reached.tried.partial
           apart (omega (arith, c.saturating_add-reached.ensures)) enough
-          (subst (λ (walked : List semantics.Row). WalkCounts rows (g.P.FiringHistory.history s.past.now) s.number (rule_view s.rule.now) s.place s.own.0 (length p.partners) p.partners c.args.matching.now x.0.atom walked found c.saturating_add-reached.result c.visit.new.reached.tried.partial)
+          (subst (λ (walked : List semantics.Row). WalkCounts rows (g.P.FiringHistory.history s.past.now) s.number (rule_view s.rule.now) s.place s.own.0 (length p.partners) p.partners c.args.matching.now x.0.atom walked found c.saturating_add-reached.result c.visit_bucket.new.reached.tried.partial)
           (shows rows shown) (w.fits all x.0 x.1 rows shown));
     })
-    c.visit.ensures
+    c.visit_bucket.ensures
 
 pub join_row-takes-requires : goal.join_row-takes-requires
 join_row-takes-requires g t c =
@@ -163,30 +166,42 @@ try_row-returns g t c =
       fits = subst (λ (b : Bool). WalkFits h c.args.self.now c.args.prefix.now c.args.matching.now row b c.args.reached.now.tried.partial c.join_row.new.reached.tried.partial) c.if-branch.false c.in_ok-join_row.ensures.fits;
     }
 
--- what the bucket has before, at and after the middle
-parted : {A : Type 0} (walked : List semantics.Row) (l : Bucket) (before : List (IndexKey × Row A)) (m : IndexKey × Row A) (after : List (IndexKey × Row A)) → walked ≡ walk l (before ++ m ∷ after) → same_bucket m.0.bucket l ≡ true → walked ≡ walk l before ++ ((m.0.id.0, row_atom m.1) ∷ [] ++ walk l after)
-parted walked l before m after is same = is ∙ span_equal l (before ++ m ∷ after) before m after refl (equal_here m.0.bucket l same)
-
-pub visit-returns-in-None : goal.visit-returns-in-None
-visit-returns-in-None g t c =
-    leads_nothing (g.P.FiringHistory.history c.args.self.now.past.now) c.args.self.now c.args.prefix.now c.args.matching.now (walk c.args.bucket.now c.args.span) c.args.reached.now c.in-None.ensures.none (omega arith) (omega arith)
-
-pub visit-returns-then-id-least : goal.visit-returns-then-id-least
-visit-returns-then-id-least g t c =
+-- the one row of a bucket is passed over
+pub visit_bucket-returns-then-id-least : goal.visit_bucket-returns-then-id-least
+visit_bucket-returns-then-id-least g t c =
     let h = g.P.FiringHistory.history c.args.self.now.past.now in
     let s = c.args.self.now in
     let p = c.args.prefix.now in
-    let l = c.args.bucket.now in
-    let m : IndexKey × Row g.row.A.Denot = (c.in-Some.middle.key.now, c.in-Some.middle.value.now) in
-    let entries = c.in-Some.middle.before ++ m ∷ c.in-Some.middle.after in
+    let m : Id × Row g.row.A.Denot = (c.in-One.id, c.in-One.row.now) in
+    leads_equal h s p (span_rows c.args.rows) (id_rows (m ∷ [])) c.args.matching.now c.args.matching.now c.args.reached.now c.args.reached.now false (ap span_rows c.in-One.is) (record {
+      finds = found_past h s p (m ∷ []) [] m [] refl c.args.matching.now c.args.least None c.args.reached.now.tried.lists c.args.reached.now.tried.lists (tt, tt) c.if-id-least.true (omega arith) c.requires.bound c.requires.quiet
+          (finds_nothing h s p c.args.matching.now [] c.args.reached.now.tried.lists refl (omega arith));
+      same = λ none x. refl;
+      fits = fits_past h s p c.args.matching.now ((m.0.0, row_atom m.1) ∷ []) c.args.least m.0.0 false c.args.reached.now.tried.partial c.args.reached.now.tried.partial c.if-id-least.true c.requires.bound;
+    })
+
+pub visit_bucket-visit-requires : goal.visit_bucket-visit-requires
+visit_bucket-visit-requires g t c κs within =
+    let same : length (span_rows c.args.rows) ≡ length c.in-Many.span = ap (λ (rows : RowSpan g.row.A.Denot). length (span_rows rows)) c.in-Many.is ∙ rows_length c.in-Many.span in
+    (omega (arith, same, c.decreases), (within.0, (within.1, ((omega arith), (c.requires.inside, (c.requires.bound, c.requires.quiet))))))
+
+pub visit-returns-in-None : goal.visit-returns-in-None
+visit-returns-in-None g t c =
+    leads_nothing (g.P.FiringHistory.history c.args.self.now.past.now) c.args.self.now c.args.prefix.now c.args.matching.now (id_rows c.args.span) c.args.reached.now (ap id_rows c.in-None.ensures.none) (omega arith) (omega arith)
+
+pub visit-returns-then-middle-least : goal.visit-returns-then-middle-least
+visit-returns-then-middle-least g t c =
+    let h = g.P.FiringHistory.history c.args.self.now.past.now in
+    let s = c.args.self.now in
+    let p = c.args.prefix.now in
+    let m : Id × Row g.row.A.Denot = (c.in-Some.middle.key.now, c.in-Some.middle.value.now) in
     ok_more _ _ c.visit.result
-    (λ found w. leads_equal h s p (walk l c.args.span) (walk l entries) c.args.matching.now c.visit.new.matching c.args.reached.now c.visit.new.reached found c.in-Some.ensures.rows
-    (record {
-      finds = found_past h s p l entries c.in-Some.middle.before m c.in-Some.middle.after refl (equal_here m.0.bucket l c.in-Some.ensures.here)
-          c.args.matching.now c.args.least (if_found found c.visit.new.reached.partners) c.args.reached.now.tried.lists c.visit.new.reached.tried.lists c.in-Some.ensures.ascending c.if-id-least.true (omega arith) c.requires.bound c.requires.quiet w.finds;
+    (λ found w. record {
+      finds = found_past h s p c.args.span c.in-Some.middle.before m c.in-Some.middle.after c.in-Some.ensures.some c.args.matching.now c.args.least (if_found found c.visit.new.reached.partners) c.args.reached.now.tried.lists c.visit.new.reached.tried.lists
+          c.in-Some.ensures.ascending c.if-middle-least.true (omega arith) c.requires.bound c.requires.quiet w.finds;
       same = w.same;
-      fits = fits_past h s p c.args.matching.now (walk l entries) c.args.least m.0.id.0 found c.args.reached.now.tried.partial c.visit.new.reached.tried.partial c.if-id-least.true c.requires.bound;
-    }))
+      fits = fits_past h s p c.args.matching.now (id_rows c.args.span) c.args.least m.0.0 found c.args.reached.now.tried.partial c.visit.new.reached.tried.partial c.if-middle-least.true c.requires.bound;
+    })
     c.visit.ensures
 
 -- found before the middle
@@ -195,11 +210,10 @@ visit-returns-then-branch g t c =
     let h = g.P.FiringHistory.history c.args.self.now.past.now in
     let s = c.args.self.now in
     let p = c.args.prefix.now in
-    let l = c.args.bucket.now in
-    let m : IndexKey × Row g.row.A.Denot = (c.in-Some.middle.key.now, c.in-Some.middle.value.now) in
-    leads_first h s p (walk l c.args.span) (walk l c.in-Some.middle.before) ((m.0.id.0, row_atom m.1) ∷ [] ++ walk l c.in-Some.middle.after) c.args.matching.now c.visit_some.new.matching c.args.reached.now c.visit_some.new.reached
-    (parted (walk l c.args.span) l c.in-Some.middle.before m c.in-Some.middle.after c.in-Some.ensures.rows c.in-Some.ensures.here)
-    (leads_as h s p (walk l c.in-Some.middle.before) c.args.matching.now c.visit_some.new.matching c.args.reached.now c.visit_some.new.reached _ true c.if-branch.true c.in_ok-visit_some.ensures)
+    let m : Id × Row g.row.A.Denot = (c.in-Some.middle.key.now, c.in-Some.middle.value.now) in
+    leads_first h s p (id_rows c.args.span) (id_rows c.in-Some.middle.before) ((m.0.0, row_atom m.1) ∷ [] ++ id_rows c.in-Some.middle.after) c.args.matching.now c.visit_some.new.matching c.args.reached.now c.visit_some.new.reached
+    (span_parts c.args.span c.in-Some.middle.before m c.in-Some.middle.after c.in-Some.ensures.some)
+    (leads_as h s p (id_rows c.in-Some.middle.before) c.args.matching.now c.visit_some.new.matching c.args.reached.now c.visit_some.new.reached _ true c.if-branch.true c.in_ok-visit_some.ensures)
 
 -- at the middle
 pub visit-returns-then-branch-2 : goal.visit-returns-then-branch-2
@@ -207,13 +221,13 @@ visit-returns-then-branch-2 g t c =
     let h = g.P.FiringHistory.history c.args.self.now.past.now in
     let s = c.args.self.now in
     let p = c.args.prefix.now in
-    let l = c.args.bucket.now in
-    let m : IndexKey × Row g.row.A.Denot = (c.in-Some.middle.key.now, c.in-Some.middle.value.now) in
-    let one : List semantics.Row = (m.0.id.0, row_atom m.1) ∷ [] in
-    leads_on h s p (walk l c.args.span) (walk l c.in-Some.middle.before) (one ++ walk l c.in-Some.middle.after) c.args.matching.now c.visit_some.new.matching c.try_row.new.matching c.args.reached.now c.visit_some.new.reached c.try_row.new.reached true
-    (parted (walk l c.args.span) l c.in-Some.middle.before m c.in-Some.middle.after c.in-Some.ensures.rows c.in-Some.ensures.here)
-    (leads_as h s p (walk l c.in-Some.middle.before) c.args.matching.now c.visit_some.new.matching c.args.reached.now c.visit_some.new.reached _ false c.if-branch.false c.in_ok-visit_some.ensures)
-    (leads_first h s p (one ++ walk l c.in-Some.middle.after) one (walk l c.in-Some.middle.after) c.visit_some.new.matching c.try_row.new.matching c.visit_some.new.reached c.try_row.new.reached refl
+    let m : Id × Row g.row.A.Denot = (c.in-Some.middle.key.now, c.in-Some.middle.value.now) in
+    let one : List semantics.Row = (m.0.0, row_atom m.1) ∷ [] in
+    let after : List semantics.Row = id_rows c.in-Some.middle.after in
+    leads_on h s p (id_rows c.args.span) (id_rows c.in-Some.middle.before) (one ++ after) c.args.matching.now c.visit_some.new.matching c.try_row.new.matching c.args.reached.now c.visit_some.new.reached c.try_row.new.reached true
+    (span_parts c.args.span c.in-Some.middle.before m c.in-Some.middle.after c.in-Some.ensures.some)
+    (leads_as h s p (id_rows c.in-Some.middle.before) c.args.matching.now c.visit_some.new.matching c.args.reached.now c.visit_some.new.reached _ false c.if-branch.false c.in_ok-visit_some.ensures)
+    (leads_first h s p (one ++ after) one after c.visit_some.new.matching c.try_row.new.matching c.visit_some.new.reached c.try_row.new.reached refl
     (leads_as h s p one c.visit_some.new.matching c.try_row.new.matching c.visit_some.new.reached c.try_row.new.reached _ true c.if-branch-2.true c.in_ok-try_row.ensures))
 
 -- after it, or not at all
@@ -222,24 +236,24 @@ visit-returns g t c =
     let h = g.P.FiringHistory.history c.args.self.now.past.now in
     let s = c.args.self.now in
     let p = c.args.prefix.now in
-    let l = c.args.bucket.now in
-    let m : IndexKey × Row g.row.A.Denot = (c.in-Some.middle.key.now, c.in-Some.middle.value.now) in
-    let one : List semantics.Row = (m.0.id.0, row_atom m.1) ∷ [] in
-    ok_more _ _ c.walk.result
-    (λ found w. leads_on h s p (walk l c.args.span) (walk l c.in-Some.middle.before) (one ++ walk l c.in-Some.middle.after) c.args.matching.now c.visit_some.new.matching c.walk.new.matching c.args.reached.now c.visit_some.new.reached c.walk.new.reached found
-    (parted (walk l c.args.span) l c.in-Some.middle.before m c.in-Some.middle.after c.in-Some.ensures.rows c.in-Some.ensures.here)
-    (leads_as h s p (walk l c.in-Some.middle.before) c.args.matching.now c.visit_some.new.matching c.args.reached.now c.visit_some.new.reached _ false c.if-branch.false c.in_ok-visit_some.ensures)
-    (leads_on h s p (one ++ walk l c.in-Some.middle.after) one (walk l c.in-Some.middle.after) c.visit_some.new.matching c.try_row.new.matching c.walk.new.matching c.visit_some.new.reached c.try_row.new.reached c.walk.new.reached found refl
+    let m : Id × Row g.row.A.Denot = (c.in-Some.middle.key.now, c.in-Some.middle.value.now) in
+    let one : List semantics.Row = (m.0.0, row_atom m.1) ∷ [] in
+    let after : List semantics.Row = id_rows c.in-Some.middle.after in
+    ok_more _ _ c.walk-2.result
+    (λ found w. leads_on h s p (id_rows c.args.span) (id_rows c.in-Some.middle.before) (one ++ after) c.args.matching.now c.visit_some.new.matching c.walk-2.new.matching c.args.reached.now c.visit_some.new.reached c.walk-2.new.reached found
+    (span_parts c.args.span c.in-Some.middle.before m c.in-Some.middle.after c.in-Some.ensures.some)
+    (leads_as h s p (id_rows c.in-Some.middle.before) c.args.matching.now c.visit_some.new.matching c.args.reached.now c.visit_some.new.reached _ false c.if-branch.false c.in_ok-visit_some.ensures)
+    (leads_on h s p (one ++ after) one after c.visit_some.new.matching c.try_row.new.matching c.walk-2.new.matching c.visit_some.new.reached c.try_row.new.reached c.walk-2.new.reached found refl
     (leads_as h s p one c.visit_some.new.matching c.try_row.new.matching c.visit_some.new.reached c.try_row.new.reached _ false c.if-branch-2.false c.in_ok-try_row.ensures) w))
-    c.walk.ensures
+    c.walk-2.ensures
 
 pub visit_some-returns-then-is_empty : goal.visit_some-returns-then-is_empty
 visit_some-returns-then-is_empty g t c =
-    leads_nothing (g.P.FiringHistory.history c.args.self.now.past.now) c.args.self.now c.args.prefix.now c.args.matching.now (walk c.args.bucket.now c.args.span) c.args.reached.now (ap (walk c.args.bucket.now) (c.is_empty.ensures c.if-is_empty.true)) (omega arith) (omega arith)
+    leads_nothing (g.P.FiringHistory.history c.args.self.now.past.now) c.args.self.now c.args.prefix.now c.args.matching.now (id_rows c.args.span) c.args.reached.now (ap id_rows (c.is_empty.ensures c.if-is_empty.true)) (omega arith) (omega arith)
 
 pub walk_some-returns-then-is_empty : goal.walk_some-returns-then-is_empty
 walk_some-returns-then-is_empty g t c =
-    leads_nothing (g.P.FiringHistory.history c.args.self.now.past.now) c.args.self.now c.args.prefix.now c.args.matching.now (walk c.args.bucket.now c.args.span) c.args.reached.now (ap (walk c.args.bucket.now) (c.is_empty.ensures c.if-is_empty.true)) (omega arith) (omega arith)
+    leads_nothing (g.P.FiringHistory.history c.args.self.now.past.now) c.args.self.now c.args.prefix.now c.args.matching.now (id_rows c.args.span) c.args.reached.now (ap id_rows (c.is_empty.ensures c.if-is_empty.true)) (omega arith) (omega arith)
 
 pub walk-loop-middle-init : goal.walk-loop-middle-init
 walk-loop-middle-init g t c =
@@ -247,111 +261,67 @@ walk-loop-middle-init g t c =
 
 pub walk-walk_some-requires : goal.walk-walk_some-requires
 walk-walk_some-requires g t c κs within =
-    let m : IndexKey × Row g.row.A.Denot = (c.in-Some.middle.key.now, c.in-Some.middle.value.now) in
+    let m : Id × Row g.row.A.Denot = (c.in-Some.middle.key.now, c.in-Some.middle.value.now) in
     let shorter : length c.in-Some.middle.before < length c.loop-middle.left = before_shorter c.loop-middle.left c.in-Some.middle.before m c.in-Some.middle.after c.in-Some.ensures.some in
     (omega (arith, shorter, c.loop-middle.invariant.2, c.decreases), (within.0, (within.1, (omega arith, c.requires))))
 
--- found before an entry
+-- found before a row
 pub walk-returns-then-branch : goal.walk-returns-then-branch
 walk-returns-then-branch g t c =
     let h = g.P.FiringHistory.history c.args.self.now.past.now in
     let s = c.args.self.now in
     let p = c.args.prefix.now in
-    let l = c.args.bucket.now in
+    let m : Id × Row g.row.A.Denot = (c.in-Some.middle.key.now, c.in-Some.middle.value.now) in
     let old = c.args.matching.now in
     let first = c.args.reached.now in
-    let m : IndexKey × Row g.row.A.Denot = (c.in-Some.middle.key.now, c.in-Some.middle.value.now) in
-    let done : List semantics.Row = c.loop-middle.invariant.0 in
-    let before : List semantics.Row = walk l c.in-Some.middle.before in
-    let spans = c.in-Some.ensures.some in
-    leads_on h s p (walk l c.args.span) done (walk l c.loop-middle.left) old c.loop-middle.matching c.walk_some.new.matching first c.loop-middle.reached c.walk_some.new.reached true c.loop-middle.invariant.1 c.loop-middle.invariant.3
-    (leads_first h s p (walk l c.loop-middle.left) before (walk l (m ∷ c.in-Some.middle.after)) c.loop-middle.matching c.walk_some.new.matching c.loop-middle.reached c.walk_some.new.reached
-    (span_first l c.loop-middle.left c.in-Some.middle.before m c.in-Some.middle.after spans)
+    let left : List semantics.Row = id_rows c.loop-middle.left in
+    let before : List semantics.Row = id_rows c.in-Some.middle.before in
+    let rest : List semantics.Row = (m.0.0, row_atom m.1) ∷ id_rows c.in-Some.middle.after in
+    leads_on h s p (id_rows c.args.span) c.loop-middle.invariant.0 left old c.loop-middle.matching c.walk_some.new.matching first c.loop-middle.reached c.walk_some.new.reached true c.loop-middle.invariant.1 c.loop-middle.invariant.3
+    (leads_first h s p left before rest c.loop-middle.matching c.walk_some.new.matching c.loop-middle.reached c.walk_some.new.reached
+    (span_parts c.loop-middle.left c.in-Some.middle.before m c.in-Some.middle.after c.in-Some.ensures.some)
     (leads_as h s p before c.loop-middle.matching c.walk_some.new.matching c.loop-middle.reached c.walk_some.new.reached _ true c.if-branch.true c.in_ok-walk_some.ensures))
 
--- behind the bucket
-pub walk-returns-in-Less : goal.walk-returns-in-Less
-walk-returns-in-Less g t c =
-    let h = g.P.FiringHistory.history c.args.self.now.past.now in
-    let s = c.args.self.now in
-    let p = c.args.prefix.now in
-    let l = c.args.bucket.now in
-    let old = c.args.matching.now in
-    let first = c.args.reached.now in
-    let m : IndexKey × Row g.row.A.Denot = (c.in-Some.middle.key.now, c.in-Some.middle.value.now) in
-    let done : List semantics.Row = c.loop-middle.invariant.0 in
-    let before : List semantics.Row = walk l c.in-Some.middle.before in
-    let spans = c.in-Some.ensures.some in
-    leads_on h s p (walk l c.args.span) done before old c.loop-middle.matching c.walk_some.new.matching first c.loop-middle.reached c.walk_some.new.reached false
-    (c.loop-middle.invariant.1 ∙ ap (λ (rows : List semantics.Row). done ++ rows) (span_less l c.loop-middle.left c.in-Some.middle.before m c.in-Some.middle.after spans c.in-Some.ensures.ascending (sym c.cmp.ensures ∙ c.in-Less.is)))
-    c.loop-middle.invariant.3
-    (leads_as h s p before c.loop-middle.matching c.walk_some.new.matching c.loop-middle.reached c.walk_some.new.reached _ false c.if-branch.false c.in_ok-walk_some.ensures)
-
--- found at an entry
+-- found at a row
 pub walk-returns-then-branch-2 : goal.walk-returns-then-branch-2
 walk-returns-then-branch-2 g t c =
     let h = g.P.FiringHistory.history c.args.self.now.past.now in
     let s = c.args.self.now in
     let p = c.args.prefix.now in
-    let l = c.args.bucket.now in
+    let m : Id × Row g.row.A.Denot = (c.in-Some.middle.key.now, c.in-Some.middle.value.now) in
     let old = c.args.matching.now in
     let first = c.args.reached.now in
-    let m : IndexKey × Row g.row.A.Denot = (c.in-Some.middle.key.now, c.in-Some.middle.value.now) in
-    let done : List semantics.Row = c.loop-middle.invariant.0 in
-    let before : List semantics.Row = walk l c.in-Some.middle.before in
-    let after : List semantics.Row = walk l c.in-Some.middle.after in
-    let spans = c.in-Some.ensures.some in
-    let one : List semantics.Row = (m.0.id.0, row_atom m.1) ∷ [] in
-    leads_on h s p (walk l c.args.span) done (walk l c.loop-middle.left) old c.loop-middle.matching c.try_row.new.matching first c.loop-middle.reached c.try_row.new.reached true c.loop-middle.invariant.1 c.loop-middle.invariant.3
-    (leads_on h s p (walk l c.loop-middle.left) before (one ++ after) c.loop-middle.matching c.walk_some.new.matching c.try_row.new.matching c.loop-middle.reached c.walk_some.new.reached c.try_row.new.reached true
-    (span_equal l c.loop-middle.left c.in-Some.middle.before m c.in-Some.middle.after spans (sym c.cmp.ensures ∙ c.in-Equal.is))
+    let left : List semantics.Row = id_rows c.loop-middle.left in
+    let before : List semantics.Row = id_rows c.in-Some.middle.before in
+    let after : List semantics.Row = id_rows c.in-Some.middle.after in
+    let one : List semantics.Row = (m.0.0, row_atom m.1) ∷ [] in
+    leads_on h s p (id_rows c.args.span) c.loop-middle.invariant.0 left old c.loop-middle.matching c.try_row.new.matching first c.loop-middle.reached c.try_row.new.reached true c.loop-middle.invariant.1 c.loop-middle.invariant.3
+    (leads_on h s p left before (one ++ after) c.loop-middle.matching c.walk_some.new.matching c.try_row.new.matching c.loop-middle.reached c.walk_some.new.reached c.try_row.new.reached true
+    (span_parts c.loop-middle.left c.in-Some.middle.before m c.in-Some.middle.after c.in-Some.ensures.some)
     (leads_as h s p before c.loop-middle.matching c.walk_some.new.matching c.loop-middle.reached c.walk_some.new.reached _ false c.if-branch.false c.in_ok-walk_some.ensures)
     (leads_first h s p (one ++ after) one after c.walk_some.new.matching c.try_row.new.matching c.walk_some.new.reached c.try_row.new.reached refl
-    (leads_as h s p one c.walk_some.new.matching c.try_row.new.matching c.walk_some.new.reached c.try_row.new.reached _ true c.if-branch-2.true c.in_ok-try_row-in-Equal.ensures)))
+    (leads_as h s p one c.walk_some.new.matching c.try_row.new.matching c.walk_some.new.reached c.try_row.new.reached _ true c.if-branch-2.true c.in_ok-try_row.ensures)))
 
--- not found up to an entry of the bucket
-pub walk-loop-middle-preserved-else-branch-2 : goal.walk-loop-middle-preserved-else-branch-2
-walk-loop-middle-preserved-else-branch-2 g t c =
-    let h = g.P.FiringHistory.history c.args.self.now.past.now in
-    let s = c.args.self.now in
-    let p = c.args.prefix.now in
-    let l = c.args.bucket.now in
-    let old = c.args.matching.now in
-    let first = c.args.reached.now in
-    let m : IndexKey × Row g.row.A.Denot = (c.in-Some.middle.key.now, c.in-Some.middle.value.now) in
-    let done : List semantics.Row = c.loop-middle.invariant.0 in
-    let before : List semantics.Row = walk l c.in-Some.middle.before in
-    let after : List semantics.Row = walk l c.in-Some.middle.after in
-    let spans = c.in-Some.ensures.some in
-    let one : List semantics.Row = (m.0.id.0, row_atom m.1) ∷ [] in
-    let shorter : length c.in-Some.middle.after < length c.loop-middle.left = after_shorter c.loop-middle.left c.in-Some.middle.before m c.in-Some.middle.after spans in (
-      done ++ (before ++ one),
-      c.loop-middle.invariant.1 ∙ (ap (λ (rows : List semantics.Row). done ++ rows) (span_passed l c.loop-middle.left c.in-Some.middle.before m c.in-Some.middle.after spans (sym c.cmp.ensures ∙ c.in-Equal.is)) ∙ sym (append_assoc done (before ++ one) after)),
-      omega (arith, shorter, c.loop-middle.invariant.2),
-      leads_on h s p (done ++ (before ++ one)) done (before ++ one) old c.loop-middle.matching c.try_row.new.matching first c.loop-middle.reached c.try_row.new.reached false refl c.loop-middle.invariant.3
-          (leads_on h s p (before ++ one) before one c.loop-middle.matching c.walk_some.new.matching c.try_row.new.matching c.loop-middle.reached c.walk_some.new.reached c.try_row.new.reached false refl
-          (leads_as h s p before c.loop-middle.matching c.walk_some.new.matching c.loop-middle.reached c.walk_some.new.reached _ false c.if-branch.false c.in_ok-walk_some.ensures)
-          (leads_as h s p one c.walk_some.new.matching c.try_row.new.matching c.walk_some.new.reached c.try_row.new.reached _ false c.if-branch-2.false c.in_ok-try_row-in-Equal.ensures)),
-    )
-
--- nor up to one in front of it
+-- not found up to a row
 pub walk-loop-middle-preserved : goal.walk-loop-middle-preserved
 walk-loop-middle-preserved g t c =
     let h = g.P.FiringHistory.history c.args.self.now.past.now in
     let s = c.args.self.now in
     let p = c.args.prefix.now in
-    let l = c.args.bucket.now in
+    let m : Id × Row g.row.A.Denot = (c.in-Some.middle.key.now, c.in-Some.middle.value.now) in
     let old = c.args.matching.now in
     let first = c.args.reached.now in
-    let m : IndexKey × Row g.row.A.Denot = (c.in-Some.middle.key.now, c.in-Some.middle.value.now) in
     let done : List semantics.Row = c.loop-middle.invariant.0 in
-    let before : List semantics.Row = walk l c.in-Some.middle.before in
-    let after : List semantics.Row = walk l c.in-Some.middle.after in
+    let before : List semantics.Row = id_rows c.in-Some.middle.before in
+    let after : List semantics.Row = id_rows c.in-Some.middle.after in
+    let one : List semantics.Row = (m.0.0, row_atom m.1) ∷ [] in
     let spans = c.in-Some.ensures.some in
     let shorter : length c.in-Some.middle.after < length c.loop-middle.left = after_shorter c.loop-middle.left c.in-Some.middle.before m c.in-Some.middle.after spans in (
-      done ++ before,
-      c.loop-middle.invariant.1 ∙ (ap (λ (rows : List semantics.Row). done ++ rows) (span_skipped l c.loop-middle.left c.in-Some.middle.before m c.in-Some.middle.after spans (sym c.cmp.ensures ∙ c.in-Greater.is)) ∙ sym (append_assoc done before after)),
+      done ++ (before ++ one),
+      c.loop-middle.invariant.1 ∙ (ap (λ (rows : List semantics.Row). done ++ rows) (span_passed c.loop-middle.left c.in-Some.middle.before m c.in-Some.middle.after spans) ∙ sym (append_assoc done (before ++ one) after)),
       omega (arith, shorter, c.loop-middle.invariant.2),
-      leads_on h s p (done ++ before) done before old c.loop-middle.matching c.walk_some.new.matching first c.loop-middle.reached c.walk_some.new.reached false refl c.loop-middle.invariant.3
-          (leads_as h s p before c.loop-middle.matching c.walk_some.new.matching c.loop-middle.reached c.walk_some.new.reached _ false c.if-branch.false c.in_ok-walk_some.ensures),
+      leads_on h s p (done ++ (before ++ one)) done (before ++ one) old c.loop-middle.matching c.try_row.new.matching first c.loop-middle.reached c.try_row.new.reached false refl c.loop-middle.invariant.3
+          (leads_on h s p (before ++ one) before one c.loop-middle.matching c.walk_some.new.matching c.try_row.new.matching c.loop-middle.reached c.walk_some.new.reached c.try_row.new.reached false refl
+          (leads_as h s p before c.loop-middle.matching c.walk_some.new.matching c.loop-middle.reached c.walk_some.new.reached _ false c.if-branch.false c.in_ok-walk_some.ensures)
+          (leads_as h s p one c.walk_some.new.matching c.try_row.new.matching c.walk_some.new.reached c.try_row.new.reached _ false c.if-branch-2.false c.in_ok-try_row.ensures)),
     )

@@ -2,7 +2,9 @@ use Rattle.std.proofs.Common.{◌≡◌, ◌∙◌, ◌++◌, List, ap, subst, s
 use Rattle.chr_map.specs.Order.{Ascends}
 use Rattle.chr_semantics.specs.Match as semantics
 use Rattle.chr_semantics.specs.Search.{atom_of}
-use Rattle.chr_find.specs.IndexKeys.{index_cmp}
+use Rattle.chr_find.specs.IdRows.{id_cmp}
+use Rattle.chr_find.specs.IndexKeys.{rows_in}
+use Rattle.chr_find.specs.RowSpans.{span_rows}
 use Rattle.chr_find.specs.Rebinding.{standing_rows}
 use Rattle.chr_find.specs.Shown.{Rises, walk}
 use Rattle.chr_find.specs.TableView.{atom_at}
@@ -17,9 +19,9 @@ of_rows-requires g c =
     let t = c.args.self.now in
     let all : standing_rows c.as_slice.result.now ≡ walk All t.index.rows =
     ap standing_rows c.as_slice.ensures.value
-    ∙ (c.in_ok-collect.ensures ∙ (ap (λ (old : List (Constraint g.row.A.Denot)). standing_rows old ++ walk All c.entries.result) c.new-rows.ensures.items ∙ ap (walk All) c.entries.ensures.value))
+    ∙ (c.in_ok-collect.ensures ∙ (ap (λ (old : List (Constraint g.row.A.Denot)). standing_rows old ++ span_rows c.rows.result) c.new-rows.ensures.items ∙ c.rows.ensures.rows))
     in
-    let up : Ascends index_cmp t.index.rows = c.entries.ensures.ascending in
+    let up : Ascends id_cmp (rows_in t.index.rows All) = c.rows.ensures.ascending in
     subst Rises (sym all) (all_rises t c.requires up)
 
 pub invariant_of-self : goal.invariant_of-self
@@ -28,9 +30,9 @@ invariant_of-self g c =
     let l : List (Constraint g.row.A.Denot) = c.as_slice.result.now in
     let all : standing_rows l ≡ walk All t.index.rows =
     ap standing_rows c.as_slice.ensures.value
-    ∙ (c.in_ok-collect.ensures ∙ (ap (λ (old : List (Constraint g.row.A.Denot)). standing_rows old ++ walk All c.entries.result) c.new-rows.ensures.items ∙ ap (walk All) c.entries.ensures.value))
+    ∙ (c.in_ok-collect.ensures ∙ (ap (λ (old : List (Constraint g.row.A.Denot)). standing_rows old ++ span_rows c.rows.result) c.new-rows.ensures.items ∙ c.rows.ensures.rows))
     in
-    let up : Ascends index_cmp t.index.rows = c.entries.ensures.ascending in
+    let up : Ascends id_cmp (rows_in t.index.rows All) = c.rows.ensures.ascending in
     record {
       shown = t.shown;
       apart = t.apart;

@@ -3,7 +3,9 @@ use Rattle.std.proofs.lemmas.List.{take_all}
 use Rattle.chr_map.specs.Order.{Ascends}
 use Rattle.chr_semantics.specs.Match as semantics
 use Rattle.chr_semantics.specs.Program.{Atom}
-use Rattle.chr_find.specs.IndexKeys.{index_cmp}
+use Rattle.chr_find.specs.IdRows.{id_cmp}
+use Rattle.chr_find.specs.IndexKeys.{rows_in}
+use Rattle.chr_find.specs.RowSpans.{span_rows}
 use Rattle.chr_find.specs.PlanView.{lookups_of}
 use Rattle.chr_find.specs.Rebinding.{IsMade, open_ids, standing_rows}
 use Rattle.chr_find.specs.Shown.{atom_in, walk}
@@ -28,9 +30,9 @@ loop-standing-preserved g c =
     let x : Constraint g.row.A.Denot = c.standing-item.result in
     let all : standing_rows l ≡ walk Open t.index.rows =
     ap standing_rows c.deref-standing-items.ensures.value
-    ∙ (c.in_ok-collect.ensures ∙ (ap (λ (old : List (Constraint g.row.A.Denot)). standing_rows old ++ walk Open c.entries.result) c.new-rows.ensures.items ∙ ap (walk Open) c.entries.ensures.value))
+    ∙ (c.in_ok-collect.ensures ∙ (ap (λ (old : List (Constraint g.row.A.Denot)). standing_rows old ++ span_rows c.rows.result) c.new-rows.ensures.items ∙ c.rows.ensures.rows))
     in
-    let up : Ascends index_cmp t.index.rows = c.entries.ensures.ascending in
+    let up : Ascends id_cmp (rows_in t.index.rows Open) = c.rows.ensures.ascending in
     let lt : k < length l = omega (arith, c.loop-standing-test.true) in
     let stands = stands_open t c.requires up l k x all lt c.standing-item.is in
     subst (λ (rows : List semantics.Row). IsMade s (atom_at t) rows c.add.new.self.replaced.items c.add.new.self.woken.items) (sym (standing_next l k x lt c.standing-item.is))
@@ -45,9 +47,9 @@ returns-clause-ok g c =
     let k = c.loop-standing.standing-index in
     let all : standing_rows l ≡ walk Open t.index.rows =
     ap standing_rows c.deref-standing-items.ensures.value
-    ∙ (c.in_ok-collect.ensures ∙ (ap (λ (old : List (Constraint g.row.A.Denot)). standing_rows old ++ walk Open c.entries.result) c.new-rows.ensures.items ∙ ap (walk Open) c.entries.ensures.value))
+    ∙ (c.in_ok-collect.ensures ∙ (ap (λ (old : List (Constraint g.row.A.Denot)). standing_rows old ++ span_rows c.rows.result) c.new-rows.ensures.items ∙ c.rows.ensures.rows))
     in
-    let up : Ascends index_cmp t.index.rows = c.entries.ensures.ascending in
+    let up : Ascends id_cmp (rows_in t.index.rows Open) = c.rows.ensures.ascending in
     let over : length l ≤ k = omega (arith, c.loop-standing-test.false) in
     let same : atom_at t ≡ atom_at n = λ i x. sym (c.room.ensures.same x) i in
     let rs = c.loop-standing.rebound.replaced.items in
@@ -67,9 +69,9 @@ pub invariant_of-self : goal.invariant_of-self
 invariant_of-self g c =
     let t = c.args.self.now in
     let all : standing_rows c.collect.new.rows.items ≡ walk Open t.index.rows =
-    c.in_ok-collect.ensures ∙ (ap (λ (old : List (Constraint g.row.A.Denot)). standing_rows old ++ walk Open c.entries.result) c.new-rows.ensures.items ∙ ap (walk Open) c.entries.ensures.value)
+    c.in_ok-collect.ensures ∙ (ap (λ (old : List (Constraint g.row.A.Denot)). standing_rows old ++ span_rows c.rows.result) c.new-rows.ensures.items ∙ c.rows.ensures.rows)
     in
-    let up : Ascends index_cmp t.index.rows = c.entries.ensures.ascending in
+    let up : Ascends id_cmp (rows_in t.index.rows Open) = c.rows.ensures.ascending in
     record {
       shown = t.shown;
       apart = t.apart;
